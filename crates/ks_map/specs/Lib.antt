@@ -1,0 +1,3 @@
+pub mod FinMap
+pub mod Table
+pub mod Bytes

@@ -1,0 +1,16 @@
+//! The values that every layer speaks of: keys, names, rows and records, partitions and tasks.
+#![tactic(auto)]
+
+mod assignment;
+mod codec;
+mod lists;
+mod record;
+mod row;
+mod texts;
+
+pub use assignment::{Assignment, Marker, Refused};
+pub use codec::encode;
+pub use lists::{Blob, Seq};
+pub use record::{PartId, Rec, TaskId};
+pub use row::{Change, Field, Row};
+pub use texts::{Key, Name, Text};

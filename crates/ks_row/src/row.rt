@@ -1,0 +1,117 @@
+//! Rows: names, strictly rising, each with its field.
+ghost use Rattle.std.specs.Prelude.{◌≡◌, ◌<◌, ◌≤◌, length, IfOk, IfSome, IfNone, IsSome, IsNone, ◌↔◌, Some, None, option_copied};
+ghost use Rattle.std.specs.List.Sorted.{IsPermutation};
+ghost use Rattle.ks_row.specs.Rows.{IsRow, row_of, rises, names_of, field_of};
+
+use crate::texts::{Key, Name, Text};
+use std::alloc::{AllocError, Global};
+use std::marker::Model;
+
+/// A number or a text.
+#[derive(Drop, Debug, Clone)]
+pub enum Field {
+    Int(i64),
+    Text(Text),
+}
+
+#[derive(Drop, Debug)]
+pub struct Row {
+    fields: Vec<(Name, Field)>,
+}
+
+/// A table's row before and after a step, at one key.
+#[derive(Drop, Debug)]
+pub struct Change {
+    pub key: Key,
+    pub old: Option<Row>,
+    pub new: Option<Row>,
+}
+
+impl Model for Row {
+    ghost use Rattle.std.specs.Prelude.{List};
+    ghost use Rattle.ks_row.specs.Rows.{Member, IsRow};
+
+    ghost Value = { List Member };
+
+    ghost view = { λ r. r.fields.items };
+
+    ghost invariant = { λ r. IsRow r.fields.items };
+}
+
+impl Clone for Row {
+    ghost is_clone = { λ r copy. copy ≡ r };
+
+    fn clone(&self) -> Result<Row, AllocError> {
+        Ok(Row {
+            fields: self.fields.clone()?,
+        })
+    }
+}
+
+impl Row {
+    /// The field of a name; none where the row has no such name.
+    pub fn get(&self, name: &[u8]) -> Option<&Field>
+        ensures value { option_copied result ≡ field_of name.now self.now }
+    {
+        for (own, field) in &self.fields {
+            if own.as_str().as_bytes() == name {
+                return Some(field);
+            }
+        }
+        None
+    }
+
+    pub fn members(&self) -> &[(Name, Field)]
+        ensures value { result.now ≡ self.now }
+        ensures row { IsRow self.now }
+    {
+        self.fields.as_slice()
+    }
+}
+
+impl Row {
+    /// The row of these members, in order of names; none where there is no member, or more than 64,
+    /// or a name twice.
+    pub fn of(alloc: Global, fields: Vec<(Name, Field)>) -> Result<Option<Row>, AllocError>
+        ensures { IfOk result (λ o. IfSome o (λ r. IsRow r × IsPermutation fields.items r)) }
+    {
+        let mut fields = fields;
+        if fields.is_empty() || fields.len() > 64 {
+            return Ok(None);
+        }
+        fields.sort_by(|a, b| a.0.cmp(&b.0))?;
+        if is_rising(&fields) {
+            Ok(Some(Row { fields }))
+        } else {
+            Ok(None)
+        }
+    }
+}
+
+impl Row {
+    /// The row of these members; none where there is no member, or more than 64, or the names don't rise.
+    pub fn from_rising(fields: Vec<(Name, Field)>) -> Option<Row>
+        ensures { result ≡ row_of fields.items }
+    {
+        if fields.is_empty() {
+            None
+        } else if fields.len() <= 64 && is_rising(&fields) {
+            Some(Row { fields })
+        } else {
+            None
+        }
+    }
+}
+
+// Whether each name is below the next.
+fn is_rising(fields: &[(Name, Field)]) -> bool
+    ensures { result ≡ rises (names_of fields.now) }
+{
+    for i in 1..fields.len() {
+        if fields[i - 1].0 < fields[i].0 {
+            continue;
+        }
+        return false;
+    }
+    true
+}
