@@ -1,0 +1,3 @@
+pub mod Murmur2
+pub mod Murmur3
+pub mod Partition
