@@ -1,4 +1,6 @@
 pub mod Texts
 pub mod Rows
+pub mod FieldKeys
 pub mod Spelling
+pub mod Reading
 pub mod Parts
