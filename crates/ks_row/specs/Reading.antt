@@ -1,7 +1,7 @@
 -- Reading a list of bytes from its front: a value and the bytes after it, or none where no value of the kind stands there.
-use Rattle.std.specs.Prelude.{ℕ, zero, suc, List, [], ◌∷◌, length, take, drop, Option, Some, None, Bool, ◌==◌, nat_lt, nat_le, if◌then◌else◌}
-use Rattle.std.specs.Int.{Width, w8, w32, w64, byte_len, from_be_bytes, cast_signed}
-use Rattle.ks_row.specs.Texts.{key_from, name_from, text_from}
+use Rattle.std.specs.Prelude.{ℕ, ℤ, zero, suc, List, [], ◌∷◌, length, take, drop, Option, Some, None, ◌==◌, nat_lt, if◌then◌else◌}
+use Rattle.std.specs.Int.{Width, w32, w64, byte_len, from_be_bytes, cast_signed}
+use Rattle.ks_row.specs.Texts.{name_from, text_from}
 use Rattle.ks_row.specs.Rows.{Member, row_of}
 use Rattle.ks_row.specs.declared.row.Field.{Field}
 use Rattle.ks_row.specs.declared.row.Field.TheVariants.{Int, Text}
@@ -20,6 +20,10 @@ bytes_at n bytes = if nat_lt (length bytes) n then None else Some (take n bytes,
 abbrev pub number_at : Width → List ℕ → Option (ℕ × List ℕ)
 number_at w bytes = if nat_lt (length bytes) (byte_len w) then None else Some (from_be_bytes w (take (byte_len w) bytes), drop (byte_len w) bytes)
 
+-- a signed number of eight bytes
+abbrev pub int_at : List ℕ → Option (ℤ × List ℕ)
+int_at bytes = if nat_lt (length bytes) 8 then None else Some (cast_signed w64 (from_be_bytes w64 (take 8 bytes)), drop 8 bytes)
+
 -- a name behind its length
 unfoldable pub name_at : List ℕ → Option (List ℕ × List ℕ)
 name_at [] = None
@@ -32,8 +36,8 @@ name_at (n ∷ rest) = do
 unfoldable pub field_at : List ℕ → Option (Field × List ℕ)
 field_at [] = None
 field_at (zero ∷ rest) = do
-  n ← number_at w64 rest
-  Some (Int (cast_signed w64 n.0), n.1)
+  n ← int_at rest
+  Some (Int n.0, n.1)
 field_at (suc zero ∷ rest) = do
   n ← number_at w32 rest
   front ← bytes_at n.0 n.1

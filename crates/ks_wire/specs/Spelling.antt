@@ -1,0 +1,81 @@
+-- The one spelling of what tasks say to one another and keep.
+-- A subscription and a response have the layout of Kafka Streams' `SubscriptionWrapper` and `SubscriptionResponseWrapper`
+-- (KIP-213), with hashes and lengths of this project's own.
+use Rattle.std.specs.Prelude.{◌≡◌, ℕ, ◌<◌, ◌≤◌, ◌^◌, List, [], ◌∷◌, ◌++◌, length, Option, Some, None, IfSome, Bool, if◌then◌else◌}
+use Rattle.std.specs.Int.{w32, w64, w128, to_be_bytes}
+use Rattle.std.specs.Int.RustNames.{FitsSigned}
+use Rattle.ks_row.specs.Texts.{IsKey}
+use Rattle.ks_row.specs.Rows.{Member}
+use Rattle.ks_row.specs.Spelling.{spelling, int_bytes, FitsRow}
+use Rattle.ks_wire.specs.Values.{SubscriptionValue}
+use Rattle.ks_wire.specs.declared.values.Response.{Response}
+use Rattle.ks_wire.specs.declared.values.Delta.{Delta}
+use Rattle.ks_wire.specs.declared.values.Agg.{Agg}
+
+-- version 0, with the top bit set where there is no hash
+abbrev pub hash_flag : Option ℕ → ℕ
+hash_flag None = 128
+hash_flag (Some h) = 0
+
+abbrev pub hash_bytes : ℕ → List ℕ
+hash_bytes h = to_be_bytes w128 h
+
+abbrev pub hash_or_nothing : Option ℕ → List ℕ
+hash_or_nothing None = []
+hash_or_nothing (Some h) = hash_bytes h
+
+-- the flag, the instruction, the hash and the left key
+unfoldable pub subscription_bytes : SubscriptionValue → List ℕ
+subscription_bytes s = hash_flag s.hash ∷ s.instruction ∷ hash_or_nothing s.hash ++ s.left
+
+abbrev pub row_or_nothing : Option (List Member) → List ℕ
+row_or_nothing None = []
+row_or_nothing (Some row) = spelling row
+
+-- the flag, the hash and the right row
+unfoldable pub response_bytes : Response → List ℕ
+response_bytes r = hash_flag r.hash ∷ hash_or_nothing r.hash ++ row_or_nothing r.right
+
+-- 1 to add, 0 to subtract, and the amount
+unfoldable pub delta_bytes : Delta → List ℕ
+delta_bytes d = (if d.add then 1 else 0) ∷ int_bytes d.amount
+
+unfoldable pub agg_bytes : Agg → List ℕ
+agg_bytes a = int_bytes a.members ++ int_bytes a.total
+
+-- a key behind its length
+abbrev pub long_key : List ℕ → List ℕ
+long_key k = to_be_bytes w32 (length k) ++ k
+
+-- where the store of a foreign-key join keeps the hash of a left key at a foreign key
+unfoldable pub subscription_key : List ℕ → List ℕ → List ℕ
+subscription_key foreign left = long_key foreign ++ left
+
+-- where a windowed count keeps the count of a key in the window that starts at start
+unfoldable pub window_key : List ℕ → ℕ → List ℕ
+window_key key start = long_key key ++ to_be_bytes w64 start
+
+-- where a windowed count keeps the greatest timestamp
+abbrev pub time_key : List ℕ
+time_key = 0x54 ∷ []
+
+abbrev pub time_bytes : ℕ → List ℕ
+time_bytes t = to_be_bytes w64 t
+
+-- ---- what has a spelling
+
+pub record FitsSubscription (s : SubscriptionValue) : Type 0 where
+  pub hash : IfSome s.hash (λ h. h < 2 ^ 128)
+  pub instruction : s.instruction ≤ 3
+  pub left : IsKey s.left
+
+pub record FitsResponse (r : Response) : Type 0 where
+  pub hash : IfSome r.hash (λ h. h < 2 ^ 128)
+  pub right : IfSome r.right FitsRow
+
+abbrev pub FitsDelta : Delta → Type 0
+FitsDelta d = FitsSigned w64 d.amount
+
+pub record FitsAgg (a : Agg) : Type 0 where
+  pub members : FitsSigned w64 a.members
+  pub total : FitsSigned w64 a.total

@@ -1,0 +1,6 @@
+//! What tasks say to one another and keep, as bytes: subscriptions, responses, deltas, aggregates, and the keys of stores.
+#![tactic(auto)]
+
+mod values;
+
+pub use values::{Agg, Delta, Response, Subscription};
