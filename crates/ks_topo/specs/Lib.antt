@@ -1,0 +1,4 @@
+pub mod Drafts
+pub mod Plan
+pub mod Faults
+pub mod Layout

@@ -1,0 +1,77 @@
+//! A topology as a job's line gives it, before anything is resolved.
+use ks_expr::{JoinKind, Pred, Proj};
+use ks_row::{Blob, Name, Seq};
+
+/// What a node does; inputs and topics stand by name.
+#[derive(Drop)]
+pub enum Op {
+    Stream {
+        topic: Blob,
+    },
+    Table {
+        topic: Blob,
+    },
+    Filter {
+        from: Blob,
+        test: Pred,
+    },
+    MapValues {
+        from: Blob,
+        set: Proj,
+    },
+    SelectKey {
+        from: Blob,
+        key: Name,
+    },
+    /// Without `by` the items are grouped by their own key.
+    Count {
+        from: Blob,
+        by: Option<Name>,
+    },
+    Sum {
+        from: Blob,
+        by: Option<Name>,
+        field: Name,
+    },
+    /// Sizes in milliseconds. Without `advance` it is the size; without `grace` it is a day.
+    WindowedCount {
+        from: Blob,
+        by: Option<Name>,
+        size: i64,
+        advance: Option<i64>,
+        grace: Option<i64>,
+    },
+    /// Two tables, row by row of the same key.
+    Join {
+        left: Blob,
+        right: Blob,
+        kind: JoinKind,
+        set: Proj,
+    },
+    /// Two tables; the left row's field `fk` gives the key of the right row.
+    FkJoin {
+        left: Blob,
+        right: Blob,
+        fk: Name,
+        kind: JoinKind,
+        set: Proj,
+    },
+}
+
+#[derive(Drop)]
+pub struct NodeDraft {
+    pub name: Name,
+    pub op: Op,
+}
+
+/// A topology by names. It may have faults.
+#[derive(Drop)]
+pub struct Draft {
+    /// The names of internal topics begin with this.
+    pub app: Name,
+    /// The input topics, each with its number of partitions.
+    pub topics: Seq<(Name, i64)>,
+    pub nodes: Seq<NodeDraft>,
+    /// The nodes whose tables are printed at the end.
+    pub print: Seq<Blob>,
+}
