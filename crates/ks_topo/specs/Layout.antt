@@ -90,17 +90,17 @@ right_of (ForeignKeyJoin l r fk kind s) = r
 right_of _ = 0
 
 -- ---- topics
-abbrev pub is_read : Plan → ℕ → Bool
-is_read p t = reads p.kinds
-  where
-    read_by : Kind → Bool
-    read_by (StreamSource u) = nat_eq u t
-    read_by (TableSource u) = nat_eq u t
-    read_by _ = false
+abbrev pub is_source_of : ℕ → Kind → Bool
+is_source_of t (StreamSource u) = nat_eq u t
+is_source_of t (TableSource u) = nat_eq u t
+is_source_of t _ = false
 
-    reads : List Kind → Bool
-    reads [] = false
-    reads (k ∷ ks) = read_by k || reads ks
+abbrev pub any_source_of : ℕ → List Kind → Bool
+any_source_of t [] = false
+any_source_of t (k ∷ ks) = is_source_of t k || any_source_of t ks
+
+abbrev pub is_read : Plan → ℕ → Bool
+is_read p t = any_source_of t p.kinds
 
 abbrev pub through_topics : ℕ → Kind → List Topic
 through_topics n (StreamAggregate f by field through) = cond through (Repartition n ∷ []) []
@@ -156,14 +156,12 @@ parts_of_topic p (Changelog n) = parts_of p n
 parts_of_topic p (HashChangelog n) = parts_of p (right_of (kind_at p n))
 
 -- the node whose subtopology reads an input topic
+abbrev pub first_source_of : ℕ → ℕ → List Kind → ℕ
+first_source_of t n [] = n
+first_source_of t n (k ∷ ks) = cond (is_source_of t k) n (first_source_of t (suc n) ks)
+
 abbrev pub source_of : Plan → ℕ → ℕ
-source_of p t = first_at 0 p.kinds
-  where
-    first_at : ℕ → List Kind → ℕ
-    first_at n [] = n
-    first_at n (StreamSource u ∷ ks) = cond (nat_eq u t) n (first_at (suc n) ks)
-    first_at n (TableSource u ∷ ks) = cond (nat_eq u t) n (first_at (suc n) ks)
-    first_at n (k ∷ ks) = first_at (suc n) ks
+source_of p t = first_source_of t 0 p.kinds
 
 -- the subtopology that reads a topic, or writes a changelog; a topic that nobody reads has one beyond all
 abbrev pub reads : Plan → Topic → ℕ
