@@ -1,0 +1,9 @@
+pub mod Partition
+pub mod Machine
+pub mod State
+pub mod Step
+pub mod Faithful
+pub mod History
+pub mod Reads
+pub mod Follows
+pub mod Replay

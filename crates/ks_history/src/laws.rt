@@ -1,0 +1,30 @@
+//! What holds of every journal. Each law is the contract of a function that does nothing.
+ghost use Rattle.std.specs.Prelude.{◌≡◌, ℕ, ◌≤◌, List, [], ◌∷◌, ◌++◌, length};
+ghost use Rattle.ks_history.specs.declared.journal.Entry.{Entry};
+ghost use Rattle.ks_history.specs.declared.partition.Slot.{Slot};
+ghost use Rattle.ks_history.specs.State.{Setup};
+ghost use Rattle.ks_history.specs.Step.{after};
+ghost use Rattle.ks_history.specs.Partition.{stable};
+ghost use Rattle.ks_history.specs.History.{at, IsHistory, IsStep, IsFaithfulEntry, IsPrefix};
+
+/// A journal goes on by one entry.
+pub fn one_more()
+    ensures state { (setup : Setup) (journal : List Entry) (entry : Entry) → at setup (journal ++ entry ∷ []) ≡ after setup (at setup journal) entry.request }
+    ensures history { (setup : Setup) (journal : List Entry) (entry : Entry) → IsHistory setup journal → IsStep setup (at setup journal) entry → IsFaithfulEntry setup (at setup journal) entry → IsHistory setup (journal ++ entry ∷ []) }
+{}
+
+/// A prefix of a history is a history: what is one now was one at each earlier moment.
+pub fn earlier()
+    ensures { (setup : Setup) (front whole : List Entry) → IsPrefix front whole → IsHistory setup whole → IsHistory setup front }
+{}
+
+/// The stable offset is at most the end.
+pub fn stable_in()
+    ensures { (slots : List Slot) → stable slots ≤ length slots }
+{}
+
+/// An epoch and the generation are at most the journal's length, since an entry raises each by at most 1.
+pub fn few()
+    ensures epochs { (setup : Setup) (journal : List Entry) (w : ℕ) → ((at setup journal).producer w).epoch ≤ length journal }
+    ensures generation { (setup : Setup) (journal : List Entry) → (at setup journal).generation ≤ length journal }
+{}
