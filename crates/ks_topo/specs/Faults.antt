@@ -1,32 +1,51 @@
--- The first fault of a draft, in the order of the tests; it is well formed where there is none (D10).
-use Rattle.std.specs.Prelude.{◌≡◌, ℕ, ℤ, pos, negsuc, zero, suc, ◌*◌, List, [], ◌∷◌, ◌++◌, length, map, Option, Some, None, Bool, true, false, ◌&&◌, ◌||◌, not, fold, cond, nat_eq, nat_le, nat_lt, unsigned_abs, is_none, codes}
+-- The faults of a draft, in the order in which they are told: a table of lines, each with whether it fits and its fault.
+use Rattle.std.specs.Prelude.{ℕ, ℤ, pos, List, [], ◌∷◌, ◌++◌, length, map, Option, Some, None, Bool, false, ◌&&◌, ◌||◌, not, cond, nat_eq, nat_lt, int_lt, int_le, ◌*ℤ◌, is_none, codes}
+use Rattle.std.specs.List.{flat_map}
 use Rattle.std.specs.Option.{option_or}
-use Rattle.std.specs.Int.{is_negative}
 use Rattle.ks_expr.specs.Eval.{same_bytes}
 use Rattle.ks_topo.specs.declared.fault.TopoFault.{TopoFault}
 use Rattle.ks_topo.specs.declared.fault.TopoFault.TheVariants.{UnknownInput, WrongKind, DuplicateName, NotCopartitioned, TooMany, BadWindow, SinkOnly}
+use Rattle.ks_topo.specs.declared.node.Wiring.{Wiring}
 use Rattle.ks_topo.specs.Drafts.{Name, OpView, StreamOf, TableOf, FilterOf, MapOf, KeyOf, CountOf, SumOf, WindowedOf, JoinOf, FkJoinOf, NodeView, DraftView}
-use Rattle.ks_topo.specs.Plan.{Kind, Known, is_stream, known_of, learn, known_at, node_number, topic_number, plan_of, natural}
-use Rattle.ks_topo.specs.Plan.Kind.{StreamSource, TableSource, StreamAggregate, TableAggregate, Windowed, ForeignKeyJoin}
-use Rattle.ks_topo.specs.Layout.{parts_next, at}
+use Rattle.ks_topo.specs.Plan.{Known, wiring_of, gives_stream, gives_windows, known_of, known_from, known_at, node_number, plan_of}
+use Rattle.ks_topo.specs.Layout.{node_parts, at}
+use Rattle.ks_topo.specs.Infos.{internal_names}
 
-abbrev pub when : Bool → TopoFault → Option TopoFault
-when b f = cond b (Some f) None
+-- whether it fits, and the fault
+abbrev pub Line : Type 0
+Line = Bool × TopoFault
 
+abbrev pub first_fitting : List Line → Option TopoFault
+first_fitting [] = None
+first_fitting (x ∷ xs) = cond x.0 (Some x.1) (first_fitting xs)
+
+abbrev pub first_of : List (List Line) → Option TopoFault
+first_of [] = None
+first_of (g ∷ gs) = option_or (first_fitting g) (first_of gs)
+
+abbrev pub one_line : Bool → TopoFault → List Line
+one_line b f = (b, f) ∷ []
+
+-- ---- names
 abbrev pub has_name : List Name → Name → Bool
 has_name [] n = false
 has_name (m ∷ ms) n = same_bytes m n || has_name ms n
 
--- the first name that is no member
-abbrev pub unknown_of : List Name → List Name → Option TopoFault
-unknown_of known [] = None
-unknown_of known (n ∷ ns) = option_or (when (not (has_name known n)) (UnknownInput n)) (unknown_of known ns)
+abbrev pub names_of : List NodeView → List Name
+names_of ns = map (λ n. n.name) ns
 
--- the first name that is one
-abbrev pub taken_of : List Name → List Name → Option TopoFault
-taken_of known [] = None
-taken_of known (n ∷ ns) = option_or (when (has_name known n) (DuplicateName n)) (taken_of known ns)
+abbrev pub topic_names : DraftView → List Name
+topic_names d = map (λ (x : Name × ℤ). x.0) d.topics
 
+-- a line for each name that is not known
+abbrev pub unknown_lines : List Name → List Name → List Line
+unknown_lines known ns = map (λ n. (not (has_name known n), UnknownInput n)) ns
+
+-- a line for each name that is
+abbrev pub taken_lines : List Name → List Name → List Line
+taken_lines known ns = map (λ n. (has_name known n, DuplicateName n)) ns
+
+-- ---- what an operation reads
 abbrev pub inputs_in : OpView → List Name
 inputs_in (StreamOf t) = []
 inputs_in (TableOf t) = []
@@ -44,144 +63,110 @@ topics_in (StreamOf t) = t ∷ []
 topics_in (TableOf t) = t ∷ []
 topics_in _ = []
 
+-- the topics of sources
+abbrev pub sources_of : List NodeView → List Name
+sources_of ns = flat_map (λ n. topics_in n.op) ns
+
 abbrev pub set_length : OpView → ℕ
 set_length (MapOf f s) = length s
 set_length (JoinOf l r kind s) = length s
 set_length (FkJoinOf l r fk kind s) = length s
 set_length _ = 0
 
--- an earlier source of the same topic
-abbrev pub reads_topic : ℕ → Kind → Bool
-reads_topic t (StreamSource u) = nat_eq t u
-reads_topic t (TableSource u) = nat_eq t u
-reads_topic t _ = false
-
-abbrev pub any_known : (Known → Bool) → List Known → Bool
-any_known f [] = false
-any_known f (k ∷ ks) = f k || any_known f ks
-
-abbrev pub source_fault : List (Name × ℤ) → List Known → List Name → Option TopoFault
-source_fault ts ks [] = None
-source_fault ts ks (t ∷ rest) = when (any_known (λ k. reads_topic (topic_number ts t) k.kind) ks) (DuplicateName t)
-
-abbrev pub is_windowed : Kind → Bool
-is_windowed (Windowed f by w through) = true
-is_windowed _ = false
-
-abbrev pub any_input : (Kind → Bool) → List Known → List Name → Bool
-any_input f ks [] = false
-any_input f ks (n ∷ ns) = f (known_at ks n).kind || any_input f ks ns
-
--- no input of these is wrong for an op: which kinds it doesn't take
-abbrev pub wrong_kind : OpView → Kind → Bool
-wrong_kind (KeyOf f k) i = not (is_stream i)
-wrong_kind (WindowedOf f by size advance grace) i = not (is_stream i)
-wrong_kind (CountOf f by) i = is_none by && not (is_stream i)
-wrong_kind (SumOf f by field) i = is_none by && not (is_stream i)
-wrong_kind (JoinOf l r kind s) i = is_stream i
-wrong_kind (FkJoinOf l r fk kind s) i = is_stream i
+-- ---- kinds
+-- a select_key and a windowed count take a stream alone, joins tables alone, and a count or sum of a table has a group
+abbrev pub wrong_kind : OpView → Wiring → Bool
+wrong_kind (KeyOf f k) i = not (gives_stream i)
+wrong_kind (WindowedOf f by size advance grace) i = not (gives_stream i)
+wrong_kind (CountOf f by) i = is_none by && not (gives_stream i)
+wrong_kind (SumOf f by field) i = is_none by && not (gives_stream i)
+wrong_kind (JoinOf l r kind s) i = gives_stream i
+wrong_kind (FkJoinOf l r fk kind s) i = gives_stream i
 wrong_kind _ i = false
 
+-- what these nodes' namesake is
+abbrev pub wiring_in : List Known → Name → Wiring
+wiring_in ks n = wiring_of (known_at ks n).kind
+
+abbrev pub sink_lines : List Known → NodeView → List Line
+sink_lines ks n = map (λ i. (gives_windows (wiring_in ks i), SinkOnly n.name)) (inputs_in n.op)
+
+abbrev pub kind_lines : List Known → NodeView → List Line
+kind_lines ks n = map (λ i. (wrong_kind n.op (wiring_in ks i), WrongKind n.name)) (inputs_in n.op)
+
+-- ---- partitions
 abbrev pub parts_in : List ℕ → List Known → Name → ℕ
-parts_in counts ks n = at (fold (parts_next (record { kinds = []; counts = counts; print = [] })) [] (map (λ k. k.kind) ks)) (node_number ks n)
+parts_in counts ks n = at (node_parts counts (map (λ k. k.kind) ks)) (node_number ks n)
 
-abbrev pub partition_fault : List ℕ → List Known → OpView → Option TopoFault
-partition_fault counts ks (JoinOf l r kind s) = when (not (nat_eq (parts_in counts ks l) (parts_in counts ks r))) (NotCopartitioned l r)
-partition_fault counts ks _ = None
+abbrev pub side_lines : List ℕ → List Known → OpView → List Line
+side_lines counts ks (JoinOf l r kind s) = one_line (not (nat_eq (parts_in counts ks l) (parts_in counts ks r))) (NotCopartitioned l r)
+side_lines counts ks _ = []
 
-abbrev pub most_time : ℕ
-most_time = 9007199254740992
+-- ---- windows
+abbrev pub most_time : ℤ
+most_time = pos 9007199254740992
 
-abbrev pub positive : ℤ → Bool
-positive (pos zero) = false
-positive (pos (suc n)) = true
-positive (negsuc n) = false
+abbrev pub int_or : Option ℤ → ℤ → ℤ
+int_or None z = z
+int_or (Some y) z = y
 
-abbrev pub or_int : Option ℤ → ℤ → ℤ
-or_int None z = z
-or_int (Some y) z = y
+-- 1 <= advance <= size <= 1000 * advance, grace >= 0, and none of them past the greatest time
+abbrev pub is_window : ℤ → ℤ → ℤ → Bool
+is_window size advance grace =
+    int_le (pos 1) advance && int_le advance size && int_le size most_time && int_le size (pos 1000 *ℤ advance) && int_le (pos 0) grace && int_le grace most_time
 
-abbrev pub good_window : ℤ → Option ℤ → Option ℤ → Bool
-good_window size advance grace =
-    let a = or_int advance size in
-    let g = or_int grace (pos 86400000) in
-    positive a && not (is_negative size) && not (is_negative g) && nat_le (unsigned_abs a) (unsigned_abs size) && nat_le (unsigned_abs size) (1000 * unsigned_abs a)
-    && nat_le (unsigned_abs size) most_time && nat_le (unsigned_abs g) most_time
+-- without an advance it is the size, without a grace a day
+abbrev pub window_lines : Name → OpView → List Line
+window_lines n (WindowedOf f by size advance grace) = one_line (not (is_window size (int_or advance size) (int_or grace (pos 86400000)))) (BadWindow n)
+window_lines n _ = []
 
-abbrev pub window_fault : Name → OpView → Option TopoFault
-window_fault n (WindowedOf f by size advance grace) = when (not (good_window size advance grace)) (BadWindow n)
-window_fault n _ = None
-
--- the names of a node's internal topics
-abbrev pub topic_name : Name → Name → Name → Name
-topic_name app node what = app ++ codes "-" ++ node ++ codes "-" ++ what
-
-abbrev pub internal_names : Name → Name → Kind → List Name
-internal_names app n (StreamAggregate f by field through) = cond through (topic_name app n (codes "repartition") ∷ []) [] ++ topic_name app n (codes "changelog") ∷ []
-internal_names app n (TableAggregate f by field) = topic_name app n (codes "repartition") ∷ topic_name app n (codes "changelog") ∷ []
-internal_names app n (Windowed f by w through) = cond through (topic_name app n (codes "repartition") ∷ []) [] ++ topic_name app n (codes "changelog") ∷ []
-internal_names app n (ForeignKeyJoin l r fk kind s) =
-    topic_name app n (codes "subscription-registration-topic") ∷ topic_name app n (codes "subscription-response-topic")
-    ∷ topic_name app n (codes "changelog") ∷ topic_name app n (codes "subscription-store-changelog") ∷ []
-internal_names app n k = cond (is_stream k) [] (topic_name app n (codes "changelog") ∷ [])
-
-abbrev pub known_names : List Known → List Name
-known_names ks = map (λ k. k.name) ks
-
-abbrev pub first_fault : List (Option TopoFault) → Option TopoFault
-first_fault [] = None
-first_fault (x ∷ xs) = option_or x (first_fault xs)
-
-abbrev pub topic_names : DraftView → List Name
-topic_names d = map (λ (x : Name × ℤ). x.0) d.topics
-
--- a node's tests, in their order
-abbrev pub node_tests : DraftView → List ℕ → List Known → NodeView → List (Option TopoFault)
-node_tests d counts ks node =
-    when (has_name (known_names ks) node.name) (DuplicateName node.name)
-    ∷ when (nat_lt 64 (set_length node.op)) (TooMany (codes "fields") 64)
-    ∷ unknown_of (topic_names d) (topics_in node.op)
-    ∷ unknown_of (known_names ks) (inputs_in node.op)
-    ∷ source_fault d.topics ks (topics_in node.op)
-    ∷ when (any_input is_windowed ks (inputs_in node.op)) (SinkOnly node.name)
-    ∷ when (any_input (wrong_kind node.op) ks (inputs_in node.op)) (WrongKind node.name)
-    ∷ partition_fault counts ks node.op
-    ∷ window_fault node.name node.op
-    ∷ taken_of (topic_names d) (internal_names d.app node.name (known_of d.topics ks node.op).0)
+-- ---- the table of a node after those before it
+abbrev pub node_table : DraftView → List NodeView → NodeView → List (List Line)
+node_table d before n =
+    let ks = known_from d.topics before in
+    one_line (has_name (names_of before) n.name) (DuplicateName n.name)
+    ∷ one_line (nat_lt 64 (set_length n.op)) (TooMany (codes "fields") 64)
+    ∷ unknown_lines (topic_names d) (topics_in n.op)
+    ∷ unknown_lines (names_of before) (inputs_in n.op)
+    ∷ taken_lines (sources_of before) (topics_in n.op)
+    ∷ sink_lines ks n
+    ∷ kind_lines ks n
+    ∷ side_lines (plan_of d).counts ks n.op
+    ∷ window_lines n.name n.op
+    ∷ taken_lines (topic_names d) (internal_names d.app n.name (wiring_of (known_of d.topics ks n.op).0))
     ∷ []
 
-abbrev pub node_fault : DraftView → List ℕ → List Known → NodeView → Option TopoFault
-node_fault d counts ks node = first_fault (node_tests d counts ks node)
+abbrev pub nodes_fault : DraftView → List NodeView → List NodeView → Option TopoFault
+nodes_fault d before [] = None
+nodes_fault d before (n ∷ ns) = option_or (first_of (node_table d before n)) (nodes_fault d (before ++ n ∷ []) ns)
 
-abbrev pub nodes_fault : DraftView → List ℕ → List Known → List NodeView → Option TopoFault
-nodes_fault d counts ks [] = None
-nodes_fault d counts ks (node ∷ nodes) = option_or (node_fault d counts ks node) (nodes_fault d counts (learn d.topics ks node) nodes)
-
-abbrev pub print_fault : List Known → List Name → List Name → Option TopoFault
-print_fault ks seen [] = None
-print_fault ks seen (n ∷ ns) = option_or (first_fault (
-    when (not (has_name (known_names ks) n)) (UnknownInput n)
-    ∷ when (has_name seen n) (DuplicateName n)
-    ∷ when (is_stream (known_at ks n).kind) (WrongKind n)
-    ∷ [])) (print_fault ks (n ∷ seen) ns)
-
-abbrev pub many_parts : List (Name × ℤ) → Bool
-many_parts [] = false
-many_parts (x ∷ xs) = nat_lt 64 (natural x.1) || many_parts xs
-
-abbrev pub draft_tests : DraftView → List (Option TopoFault)
-draft_tests d =
-    let p = plan_of d in
-    let ks = fold (learn d.topics) [] d.nodes in
-    when (nat_lt 64 (length d.topics)) (TooMany (codes "topics") 64)
-    ∷ when (many_parts d.topics) (TooMany (codes "partitions") 64)
-    ∷ when (nat_lt 64 (length d.nodes)) (TooMany (codes "nodes") 64)
-    ∷ nodes_fault d p.counts [] d.nodes
-    ∷ print_fault ks [] d.print
+-- ---- the table of a printed name after those before it
+abbrev pub print_lines : DraftView → List Name → Name → List Line
+print_lines d before n =
+    (not (has_name (names_of d.nodes) n), UnknownInput n)
+    ∷ (has_name before n, DuplicateName n)
+    ∷ (gives_stream (wiring_in (known_from d.topics d.nodes) n), WrongKind n)
     ∷ []
 
+abbrev pub print_fault : DraftView → List Name → List Name → Option TopoFault
+print_fault d before [] = None
+print_fault d before (n ∷ ns) = option_or (first_fitting (print_lines d before n)) (print_fault d (before ++ n ∷ []) ns)
+
+-- ---- the whole
+abbrev pub is_past : ℤ → Bool
+is_past z = int_lt (pos 64) z
+
+abbrev pub any_past : List (Name × ℤ) → Bool
+any_past [] = false
+any_past (x ∷ xs) = is_past x.1 || any_past xs
+
+abbrev pub size_lines : DraftView → List Line
+size_lines d =
+    (nat_lt 64 (length d.topics), TooMany (codes "topics") 64)
+    ∷ (any_past d.topics, TooMany (codes "partitions") 64)
+    ∷ (nat_lt 64 (length d.nodes), TooMany (codes "nodes") 64)
+    ∷ []
+
+-- the first fault: of sizes, of the nodes one by one, of the printed names one by one; a draft without one is well formed
 abbrev pub fault_of : DraftView → Option TopoFault
-fault_of d = first_fault (draft_tests d)
-
-abbrev pub IsWellFormed : DraftView → Type 0
-IsWellFormed d = fault_of d ≡ None
+fault_of d = option_or (first_fitting (size_lines d)) (option_or (nodes_fault d [] d.nodes) (print_fault d [] d.print))

@@ -1,4 +1,5 @@
 pub mod Drafts
 pub mod Plan
-pub mod Faults
 pub mod Layout
+pub mod Infos
+pub mod Faults

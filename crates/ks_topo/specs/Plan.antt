@@ -1,10 +1,13 @@
 -- A draft with its names resolved: nodes name one another, and their topics, by number.
-use Rattle.std.specs.Prelude.{ℕ, ℤ, suc, List, [], ◌∷◌, ◌++◌, map, get_or, Option, Some, None, Bool, true, false, ◌||◌, fold, cond, unwrap_or, pos, negsuc, is_some}
+use Rattle.std.specs.Prelude.{ℕ, ◌<◌, ℤ, suc, List, [], ◌∷◌, ◌++◌, map, get_or, Option, Some, None, Bool, true, false, ◌||◌, fold, cond, unwrap_or, pos, negsuc, is_some}
+use Rattle.std.specs.List.{All}
 use Rattle.std.specs.Ordering.{nat_cmp, is_lt}
 use Rattle.std.specs.Cmp.Lexicographic.{slice_cmp}
 use Rattle.ks_expr.specs.declared.terms.JoinKind.{JoinKind}
 use Rattle.ks_expr.specs.Terms.{Test, Set}
 use Rattle.ks_expr.specs.Eval.{same_bytes}
+use Rattle.ks_topo.specs.declared.node.Wiring.{Wiring}
+use Rattle.ks_topo.specs.declared.node.Wiring.TheVariants as wired
 use Rattle.ks_topo.specs.Drafts.{Name, OpView, StreamOf, TableOf, FilterOf, MapOf, KeyOf, CountOf, SumOf, WindowedOf, JoinOf, FkJoinOf, NodeView, DraftView}
 
 pub record Window : Type 0 where
@@ -34,12 +37,59 @@ pub record Plan : Type 0 where
   pub counts : List ℕ
   pub print : List ℕ
 
+-- what it is and what it reads, without what it computes
+abbrev pub wiring_of : Kind → Wiring
+wiring_of (StreamSource t) = wired.StreamSource t
+wiring_of (TableSource t) = wired.TableSource t
+wiring_of (StreamFilter f p) = wired.StreamFilter f
+wiring_of (TableFilter f p) = wired.TableFilter f
+wiring_of (StreamMap f s) = wired.StreamMap f
+wiring_of (TableMap f s) = wired.TableMap f
+wiring_of (KeySelected f k) = wired.KeySelected f
+wiring_of (StreamAggregate f by field through) = wired.StreamAggregate f through
+wiring_of (TableAggregate f by field) = wired.TableAggregate f
+wiring_of (Windowed f by w through) = wired.Windowed f through
+wiring_of (KeyJoin l r kind s) = wired.KeyJoin l r
+wiring_of (ForeignKeyJoin l r fk kind s) = wired.ForeignKeyJoin l r
+
+-- ---- kinds of nodes
+abbrev pub gives_stream : Wiring → Bool
+gives_stream (wired.StreamSource t) = true
+gives_stream (wired.StreamFilter f) = true
+gives_stream (wired.StreamMap f) = true
+gives_stream (wired.KeySelected f) = true
+gives_stream _ = false
+
+abbrev pub gives_windows : Wiring → Bool
+gives_windows (wired.Windowed f through) = true
+gives_windows _ = false
+
+-- a stream; all others but windowed counts are tables
 abbrev pub is_stream : Kind → Bool
-is_stream (StreamSource t) = true
-is_stream (StreamFilter f p) = true
-is_stream (StreamMap f s) = true
-is_stream (KeySelected f k) = true
-is_stream _ = false
+is_stream k = gives_stream (wiring_of k)
+
+abbrev pub is_windowed : Kind → Bool
+is_windowed k = gives_windows (wiring_of k)
+
+-- the nodes that it reads
+abbrev pub wired_inputs : Wiring → List ℕ
+wired_inputs (wired.StreamSource t) = []
+wired_inputs (wired.TableSource t) = []
+wired_inputs (wired.StreamFilter f) = f ∷ []
+wired_inputs (wired.TableFilter f) = f ∷ []
+wired_inputs (wired.StreamMap f) = f ∷ []
+wired_inputs (wired.TableMap f) = f ∷ []
+wired_inputs (wired.KeySelected f) = f ∷ []
+wired_inputs (wired.StreamAggregate f through) = f ∷ []
+wired_inputs (wired.TableAggregate f) = f ∷ []
+wired_inputs (wired.Windowed f through) = f ∷ []
+wired_inputs (wired.KeyJoin l r) = l ∷ r ∷ []
+wired_inputs (wired.ForeignKeyJoin l r) = l ∷ r ∷ []
+
+-- each node's inputs stand before it; the first of these nodes has this number
+abbrev pub InOrder : ℕ → List Kind → Type 0
+InOrder n [] = Unit {0}
+InOrder n (k ∷ ks) = All (λ i. i < n) (wired_inputs (wiring_of k)) × InOrder (suc n) ks
 
 -- ---- names
 -- a node that was resolved: its name, what it is, whether a select_key stands between it and its source
@@ -51,12 +101,16 @@ pub record Known : Type 0 where
 abbrev pub nothing_known : Known
 nothing_known = record { name = []; kind = StreamSource 0; rekeyed = false }
 
-abbrev pub position : (Known → Bool) → List Known → ℕ
-position p [] = 0
-position p (k ∷ ks) = cond (p k) 0 (suc (position p ks))
+-- the place of a name among the nodes; past all where none has it
+abbrev pub name_place : List Name → Name → ℕ
+name_place [] n = 0
+name_place (m ∷ ms) n = cond (same_bytes m n) 0 (suc (name_place ms n))
+
+abbrev pub known_names : List Known → List Name
+known_names ks = map (λ k. k.name) ks
 
 abbrev pub node_number : List Known → Name → ℕ
-node_number ks n = position (λ k. same_bytes k.name n) ks
+node_number ks n = name_place (known_names ks) n
 
 abbrev pub known_at : List Known → Name → Known
 known_at ks n = get_or ks (node_number ks n) nothing_known
@@ -99,19 +153,25 @@ known_of ts ks (FkJoinOf l r fk kind s) = (ForeignKeyJoin (node_number ks l) (no
 abbrev pub learn : List (Name × ℤ) → List Known → NodeView → List Known
 learn ts ks node = let k = known_of ts ks node.op in ks ++ record { name = node.name; kind = k.0; rekeyed = k.1 } ∷ []
 
-abbrev pub known_nodes : DraftView → List Known
-known_nodes d = fold (learn d.topics) [] d.nodes
+abbrev pub known_from : List (Name × ℤ) → List NodeView → List Known
+known_from ts ns = fold (learn ts) [] ns
 
--- the partition counts, in order of names
-abbrev pub with_count : (Name × ℤ) → List (Name × ℤ) → List (Name × ℤ)
-with_count x [] = x ∷ []
-with_count x (y ∷ ys) = cond (is_lt (slice_cmp nat_cmp x.0 y.0)) (x ∷ y ∷ ys) (y ∷ with_count x ys)
+abbrev pub known_nodes : DraftView → List Known
+known_nodes d = known_from d.topics d.nodes
+
+-- the topics, in order of names
+abbrev pub with_topic : List (Name × ℤ) → (Name × ℤ) → List (Name × ℤ)
+with_topic [] x = x ∷ []
+with_topic (y ∷ ys) x = cond (is_lt (slice_cmp nat_cmp x.0 y.0)) (x ∷ y ∷ ys) (y ∷ with_topic ys x)
+
+abbrev pub sorted_topics : DraftView → List (Name × ℤ)
+sorted_topics d = fold with_topic [] d.topics
 
 abbrev pub plan_of : DraftView → Plan
 plan_of d =
     let ks = known_nodes d in
     record {
       kinds = map (λ k. k.kind) ks;
-      counts = map (λ (x : Name × ℤ). natural x.1) (fold (λ ts x. with_count x ts) [] d.topics);
+      counts = map (λ (x : Name × ℤ). natural x.1) (sorted_topics d);
       print = map (node_number ks) d.print;
     }

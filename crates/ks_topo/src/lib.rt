@@ -7,4 +7,4 @@ mod node;
 
 pub use draft::{Draft, NodeDraft, Op};
 pub use fault::TopoFault;
-pub use node::{Node, Role, TopicInfo};
+pub use node::{Node, Role, Topic, TopicInfo, Wiring};
