@@ -1,2 +1,4 @@
 pub mod Runs
 pub mod Sums
+pub mod Takes
+pub mod Readers

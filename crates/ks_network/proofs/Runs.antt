@@ -95,7 +95,7 @@ module _ {Task Place Store Item : Type 0} (m : Machine Task Place Store Item) wh
     pub same_channel_refl : (s : Option Task) (p : Place) → same_channel m s p s p ≡ true
     same_channel_refl s p = and_from _ _ (same_sender_refl s) ((names.places p p).1 refl)
 
-    at_channel : (w : Option Task → Place → List Item) (r s : Option Task) (q p : Place) (xs : List Item) → w s p ≡ xs → same_channel m r q s p ≡ true → w r q ≡ xs
+    pub at_channel : (w : Option Task → Place → List Item) (r s : Option Task) (q p : Place) (xs : List Item) → w s p ≡ xs → same_channel m r q s p ≡ true → w r q ≡ xs
     at_channel w r s q p xs e b =
         let parts = and_parts _ _ b in
         ap (λ t. w t q) (same_sender-is r s parts.0) ∙ ap (w s) ((names.places q p).0 parts.1) ∙ e
