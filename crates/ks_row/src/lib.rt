@@ -4,6 +4,7 @@
 mod assignment;
 mod codec;
 mod lists;
+mod reading;
 mod record;
 mod row;
 mod texts;
@@ -11,6 +12,7 @@ mod texts;
 pub use assignment::{Assignment, Marker, Refused};
 pub use codec::encode;
 pub use lists::{Blob, Seq};
+pub use reading::{read_bytes, read_i64, read_u32, read_u64};
 pub use record::{PartId, Rec, TaskId};
 pub use row::{Change, Field, Row};
 pub use texts::{Key, Name, Text};

@@ -1,16 +1,27 @@
 //! Keys, names and texts: UTF-8 of a bounded length.
-ghost use Rattle.std.specs.Prelude.{◌≡◌, ◌==◌, IfOk, IfSome, IsSome, ◌↔◌, Some, None};
+ghost use Rattle.std.specs.Prelude.{◌≡◌, ◌==◌, IfOk, IfSome, IsSome, ◌↔◌, Some, None, MatchOption, true, false};
+ghost use Rattle.std.specs.Str.{is_utf8};
 ghost use Rattle.std.proofs.Common.{rules};
 ghost use Rattle.std.specs.Cmp.{partial_order_from_own_ties};
 ghost use Rattle.std.specs.Cmp.Rules.{comparing};
 ghost use Rattle.std.specs.Ordering.{nat_cmp, as_partial_cmp};
 ghost use Rattle.std.specs.Cmp.Lexicographic.{slice_cmp, pointwise};
-ghost use Rattle.ks_row.specs.Texts.{IsKey, IsName, IsText, key_of, name_of, text_of};
+ghost use Rattle.ks_row.specs.Texts.{IsKey, IsName, IsText, key_of, name_of, text_of, key_from, name_from, text_from};
 
 use std::alloc::{AllocError, Global};
 use std::cmp::Ordering;
 use std::marker::Model;
 use std::str;
+
+// The text that the bytes spell; none where they are no UTF-8.
+fn utf8_text(bytes: &[u8]) -> Option<&str>
+    ensures { MatchOption result (is_utf8 bytes.now ≡ false) (λ s. (s.now ≡ bytes.now) × (is_utf8 bytes.now ≡ true)) }
+{
+    match str::from_utf8(bytes) {
+        Ok(text) => Some(text),
+        Err(_) => None,
+    }
+}
 
 /// The key of a record.
 #[derive(Drop, Debug)]
@@ -44,15 +55,12 @@ impl Key {
     pub fn of(alloc: Global, bytes: &[u8]) -> Result<Option<Key>, AllocError>
         ensures key { IfOk result (λ o. IfSome o (λ k. k ≡ bytes.now)) }
         ensures exact { IfOk result (λ o. IsSome o ↔ IsKey bytes.now) }
+        ensures reads { IfOk result (λ o. o ≡ key_from bytes.now) }
     {
-        if bytes.is_empty() || bytes.len() > 1024 {
-            return Ok(None);
-        }
-        let Ok(text) = str::from_utf8(bytes) else {
+        let Some(text) = utf8_text(bytes) else {
             return Ok(None);
         };
-        let text = String::from_str(alloc, text)?;
-        Ok(Some(Key { text }))
+        Key::of_text(alloc, text)
     }
 
     pub fn as_str(&self) -> &str
@@ -139,15 +147,12 @@ impl Name {
     pub fn of(alloc: Global, bytes: &[u8]) -> Result<Option<Name>, AllocError>
         ensures name { IfOk result (λ o. IfSome o (λ n. n ≡ bytes.now)) }
         ensures exact { IfOk result (λ o. IsSome o ↔ IsName bytes.now) }
+        ensures reads { IfOk result (λ o. o ≡ name_from bytes.now) }
     {
-        if bytes.is_empty() || bytes.len() > 64 {
-            return Ok(None);
-        }
-        let Ok(text) = str::from_utf8(bytes) else {
+        let Some(text) = utf8_text(bytes) else {
             return Ok(None);
         };
-        let text = String::from_str(alloc, text)?;
-        Ok(Some(Name { text }))
+        Name::of_text(alloc, text)
     }
 
     pub fn as_str(&self) -> &str
@@ -254,15 +259,12 @@ impl Text {
     pub fn of(alloc: Global, bytes: &[u8]) -> Result<Option<Text>, AllocError>
         ensures text { IfOk result (λ o. IfSome o (λ t. t ≡ bytes.now)) }
         ensures exact { IfOk result (λ o. IsSome o ↔ IsText bytes.now) }
+        ensures reads { IfOk result (λ o. o ≡ text_from bytes.now) }
     {
-        if bytes.len() > 65536 {
-            return Ok(None);
-        }
-        let Ok(text) = str::from_utf8(bytes) else {
+        let Some(text) = utf8_text(bytes) else {
             return Ok(None);
         };
-        let text = String::from_str(alloc, text)?;
-        Ok(Some(Text { text }))
+        Text::of_text(alloc, text)
     }
 
     pub fn as_str(&self) -> &str
