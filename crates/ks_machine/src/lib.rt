@@ -1,0 +1,2 @@
+//! The task machine of a topology.
+#![tactic(auto)]

@@ -1,0 +1,5 @@
+pub mod Windows
+pub mod Streams
+pub mod Aggregates
+pub mod Query
+pub mod Grace

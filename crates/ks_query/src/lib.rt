@@ -1,0 +1,2 @@
+//! The query of a topology over whole lists of records.
+#![tactic(auto)]
