@@ -3,10 +3,13 @@ use Rattle.std.proofs.Common.{◌≡◌, ℕ, true, refl, ap, ap₂, subst, Deci
 use Rattle.std.proofs.lemmas.Bool.{and_parts, and_from}
 use Rattle.std.proofs.lemmas.Bool.Decides.{Decides-eqb}
 use Rattle.ks_topo.specs.Plan.{Plan}
-use Rattle.ks_topo.specs.Layout.{Topic, same_topic}
-use Rattle.ks_topo.specs.Layout.Topic.{Input, Repartition, Subscriptions, Responses, Changelog, HashChangelog}
+use Rattle.ks_topo.specs.declared.node.Topic.{Topic}
+use Rattle.ks_topo.specs.Layout.{same_topic}
+use Rattle.ks_topo.specs.declared.node.Topic.TheVariants.{Input, Repartition, Subscriptions, Responses, Changelog, HashChangelog}
 use Rattle.ks_network.specs.Run.{HasNames}
-use Rattle.ks_machine.specs.Messages.{Task, Place, same_task, same_place, Rules}
+use Rattle.ks_row.specs.declared.record.TaskId.{TaskId}
+use Rattle.ks_row.specs.Parts.{same_task}
+use Rattle.ks_machine.specs.Messages.{Place, same_place, Rules}
 use Rattle.ks_machine.specs.Tasks.{machine}
 
 topic-is : (a b : Topic) → same_topic a b ≡ true → a ≡ b
@@ -26,10 +29,10 @@ topic_itself (Responses a) = (Decides-eqb a a).1 refl
 topic_itself (Changelog a) = (Decides-eqb a a).1 refl
 topic_itself (HashChangelog a) = (Decides-eqb a a).1 refl
 
-pub same_task-is : (a b : Task) → Decides (same_task a b) (a ≡ b)
+pub same_task-is : (a b : TaskId) → Decides (same_task a b) (a ≡ b)
 same_task-is a b = (
   λ e. let p = and_parts _ _ e in ap₂ (λ (s i : ℕ). record { sub = s; part = i }) ((Decides-eqb a.sub b.sub).0 p.0) ((Decides-eqb a.part b.part).0 p.1),
-  λ e. and_from _ _ ((Decides-eqb a.sub b.sub).1 (ap (λ (t : Task). t.sub) e)) ((Decides-eqb a.part b.part).1 (ap (λ (t : Task). t.part) e)),
+  λ e. and_from _ _ ((Decides-eqb a.sub b.sub).1 (ap (λ (t : TaskId). t.sub) e)) ((Decides-eqb a.part b.part).1 (ap (λ (t : TaskId). t.part) e)),
 )
 
 pub same_place-is : (a b : Place) → Decides (same_place a b) (a ≡ b)

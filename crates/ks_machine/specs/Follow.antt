@@ -1,12 +1,13 @@
--- Derived tables follow the present tables of their inputs (T4, part 1).
-use Rattle.std.specs.Prelude.{◌≡◌, ℕ, suc, ◌<◌, List, [], ◌∷◌, Option, Some, None, cond}
+-- Filters, maps and key joins of tables follow the present tables of their inputs.
+use Rattle.std.specs.Prelude.{◌≡◌, ℕ, suc, List, [], ◌∷◌, Option, Some, None, cond}
 use Rattle.ks_expr.specs.Eval.{holds, project, joined}
 use Rattle.ks_query.specs.Streams.{Key}
-use Rattle.ks_topo.specs.Plan.{Plan, Kind}
+use Rattle.ks_topo.specs.Plan.{Plan, Kind, InOrder}
 use Rattle.ks_topo.specs.Plan.Kind.{TableFilter, TableMap, KeyJoin}
 use Rattle.ks_map.specs.FinMap as map
 use Rattle.ks_network.specs.Run.{run}
-use Rattle.ks_machine.specs.Messages.{Task, Place, Item, Store, Rules}
+use Rattle.ks_row.specs.declared.record.TaskId.{TaskId}
+use Rattle.ks_machine.specs.Messages.{Place, Item, Store, Rules}
 use Rattle.ks_machine.specs.Step.{Values, row_in, kept_row, of_row}
 use Rattle.ks_machine.specs.Tasks.{machine}
 
@@ -24,15 +25,7 @@ EachFollows values n (k ∷ ks) = FollowsIn values n k × EachFollows values (su
 abbrev pub values_of : Store → Key → Values
 values_of st q n = map.get (st.tables n) q
 
--- the inputs of derived tables stand before them
-abbrev pub InOrder : ℕ → List Kind → Type 0
-InOrder n [] = Unit {0}
-InOrder n (TableFilter f p ∷ ks) = (f < n) × InOrder (suc n) ks
-InOrder n (TableMap f s ∷ ks) = (f < n) × InOrder (suc n) ks
-InOrder n (KeyJoin l r kind s ∷ ks) = record { left : l < n; right : r < n; rest : InOrder (suc n) ks }
-InOrder n (k ∷ ks) = InOrder (suc n) ks
-
 -- in every state of every run, in every task, at every key
 abbrev pub DerivedFollow : Type 0
-DerivedFollow = (rules : Rules) (p : Plan) (inputs : Place → List Item) (schedule : List (Option Task × Place)) (u : Task) (q : Key) →
+DerivedFollow = (rules : Rules) (p : Plan) (inputs : Place → List Item) (schedule : List (Option TaskId × Place)) (u : TaskId) (q : Key) →
     InOrder 0 p.kinds → EachFollows (values_of ((run (machine rules p) inputs schedule).stores u) q) 0 p.kinds

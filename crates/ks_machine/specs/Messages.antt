@@ -5,7 +5,8 @@ use Rattle.ks_map.specs.FinMap.{FinMap}
 use Rattle.ks_map.specs.Bytes.{by_bytes}
 use Rattle.ks_expr.specs.Eval.{Row, same_bytes, same_field}
 use Rattle.ks_query.specs.Streams.{Key}
-use Rattle.ks_topo.specs.Layout.{Topic, same_topic}
+use Rattle.ks_topo.specs.declared.node.Topic.{Topic}
+use Rattle.ks_topo.specs.Layout.{same_topic}
 use Rattle.ks_query.specs.Windows.{WindowKey, by_window}
 use Rattle.ks_wire.specs.Values.{SubscriptionValue}
 use Rattle.ks_wire.specs.declared.values.Agg.{Agg}
@@ -13,18 +14,10 @@ use Rattle.ks_wire.specs.declared.values.Delta.{Delta}
 use Rattle.ks_wire.specs.declared.values.Response.{Response}
 use Rattle.ks_query.specs.Aggregates.{agg_row}
 
--- a subtopology's task, by the number of the partitions that it reads
-pub record Task : Type 0 where
-  pub sub : ℕ
-  pub part : ℕ
-
 -- a partition of a topic
 pub record Place : Type 0 where
   pub topic : Topic
   pub part : ℕ
-
-abbrev pub same_task : Task → Task → Bool
-same_task a b = nat_eq a.sub b.sub && nat_eq a.part b.part
 
 abbrev pub same_place : Place → Place → Bool
 same_place a b = same_topic a.topic b.topic && nat_eq a.part b.part

@@ -10,8 +10,9 @@ use Rattle.ks_expr.specs.Eval.{Row, same_bytes, holds, project, joined}
 use Rattle.ks_query.specs.Streams.{Key}
 use Rattle.ks_topo.specs.Plan.{Plan, Kind}
 use Rattle.ks_topo.specs.Plan.Kind.{StreamSource, TableSource, StreamFilter, TableFilter, StreamMap, TableMap, KeySelected, StreamAggregate, TableAggregate, Windowed, KeyJoin, ForeignKeyJoin}
-use Rattle.ks_topo.specs.Layout.{Topic, same_topic, kind_at}
-use Rattle.ks_topo.specs.Layout.Topic.{Input, Repartition, Subscriptions, Responses, Changelog, HashChangelog}
+use Rattle.ks_topo.specs.declared.node.Topic.{Topic}
+use Rattle.ks_topo.specs.Layout.{same_topic, kind_at}
+use Rattle.ks_topo.specs.declared.node.Topic.TheVariants.{Input, Repartition, Subscriptions, Responses, Changelog, HashChangelog}
 use Rattle.ks_map.specs.FinMap as map
 use Rattle.ks_map.specs.FinMap.{FinMap}
 use Rattle.ks_map.specs.Bytes.{by_bytes}

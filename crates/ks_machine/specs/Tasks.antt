@@ -3,12 +3,15 @@ use Rattle.std.specs.Prelude.{ℕ, List, ◌++◌, map, Option, Some, None, Bool
 use Rattle.std.specs.List.{filter}
 use Rattle.ks_query.specs.Streams.{Key}
 use Rattle.ks_topo.specs.Plan.{Plan}
-use Rattle.ks_topo.specs.Layout.{Topic, same_topic, parts_of_topic, reads, is_read, sub_count}
-use Rattle.ks_topo.specs.Layout.Topic.{Input as InputTopic, Changelog, HashChangelog}
+use Rattle.ks_topo.specs.declared.node.Topic.{Topic}
+use Rattle.ks_topo.specs.Layout.{same_topic, parts_of_topic, reads, is_read, sub_count}
+use Rattle.ks_topo.specs.declared.node.Topic.TheVariants.{Input as InputTopic, Changelog, HashChangelog}
 use Rattle.ks_map.specs.FinMap as map
 use Rattle.ks_network.specs.Run.{Machine, Outcome}
 use Rattle.ks_query.specs.Streams.{Input}
-use Rattle.ks_machine.specs.Messages.{Task, Place, same_task, same_place, Item, Store, Rules}
+use Rattle.ks_row.specs.declared.record.TaskId.{TaskId}
+use Rattle.ks_row.specs.Parts.{same_task}
+use Rattle.ks_machine.specs.Messages.{Place, same_place, Item, Store, Rules}
 use Rattle.ks_machine.specs.Messages.Message.{Given}
 use Rattle.ks_machine.specs.Step.{Sent, Written, whole_step}
 
@@ -20,7 +23,7 @@ abbrev pub written_item : ℕ → ℕ → Written → Place × Item
 written_item part time w = (record { topic = w.topic; part = part }, record { message = w.message; time = time })
 
 -- all records of a step carry the time of the record that was taken
-abbrev pub step : Rules → Plan → Task → Store → Place → Item → Outcome Place Store Item
+abbrev pub step : Rules → Plan → TaskId → Store → Place → Item → Outcome Place Store Item
 step rules p t st q x =
     let made = whole_step rules p st (record { topic = q.topic; item = x }) in
     record {
@@ -41,7 +44,7 @@ is_changelog _ = false
 abbrev pub taker : Plan → Topic → ℕ
 taker p t = cond (is_changelog t) (sub_count p) (reads p t)
 
-abbrev pub machine : Rules → Plan → Machine Task Place Store Item
+abbrev pub machine : Rules → Plan → Machine TaskId Place Store Item
 machine rules p = record {
   same_task = same_task;
   same_place = same_place;
