@@ -1,0 +1,9 @@
+mod Sound
+mod Slots
+mod Batches
+mod Order
+mod Stores
+mod Commits
+mod Quiet
+mod Inputs
+mod Replays

@@ -1,0 +1,14 @@
+//! The history's law. Each law is the contract of a function that does nothing.
+ghost use Rattle.ks_replay.specs.Law.{OfHistories, IsRun, TellsStores, TellsPasts, TellsAll, TellsLists, TellsLate};
+
+/// A legal, faithful journal commits what one run without a crash does, whatever was aborted, fenced or refused in it: the
+/// steps that its commits name, each taking the first record of its list, leave in the stores the folds of the changelogs,
+/// and in the lists what is decided and not yet committed.
+pub fn replay_is_run()
+    ensures run { OfHistories IsRun }
+    ensures stores { OfHistories TellsStores }
+    ensures pasts { OfHistories TellsPasts }
+    ensures all { OfHistories TellsAll }
+    ensures lists { OfHistories TellsLists }
+    ensures late { OfHistories TellsLate }
+{}
