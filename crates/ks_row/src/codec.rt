@@ -1,14 +1,18 @@
-//! A row as bytes.
-ghost use Rattle.std.specs.Prelude.{◌≡◌, ◌++◌, IfOk, OnOk};
-ghost use Rattle.ks_row.specs.Spelling.{field_bytes, member_bytes, spelling};
+//! A row as bytes: each row has one spelling, and no bytes spell two rows.
+ghost use Rattle.std.specs.Prelude.{◌≡◌, ◌++◌, IfOk, IfSome, OnOk, Some, List, ℕ};
+ghost use Rattle.ks_row.specs.Rows.{Member};
+ghost use Rattle.ks_row.specs.Spelling.{field_bytes, member_bytes, spelling, FitsField, FitsMember, FitsRow, IsBytes};
+ghost use Rattle.ks_row.specs.Reading.{row_from};
 
 use crate::lists::Blob;
+use crate::reading::read_row;
 use crate::row::{Field, Row};
 use crate::texts::Name;
 use std::alloc::{AllocError, Global};
 
 fn push_field(out: &mut Vec<u8>, field: &Field) -> Result<(), AllocError>
-    ensures { OnOk result (out.new.items ≡ out.old.items ++ field_bytes field.now) }
+    ensures bytes { OnOk result (out.new.items ≡ out.old.items ++ field_bytes field.now) }
+    ensures fits { OnOk result (FitsField field.now) }
 {
     match field {
         Field::Int(number) => {
@@ -27,7 +31,8 @@ fn push_field(out: &mut Vec<u8>, field: &Field) -> Result<(), AllocError>
 
 #[tactic(auto, unfolding(crate::specs::Spelling::member_bytes))]
 fn push_member(out: &mut Vec<u8>, name: &Name, field: &Field) -> Result<(), AllocError>
-    ensures { OnOk result (out.new.items ≡ out.old.items ++ member_bytes (name.now, field.now)) }
+    ensures bytes { OnOk result (out.new.items ≡ out.old.items ++ member_bytes (name.now, field.now)) }
+    ensures fits { OnOk result (FitsMember (name.now, field.now)) }
 {
     let bytes = name.as_str().as_bytes();
     out.push(bytes.len() as u8)?;
@@ -38,7 +43,8 @@ fn push_member(out: &mut Vec<u8>, name: &Name, field: &Field) -> Result<(), Allo
 /// The bytes that spell the row.
 #[tactic(auto, unfolding(crate::specs::Spelling::spelling))]
 pub fn encode(alloc: Global, row: &Row) -> Result<Blob, AllocError>
-    ensures { IfOk result (λ b. b ≡ spelling row.now) }
+    ensures bytes { IfOk result (λ b. b ≡ spelling row.now) }
+    ensures fits { OnOk result (FitsRow row.now) }
 {
     let members = row.members();
     let mut out = Vec::new(alloc);
@@ -48,3 +54,33 @@ pub fn encode(alloc: Global, row: &Row) -> Result<Blob, AllocError>
     }
     Ok(Blob::of(out))
 }
+
+/// The row that the bytes spell, all of them; none where they spell no row.
+pub fn decode(alloc: Global, bytes: &[u8]) -> Result<Option<Row>, AllocError>
+    // What is read is spelled so.
+    ensures found { IfOk result (λ o. IfSome o (λ r. FitsRow r × (bytes.now ≡ spelling r))) }
+    // What is spelled so is read.
+    ensures only { (ms : List Member) → FitsRow ms → bytes.now ≡ spelling ms → IfOk result (λ o. o ≡ Some ms) }
+    ensures exact { IfOk result (λ o. o ≡ row_from bytes.now) }
+{
+    read_row(alloc, bytes)
+}
+
+/// The row again, from its bytes.
+pub fn reread(alloc: Global, row: &Row) -> Result<Option<Row>, AllocError>
+    ensures { IfOk result (λ o. o ≡ Some row.now) }
+{
+    let bytes = encode(alloc, row)?;
+    decode(alloc, bytes.as_slice())
+}
+
+/// A law: no bytes spell two rows.
+pub fn spelling_is_injective()
+    ensures { (a b : List Member) → FitsRow a → FitsRow b → spelling a ≡ spelling b → a ≡ b }
+{}
+
+/// A law: spelling and reading undo one another.
+pub fn reading_undoes_spelling()
+    ensures again { (ms : List Member) → FitsRow ms → row_from (spelling ms) ≡ Some ms }
+    ensures back { (bytes : List ℕ) → (ms : List Member) → IsBytes bytes → row_from bytes ≡ Some ms → FitsRow ms × (bytes ≡ spelling ms) }
+{}

@@ -10,7 +10,7 @@ mod row;
 mod texts;
 
 pub use assignment::{Assignment, Marker, Refused};
-pub use codec::encode;
+pub use codec::{decode, encode, reading_undoes_spelling, reread, spelling_is_injective};
 pub use lists::{Blob, Seq};
 pub use reading::{read_bytes, read_i64, read_u32, read_u64};
 pub use record::{PartId, Rec, TaskId};

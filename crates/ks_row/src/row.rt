@@ -1,10 +1,10 @@
 //! Rows: names, strictly rising, each with its field.
 ghost use Rattle.std.specs.Prelude.{◌≡◌, ◌<◌, ◌≤◌, length, IfOk, IfSome, IfNone, IsSome, IsNone, ◌↔◌, Some, None, option_copied};
 ghost use Rattle.std.specs.List.Sorted.{IsPermutation};
-ghost use Rattle.ks_row.specs.Rows.{IsRow, row_of, rises, names_of, field_of};
+ghost use Rattle.ks_row.specs.Rows.{IsRow, HasRow, row_of, rises, names_of, field_of};
 
 use crate::texts::{Key, Name, Text};
-use std::alloc::{AllocError, Global};
+use std::alloc::AllocError;
 use std::marker::Model;
 
 /// A number or a text.
@@ -70,21 +70,18 @@ impl Row {
 }
 
 impl Row {
-    /// The row of these members, in order of names; none where there is no member, or more than 64,
-    /// or a name twice.
-    pub fn of(alloc: Global, fields: Vec<(Name, Field)>) -> Result<Option<Row>, AllocError>
-        ensures { IfOk result (λ o. IfSome o (λ r. IsRow r × IsPermutation fields.items r)) }
+    /// The row of these members, in order of names; none exactly where there is no member, or more than 64, or a name twice.
+    pub fn of(fields: Vec<(Name, Field)>) -> Result<Option<Row>, AllocError>
+        // Members that rise and are those given: only one list is such.
+        ensures row { IfOk result (λ o. IfSome o (λ r. IsRow r × IsPermutation fields.items r)) }
+        ensures exact { IfOk result (λ o. IsSome o ↔ HasRow fields.items) }
     {
-        let mut fields = fields;
         if fields.is_empty() || fields.len() > 64 {
             return Ok(None);
         }
-        fields.sort_by(|a, b| a.0.cmp(&b.0))?;
-        if is_rising(&fields) {
-            Ok(Some(Row { fields }))
-        } else {
-            Ok(None)
-        }
+        let mut members = fields;
+        members.sort_by(|a, b| a.0.cmp(&b.0))?;
+        Ok(Row::from_rising(members))
     }
 }
 

@@ -1,0 +1,11 @@
+use Rattle.ks_row.proofs.Written.{text_more, fits_more, row_fits}
+use Rattle.ks_row.proofs.codec.encode.Goals as goal
+
+pub loop-name-preserved : goal.loop-name-preserved
+loop-name-preserved c = record {
+  text = text_more _ _ c.members-members.result.now c.loop-name.name-index c.loop-name-item.result _ c.loop-name-test.true c.loop-name-item.is c.in_ok-push_member.ensures.bytes c.loop-name.invariant.text;
+  fits = fits_more c.members-members.result.now c.loop-name.name-index c.loop-name-item.result c.loop-name-test.true c.loop-name-item.is c.in_ok-push_member.ensures.fits c.loop-name.invariant.fits;
+}
+
+pub returns-clause-fits : goal.returns-clause-fits
+returns-clause-fits c = row_fits c.members-members.result.now c.args.row.now c.loop-name.name-index c.members-members.ensures.value c.members-members.ensures.row c.loop-name-test.false c.loop-name.invariant.fits
