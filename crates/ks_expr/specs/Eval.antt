@@ -72,10 +72,10 @@ holds (Either p q) v = holds p v || holds q v
 -- a row with one more field, in its place by the bytes of names; in the place of a field of that name
 abbrev pub put_field : List ℕ → Field → Row → Row
 put_field name f [] = (name, f) ∷ []
-put_field name f (m ∷ ms) = elim (slice_cmp nat_cmp name m.0) [
-  | Less ↦ (name, f) ∷ m ∷ ms
+put_field name f (m ∷ ms) = elim (slice_cmp nat_cmp m.0 name) [
+  | Less ↦ m ∷ put_field name f ms
   | Equal ↦ (name, f) ∷ ms
-  | Greater ↦ m ∷ put_field name f ms
+  | Greater ↦ (name, f) ∷ m ∷ ms
 ]
 
 abbrev pub with_field : List ℕ → Option Field → Row → Row

@@ -43,5 +43,8 @@ test_of (Not' x p) = Test.Fails (test_of p)
 test_of (And' x p y q) = Test.Both (test_of p) (test_of q)
 test_of (Or' x p y q) = Test.Either (test_of p) (test_of q)
 
+abbrev pub entries_of : List (List ℕ × Expr) → Set
+entries_of es = map (λ m. (m.0, term_of m.1)) es
+
 abbrev pub set_of : Proj → Set
-set_of s = map (λ m. (m.0, term_of m.1)) s.fields
+set_of s = entries_of s.fields
