@@ -4,4 +4,6 @@ pub mod Foreign
 pub mod Step
 pub mod Tasks
 pub mod Drain
-pub mod Follow
+pub mod Collision
+pub mod Rest
+pub mod Laws

@@ -1,0 +1,26 @@
+-- Laws over every run of the machine of every plan.
+use Rattle.std.specs.Prelude.{◌≡◌, ℕ, List, Option}
+use Rattle.ks_row.specs.declared.record.TaskId.{TaskId}
+use Rattle.ks_topo.specs.Plan.{Plan}
+use Rattle.ks_topo.specs.declared.node.Topic.TheVariants.{Changelog}
+use Rattle.ks_topo.specs.Layout.{sub_of}
+use Rattle.ks_network.specs.Run.{HasNames, Follows, run, local, sent_to}
+use Rattle.ks_machine.specs.Messages.{Place, Item, Rules}
+use Rattle.ks_machine.specs.Tasks.{machine, empty_store}
+use Rattle.ks_machine.specs.Collision.{past}
+
+abbrev pub NamesAreDecided : Type 0
+NamesAreDecided = (rules : Rules) (p : Plan) → HasNames (machine rules p)
+
+-- each task's stores are what its own steps made of what it took; for each sender and place all that was sent is what was received,
+-- then what waits; the late total is that of the steps
+abbrev pub FollowsTaken : Type 0
+FollowsTaken = (rules : Rules) (p : Plan) (inputs : Place → List Item) (schedule : List (Option TaskId × Place)) →
+    Follows (machine rules p) inputs (run (machine rules p) inputs schedule)
+
+-- a past is what its owner's own steps wrote
+abbrev pub PastsAreWritten : Type 0
+PastsAreWritten = (rules : Rules) (p : Plan) (inputs : Place → List Item) (schedule : List (Option TaskId × Place)) (n part : ℕ) →
+    let m = machine rules p in
+    let st = run m inputs schedule in
+    past p st n part ≡ sent_to m (record { topic = Changelog n; part = part }) (local m (record { sub = sub_of p n; part = part }) empty_store st.taken).made
