@@ -1,7 +1,7 @@
 -- Aggregates: members and a total, how items and table rows change them, and the row that one is shown as.
 -- Kafka Streams developer guide, "Aggregating": of a table, the old row is subtracted and the new one added.
 use Rattle.std.specs.Prelude.{ℕ, ℤ, pos, List, [], ◌∷◌, ◌++◌, Option, Some, None, Bool, true, false, cond, ◌&&◌}
-use Rattle.std.specs.Int.{w64, int_wrapping_add, int_wrapping_sub}
+use Rattle.std.specs.Int.{w64, cast_signed, cast_unsigned, int_wrapping_add, int_wrapping_sub}
 use Rattle.std.specs.Ordering.{int_cmp, eq_by_cmp}
 use Rattle.ks_row.specs.Rows.{field_of}
 use Rattle.ks_row.specs.declared.row.Field.{Field}
@@ -17,10 +17,14 @@ abbrev pub int_of : Option Field → ℤ
 int_of (Some (Int z)) = z
 int_of _ = pos 0
 
+-- in 64 bits, where a row's number is
+abbrev pub as_i64 : ℤ → ℤ
+as_i64 z = cast_signed w64 (cast_unsigned w64 z)
+
 -- what a row adds to the total of a sum's field; nothing to a count's
 abbrev pub amount_in : Option (List ℕ) → Row → ℤ
 amount_in None row = pos 0
-amount_in (Some field) row = int_of (field_of field row)
+amount_in (Some field) row = as_i64 (int_of (field_of field row))
 
 abbrev pub nothing_yet : Agg
 nothing_yet = record { members = pos 0; total = pos 0 }
