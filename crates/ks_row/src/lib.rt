@@ -14,5 +14,5 @@ pub use codec::{decode, encode, reading_undoes_spelling, reread, spelling_is_inj
 pub use lists::{Blob, Seq};
 pub use reading::{read_bytes, read_i64, read_u32, read_u64};
 pub use record::{PartId, Rec, TaskId};
-pub use row::{Change, Field, Row};
+pub use row::{Change, Field, Row, key_of_field};
 pub use texts::{Key, Name, Text};

@@ -2,9 +2,10 @@
 ghost use Rattle.std.specs.Prelude.{◌≡◌, ◌<◌, ◌≤◌, length, IfOk, IfSome, IfNone, IsSome, IsNone, ◌↔◌, Some, None, option_copied};
 ghost use Rattle.std.specs.List.Sorted.{IsPermutation};
 ghost use Rattle.ks_row.specs.Rows.{IsRow, HasRow, row_of, rises, names_of, field_of};
+ghost use Rattle.ks_row.specs.FieldKeys.{field_key};
 
 use crate::texts::{Key, Name, Text};
-use std::alloc::AllocError;
+use std::alloc::{AllocError, Global};
 use std::marker::Model;
 
 /// A number or a text.
@@ -111,4 +112,16 @@ fn is_rising(fields: &[(Name, Field)]) -> bool
         return false;
     }
     true
+}
+
+/// The key that a field of the row gives: a number's decimal text, or a text of 1 to 1,024 bytes as it is; none where
+/// the row has no such field or its text is no key.
+pub fn key_of_field(alloc: Global, row: &Row, name: &[u8]) -> Result<Option<Key>, AllocError>
+    ensures { IfOk result (λ o. o ≡ field_key name.now row.now) }
+{
+    match row.get(name) {
+        None => Ok(None),
+        Some(Field::Int(number)) => Ok(Some(Key::of_number(alloc, *number)?)),
+        Some(Field::Text(text)) => Key::of_text(alloc, text.as_str()),
+    }
 }

@@ -1,6 +1,7 @@
 //! Keys, names and texts: UTF-8 of a bounded length.
 ghost use Rattle.std.specs.Prelude.{◌≡◌, ◌==◌, IfOk, IfSome, IsSome, ◌↔◌, Some, None, MatchOption, true, false};
 ghost use Rattle.std.specs.Str.{is_utf8};
+ghost use Rattle.std.specs.Fmt.{signed_decimal};
 ghost use Rattle.std.proofs.Common.{rules};
 ghost use Rattle.std.specs.Cmp.{partial_order_from_own_ties};
 ghost use Rattle.std.specs.Cmp.Rules.{comparing};
@@ -84,6 +85,16 @@ impl Key {
         } else {
             Ok(None)
         }
+    }
+}
+
+impl Key {
+    /// The key of a number: its decimal text.
+    pub fn of_number(alloc: Global, number: i64) -> Result<Key, AllocError>
+        ensures { IfOk result (λ k. k ≡ signed_decimal number) }
+    {
+        let text = format!(in alloc; "{number}")?;
+        Ok(Key { text })
     }
 }
 
