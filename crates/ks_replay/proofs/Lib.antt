@@ -7,3 +7,4 @@ mod Commits
 mod Quiet
 mod Inputs
 mod Replays
+mod Written
