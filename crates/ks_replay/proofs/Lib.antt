@@ -7,4 +7,5 @@ mod Commits
 mod Quiet
 mod Inputs
 mod Replays
+mod Keeping
 mod Written

@@ -1,5 +1,6 @@
 //! The history's law. Each law is the contract of a function that does nothing.
 ghost use Rattle.ks_replay.specs.Law.{OfHistories, IsRun, TellsStores, TellsPasts, TellsAll, TellsLists, TellsLate};
+ghost use Rattle.ks_replay.specs.Keeping.{AllKept};
 
 /// A legal, faithful journal commits what one run without a crash does, whatever was aborted, fenced or refused in it: the
 /// steps that its commits name, each taking the first record of its list, leave in the stores the folds of the changelogs,
@@ -11,4 +12,10 @@ pub fn replay_is_run()
     ensures all { OfHistories TellsAll }
     ensures lists { OfHistories TellsLists }
     ensures late { OfHistories TellsLate }
+{}
+
+/// What the tasks keep of records and stores, and what holds of the produced records, holds of every decided record and of
+/// the folds: in this way each record on an internal topic has a key and a value of its kind, and stands where its key belongs.
+pub fn kept_by_tasks()
+    ensures { OfHistories AllKept }
 {}
