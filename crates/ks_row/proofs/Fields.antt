@@ -43,6 +43,12 @@ kept x = Some x
 pub some_is : {A : Type 0} (x y : A) → kept x ≡ kept y → x ≡ y
 some_is x y e = cc
 
+abbrev pair : {A B : Type 0} → A → B → A × B
+pair a b = (a, b)
+
+pub paired : {A B : Type 0} (x y z : A) (u v : B) → x ≡ y → pair y u ≡ pair z v → pair x u ≡ pair z v
+paired x y z u v e f = rw e f
+
 -- what a reader took from the front
 pub record Takes (bytes text rest : List ℕ) : Type 0 where
   pub parts : bytes ≡ text ++ rest

@@ -14,7 +14,9 @@ use Rattle.ks_row.specs.Texts.{IsKey, IsName, IsText, key_of, name_of, text_of, 
 use Rattle.ks_row.specs.Rows.{Member, IsRow, is_row, row_of}
 use Rattle.ks_row.specs.Spelling.{IsBytes, int_bytes, field_bytes, member_bytes, spelling, FitsField, FitsMember, FitsRow}
 use Rattle.ks_row.specs.Reading.{◌>>=◌, bytes_at, number_at, int_at, name_at, field_at, member_at, members_at, row_from}
-use Rattle.ks_row.proofs.Fields.{bind_some, guard_some, test_some, some_is, Takes, Takes-then, IsBytes-rest, wide32, bytes_take, bytes_again, number_takes, number_again, int_takes, int_again}
+use Rattle.ks_row.specs.Codecs.{IsCodec}
+use Rattle.ks_row.proofs.Decoded.{codec_of}
+use Rattle.ks_row.proofs.Fields.{bind_some, guard_some, test_some, some_is, paired, Takes, Takes-then, IsBytes-rest, wide32, bytes_take, bytes_again, number_takes, number_again, int_takes, int_again}
 
 -- ---- keys, names and texts
 
@@ -68,7 +70,7 @@ named_takes (n ∷ bytes) name rest fits e =
     let t = bytes_take n bytes a.0.0 a.0.1 (IsBytes-rest n bytes fits) a.1 in
     let k = name_takes a.0.0 b.0 b.1 in
     let whole : Takes (n ∷ bytes) (length a.0.0 ∷ a.0.0) a.0.1 × IsName a.0.0 = (record { parts = rw t.1 (ap (λ (w : List ℕ). n ∷ w) t.0.parts); rest_fits = t.0.rest_fits }, k.1) in
-    let same : (a.0.0, a.0.1) ≡ (name, rest) = ap (λ (w : List ℕ). (w, a.0.1)) k.0 ∙ some_is (b.0, a.0.1) (name, rest) b.2 in
+    let same : (a.0.0, a.0.1) ≡ (name, rest) = paired a.0.0 b.0 name a.0.1 rest k.0 (some_is (b.0, a.0.1) (name, rest) b.2) in
     subst (λ (x : List ℕ × List ℕ). Takes (n ∷ bytes) (length x.0 ∷ x.0) x.1 × IsName x.0) same whole
 
 named_again : (name rest : List ℕ) → IsName name → name_at (length name ∷ name ++ rest) ≡ Some (name, rest)
@@ -93,7 +95,7 @@ field_takes (suc zero ∷ bytes) f rest fits e =
     let both = Takes-then bytes (to_be_bytes w32 a.0.0) a.0.1 b.0.0 b.0.1 t0.0 t1.0 in
     let sized : Takes bytes (to_be_bytes w32 (length b.0.0) ++ b.0.0) b.0.1 = subst (λ (n : ℕ). Takes bytes (to_be_bytes w32 n ++ b.0.0) b.0.1) (sym t1.1) both in
     let whole : Takes (1 ∷ bytes) (field_bytes (Text b.0.0)) b.0.1 × FitsField (Text b.0.0) = (record { parts = ap (λ (w : List ℕ). 1 ∷ w) sized.parts; rest_fits = sized.rest_fits }, k.1) in
-    let same : (Text b.0.0, b.0.1) ≡ (f, rest) = ap (λ (w : List ℕ). (Text w, b.0.1)) k.0 ∙ some_is (Text d.0, b.0.1) (f, rest) d.2 in
+    let same : (Text b.0.0, b.0.1) ≡ (f, rest) = paired (Text b.0.0) (Text d.0) f b.0.1 rest (ap Text k.0) (some_is (Text d.0, b.0.1) (f, rest) d.2) in
     subst (λ (x : Field × List ℕ). Takes (1 ∷ bytes) (field_bytes x.0) x.1 × FitsField x.0) same whole
 field_takes (suc (suc b) ∷ bytes) f rest fits e = absurd cc
 
@@ -162,5 +164,5 @@ row_again ms fits =
     let rest : members_at (length ms) (flat_map member_bytes ms) ≡ Some (ms, []) = ap (members_at (length ms)) (sym (append-nil (flat_map member_bytes ms))) ∙ members_again ms [] fits.members in
     rw (rest, fits.row) refl
 
-pub one_row : (a b : List Member) → FitsRow a → FitsRow b → spelling a ≡ spelling b → a ≡ b
-one_row a b f g e = some_is a b (sym (row_again a f) ∙ (ap row_from e ∙ row_again b g))
+pub row_codec : IsCodec row_from spelling FitsRow
+row_codec = codec_of row_again row_takes

@@ -4,3 +4,4 @@ pub mod FieldKeys
 pub mod Spelling
 pub mod Reading
 pub mod Parts
+pub mod Codecs

@@ -1,7 +1,8 @@
 //! A row as bytes: each row has one spelling, and no bytes spell two rows.
-ghost use Rattle.std.specs.Prelude.{◌≡◌, ◌++◌, IfOk, IfSome, OnOk, Some, List, ℕ};
+ghost use Rattle.std.specs.Prelude.{◌≡◌, ◌++◌, IfOk, IfSome, OnOk, Some, List};
 ghost use Rattle.ks_row.specs.Rows.{Member};
-ghost use Rattle.ks_row.specs.Spelling.{field_bytes, member_bytes, spelling, FitsField, FitsMember, FitsRow, IsBytes};
+ghost use Rattle.ks_row.specs.Spelling.{field_bytes, member_bytes, spelling, FitsField, FitsMember, FitsRow};
+ghost use Rattle.ks_row.specs.Codecs.{IsCodec};
 ghost use Rattle.ks_row.specs.Reading.{row_from};
 
 use crate::lists::Blob;
@@ -79,8 +80,7 @@ pub fn spelling_is_injective()
     ensures { (a b : List Member) → FitsRow a → FitsRow b → spelling a ≡ spelling b → a ≡ b }
 {}
 
-/// A law: spelling and reading undo one another.
+/// A law: spelling and reading undo one another, over all rows and all bytes.
 pub fn reading_undoes_spelling()
-    ensures again { (ms : List Member) → FitsRow ms → row_from (spelling ms) ≡ Some ms }
-    ensures back { (bytes : List ℕ) → (ms : List Member) → IsBytes bytes → row_from bytes ≡ Some ms → FitsRow ms × (bytes ≡ spelling ms) }
+    ensures { IsCodec row_from spelling FitsRow }
 {}

@@ -1,5 +1,5 @@
-use Rattle.ks_row.proofs.Spelled.{one_row}
+use Rattle.ks_row.proofs.Spelled.{row_codec}
 use Rattle.ks_row.proofs.codec.spelling_is_injective.Goals as goal
 
 pub returns : goal.returns
-returns c = one_row
+returns c = row_codec.one
