@@ -13,7 +13,13 @@ use std::alloc::{AllocError, Global};
 
 /// The record of a line; none where the line isn't in the first form.
 #[tactic(auto, unfolding(crate::specs::Lines::entry_line))]
-fn read_record_line(alloc: Global, cut: bool, number: u64, topic: &str, line: &[u8]) -> Result<Option<Record>, AllocError>
+fn read_record_line(
+    alloc: Global,
+    cut: bool,
+    number: u64,
+    topic: &str,
+    line: &[u8],
+) -> Result<Option<Record>, AllocError>
     ensures entry { IfOk result (λ o. option_map (λ r. entry_seen r) o ≡ entry_line cut number topic.now line.now) }
     ensures few { IfOk result (λ o. IsSome o → number ≤ 250001) }
 {
@@ -38,7 +44,12 @@ fn is_cut(over: bool, next: &[u8]) -> bool
 }
 
 /// The records of the lines after the first, or the number of the first faulty line.
-fn read_records(alloc: Global, over: bool, topic: &str, input: &[u8]) -> Result<Result<Vec<Record>, u64>, AllocError>
+fn read_records(
+    alloc: Global,
+    over: bool,
+    topic: &str,
+    input: &[u8],
+) -> Result<Result<Vec<Record>, u64>, AllocError>
     ensures { IfOk result (λ r. MatchResult r
         (λ v. records_from over 2 topic.now (lines_of input.now) ≡ Ok (entries_seen v.items))
         (λ n. records_from over 2 topic.now (lines_of input.now) ≡ Err n)) }

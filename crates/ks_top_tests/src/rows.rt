@@ -1,4 +1,6 @@
 //! Whole runs: what a job's bytes, the words and the devices' faults give.
+ghost use Rattle.std.specs.Prelude.{◌≡◌, IfOk, length};
+
 use ks_edge::{Gate, MemSink, MemSource, ScriptGate};
 use ks_run::top;
 use std::alloc::{AllocError, Global};
@@ -8,16 +10,20 @@ use std::test::Fail;
 use std::thread::Threads;
 
 // A table of topic `t`, which has one partition.
-const TABLE: &str = "{\"app\":\"a\",\"topics\":{\"t\":1},\"nodes\":[{\"name\":\"x\",\"op\":\"table\",\"topic\":\"t\"}],\"print\":[\"x\"]}\n";
+const TABLE: &str =
+    "{\"app\":\"a\",\"topics\":{\"t\":1},\"nodes\":[{\"name\":\"x\",\"op\":\"table\",\"topic\":\"t\"}],\"print\":[\"x\"]}\n";
 
 // The same, but the topic has the name of the table's own changelog.
-const CHANGELOG: &str = "{\"app\":\"a\",\"topics\":{\"a-x-changelog\":1},\"nodes\":[{\"name\":\"x\",\"op\":\"table\",\"topic\":\"a-x-changelog\"}],\"print\":[\"x\"]}\n";
+const CHANGELOG: &str =
+    "{\"app\":\"a\",\"topics\":{\"a-x-changelog\":1},\"nodes\":[{\"name\":\"x\",\"op\":\"table\",\"topic\":\"a-x-changelog\"}],\"print\":[\"x\"]}\n";
 
 // Two rows for b, the later one counts; a row of a, and its deletion.
-const RECORDS: &str = "{\"topic\":\"t\",\"key\":\"b\",\"value\":{\"n\":1}}\n{\"topic\":\"t\",\"key\":\"a\",\"value\":{\"n\":2}}\n{\"topic\":\"t\",\"key\":\"b\",\"value\":{\"n\":3}}\n{\"topic\":\"t\",\"key\":\"a\",\"value\":null}\n";
+const RECORDS: &str =
+    "{\"topic\":\"t\",\"key\":\"b\",\"value\":{\"n\":1}}\n{\"topic\":\"t\",\"key\":\"a\",\"value\":{\"n\":2}}\n{\"topic\":\"t\",\"key\":\"b\",\"value\":{\"n\":3}}\n{\"topic\":\"t\",\"key\":\"a\",\"value\":null}\n";
 
 // Rows that come out in order of key bytes, with escapes and the members in order.
-const UNSORTED: &str = "{\"value\":{\"b\":-1,\"a\":\"q\\\"\\u000a\"},\"key\":\"z\",\"topic\":\"t\"}\n{\"topic\":\"t\",\"key\":\"Z\",\"value\":{\"n\":0,\"m\":null}}";
+const UNSORTED: &str =
+    "{\"value\":{\"b\":-1,\"a\":\"q\\\"\\u000a\"},\"key\":\"z\",\"topic\":\"t\"}\n{\"topic\":\"t\",\"key\":\"Z\",\"value\":{\"n\":0,\"m\":null}}";
 
 // How the input comes and the output goes: the sizes of the pieces, and the numbers of the takes and puts that fail.
 #[derive(Clone, Copy)]
@@ -36,7 +42,9 @@ struct Run<'a> {
     output: &'a str,
 }
 
-fn gates(alloc: Global) -> Result<Vec<Box<dyn Gate + Send>>, AllocError> {
+fn gates(alloc: Global) -> Result<Vec<Box<dyn Gate + Send>>, AllocError>
+    ensures { IfOk result (λ gates. length gates.items ≡ 16) }
+{
     let mut gates: Vec<Box<dyn Gate + Send>> = Vec::new(alloc);
     for _ in 0..16usize {
         gates.push(Box::new(alloc, ScriptGate::new(Vec::new(alloc), Vec::new(alloc)))?)?;
@@ -60,10 +68,19 @@ fn joined(alloc: Global, pieces: &[&str]) -> Result<Vec<u8>, AllocError> {
     Ok(bytes)
 }
 
-fn expect<R: Threads + Wait + Sync + Abort>(rt: &R, alloc: Global, run: &Run, devices: &Devices) -> Result<(), Fail> {
+fn expect<R: Threads + Wait + Sync + Abort>(
+    rt: &R,
+    alloc: Global,
+    run: &Run,
+    devices: &Devices,
+) -> Result<(), Fail> {
     let words = texts(alloc, run.words)?;
     let bytes = joined(alloc, run.input)?;
-    let mut input = MemSource::new(bytes, devices.sizes.to_vec(alloc)?, devices.takes.to_vec(alloc)?);
+    let mut input = MemSource::new(
+        bytes,
+        devices.sizes.to_vec(alloc)?,
+        devices.takes.to_vec(alloc)?,
+    );
     let mut out = MemSink::new(alloc, devices.puts.to_vec(alloc)?);
     let status = top(rt, alloc, &words, &mut input, &mut out, gates(alloc)?);
     assert_eq!(rt; status, run.status);
@@ -72,11 +89,23 @@ fn expect<R: Threads + Wait + Sync + Abort>(rt: &R, alloc: Global, run: &Run, de
 }
 
 // The run with the source whole, and cut into single bytes.
-fn expect_at_any_cut<R: Threads + Wait + Sync + Abort>(rt: &R, alloc: Global, run: &Run) -> Result<(), Fail> {
-    let whole = Devices { sizes: &[], takes: &[], puts: &[] };
+fn expect_at_any_cut<R: Threads + Wait + Sync + Abort>(
+    rt: &R,
+    alloc: Global,
+    run: &Run,
+) -> Result<(), Fail> {
+    let whole = Devices {
+        sizes: &[],
+        takes: &[],
+        puts: &[],
+    };
     expect(rt, alloc, run, &whole)?;
     let bytes = [1; 1000];
-    let single = Devices { sizes: &bytes, takes: &[], puts: &[] };
+    let single = Devices {
+        sizes: &bytes,
+        takes: &[],
+        puts: &[],
+    };
     expect(rt, alloc, run, &single)
 }
 
@@ -86,9 +115,21 @@ fn settled(rt: HostRuntime) -> Result<(), Fail> {
     for (input, output) in [
         ([TABLE, RECORDS], "settled\ntable x 1\n[\"b\",{\"n\":3}]\n"),
         ([TABLE, ""], "settled\ntable x 0\n"),
-        ([TABLE, UNSORTED], "settled\ntable x 2\n[\"Z\",{\"n\":0}]\n[\"z\",{\"a\":\"q\\\"\\n\",\"b\":-1}]\n"),
+        (
+            [TABLE, UNSORTED],
+            "settled\ntable x 2\n[\"Z\",{\"n\":0}]\n[\"z\",{\"a\":\"q\\\"\\n\",\"b\":-1}]\n",
+        ),
     ] {
-        expect_at_any_cut(&rt, rt.alloc(), &Run { words: &run, input: &input, status: 0, output })?;
+        expect_at_any_cut(
+            &rt,
+            rt.alloc(),
+            &Run {
+                words: &run,
+                input: &input,
+                status: 0,
+                output,
+            },
+        )?;
     }
     Ok(())
 }
@@ -100,21 +141,62 @@ fn bad_jobs(rt: HostRuntime) -> Result<(), Fail> {
         (["", ""], "bad job line 1: 0 NotBuilt\n"),
         ([CHANGELOG, ""], "bad job line 1: 0 NotBuilt\n"),
         ([TABLE, "\n"], "bad job line 2: 0 NotBuilt\n"),
-        ([TABLE, "{\"topic\":\"t\",\"key\":\"a\",\"value\":null}\n{\"topic\":\"t\",\"key\":\"a"], "bad job line 3: 0 NotBuilt\n"),
+        (
+            [
+                TABLE,
+                "{\"topic\":\"t\",\"key\":\"a\",\"value\":null}\n{\"topic\":\"t\",\"key\":\"a",
+            ],
+            "bad job line 3: 0 NotBuilt\n",
+        ),
     ] {
-        expect_at_any_cut(&rt, rt.alloc(), &Run { words: &run, input: &input, status: 2, output })?;
+        expect_at_any_cut(
+            &rt,
+            rt.alloc(),
+            &Run {
+                words: &run,
+                input: &input,
+                status: 2,
+                output,
+            },
+        )?;
     }
     Ok(())
 }
 
 #[test]
 fn bad_words(rt: HostRuntime) -> Result<(), Fail> {
-    let none: [&str; 0] = [];
-    let words = [["run", "--threads", "5"].as_slice(), ["load"].as_slice(), none.as_slice()];
-    for words in words {
-        expect_at_any_cut(&rt, rt.alloc(), &Run { words, input: &[TABLE, RECORDS], status: 1, output: "bad words\n" })?;
-    }
-    Ok(())
+    let input = [TABLE, RECORDS];
+    let output = "bad words\n";
+    expect_at_any_cut(
+        &rt,
+        rt.alloc(),
+        &Run {
+            words: &[],
+            input: &input,
+            status: 1,
+            output,
+        },
+    )?;
+    expect_at_any_cut(
+        &rt,
+        rt.alloc(),
+        &Run {
+            words: &["load"],
+            input: &input,
+            status: 1,
+            output,
+        },
+    )?;
+    expect_at_any_cut(
+        &rt,
+        rt.alloc(),
+        &Run {
+            words: &["run", "--threads", "5"],
+            input: &input,
+            status: 1,
+            output,
+        },
+    )
 }
 
 #[test]
@@ -122,8 +204,36 @@ fn faults(rt: HostRuntime) -> Result<(), Fail> {
     let run = ["run"];
     let input = [TABLE, RECORDS];
     let after_table = [TABLE.len()];
-    let read = Run { words: &run, input: &input, status: 6, output: "read fault\n" };
-    expect(&rt, rt.alloc(), &read, &Devices { sizes: &after_table, takes: &[1], puts: &[] })?;
-    let write = Run { words: &run, input: &input, status: 7, output: "" };
-    expect(&rt, rt.alloc(), &write, &Devices { sizes: &[], takes: &[], puts: &[0] })
+    let read = Run {
+        words: &run,
+        input: &input,
+        status: 6,
+        output: "read fault\n",
+    };
+    expect(
+        &rt,
+        rt.alloc(),
+        &read,
+        &Devices {
+            sizes: &after_table,
+            takes: &[1],
+            puts: &[],
+        },
+    )?;
+    let write = Run {
+        words: &run,
+        input: &input,
+        status: 7,
+        output: "",
+    };
+    expect(
+        &rt,
+        rt.alloc(),
+        &write,
+        &Devices {
+            sizes: &[],
+            takes: &[],
+            puts: &[0],
+        },
+    )
 }

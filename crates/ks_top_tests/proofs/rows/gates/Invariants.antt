@@ -3,4 +3,4 @@ use Rattle.ks_top_tests.proofs.rows.gates.Given as goal
 
 -- one gate for each turn so far
 abbrev pub invariant-loop : goal.invariant-loop
-invariant-loop l = length l.gates.items ≡ l.counter
+invariant-loop g l = length l.gates.items ≡ l.counter
