@@ -5,5 +5,6 @@ pub mod Step
 pub mod Faithful
 pub mod History
 pub mod Reads
+pub mod Settled
 pub mod Follows
 pub mod Replay

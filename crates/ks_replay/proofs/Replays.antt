@@ -1,5 +1,5 @@
 -- What a legal, faithful journal commits is one run.
-use Rattle.std.proofs.Common.{◌≡◌, ◌≢◌, ℕ, ◌+◌, Bool, true, false, cond, ◌⊎◌, inr, List, [], ◌∷◌, ◌++◌, fold, map, Option, Some, None, refl, sym, ap, ap₂, subst, ◌∙◌, arith, append_assoc, append-nil, ⊎_elim}
+use Rattle.std.proofs.Common.{length, ◌≡◌, ◌≢◌, ℕ, ◌+◌, Bool, true, false, cond, ◌⊎◌, inr, List, [], ◌∷◌, ◌++◌, fold, map, Option, Some, None, refl, sym, ap, ap₂, subst, ◌∙◌, arith, append_assoc, append-nil, ⊎_elim}
 use Rattle.std.specs.Prelude.{◌==◌}
 use Rattle.std.proofs.lemmas.List.Sums.{fold-append}
 use Rattle.std.proofs.lemmas.Bool.{eqb-true, eq-eqb, true≢false, or_cases, or_left, or_right}
@@ -23,19 +23,19 @@ use Rattle.ks_network.specs.Run.{Machine, RunState, Taken, advance, channel, Tak
 use Rattle.ks_network.proofs.Takes.{fed_later}
 use Rattle.ks_history.specs.Faithful.{decided, marker_among, waiting_at, markers_of, IsFaithful}
 use Rattle.ks_history.specs.History.{state_after, at, Each, IsStep, IsFaithfulEntry, IsHistory, Meets, CommitsFaithfully}
-use Rattle.ks_history.specs.Machine.{Stores, network, part_of, has_topic, IsNetwork}
-use Rattle.ks_history.specs.Partition.{is_commit, sent_slots, recs}
+use Rattle.ks_history.specs.Machine.{reader_of, Stores, network, part_of, has_topic, IsNetwork}
+use Rattle.ks_history.specs.Partition.{is_commit, sent_slots, recs, by_sender, past_from}
 use Rattle.ks_history.specs.Replay.{takes_of, takes_by, replayed, produced_by, produced}
 use Rattle.ks_history.specs.State.{State, Setup, start, with_number, grown, insert_part, has_part, has_task, with_pending, without_number}
 use Rattle.ks_history.specs.Step.{markers_for, refusal, effect, state_by, pending_at, fenced, none_undecided, or_else, without_part, markers_waiting, old_generation, not_assigned, unstable_beside, renewed, can_expire, closed, tx_of}
 use Rattle.ks_history.proofs.Names.{has_names, same_task-refl}
-use Rattle.ks_replay.specs.Law.{OfHistories, IsRun, TellsStores, TellsAll, TellsPasts, TellsLists, TellsLate}
+use Rattle.ks_replay.specs.Law.{OfHistories, IsRun, TellsStores, TellsAll, TellsPasts, TellsLists, TellsLate, SettledIsEmpty}
 use Rattle.ks_replay.proofs.Stores.{only_sender}
 use Rattle.ks_replay.proofs.Commits.{took, shows_after, sound_after}
 use Rattle.ks_replay.proofs.Inputs.{replayed-topics}
 use Rattle.ks_replay.proofs.Order.{Distinct-with}
 use Rattle.ks_replay.proofs.Quiet.{Quiet, quiet_shows, quiet_sound, produce_shows, produce_sound, start_sound, producer_quiet, slots_quiet, mark_quiet, abort_goes, grow_goes, aborted_waiting, none_waiting, tx_pending, tx_is, has_part-insert, at_number}
-use Rattle.ks_replay.proofs.Slots.{next_mark-sent, decided-sent, Open-sent}
+use Rattle.ks_replay.proofs.Slots.{next_mark-sent, decided-sent, Open-sent, decided_below}
 use Rattle.ks_replay.proofs.Sound.{IsOfTx, Owned, Distinct, Shows, Sound}
 
 module _ {Task Place Store Item : Type 0} (m : Machine Task Place Store Item) where
@@ -358,3 +358,14 @@ tells_lists setup journal net history = (whole setup net journal history).shows.
 
 pub tells_late : OfHistories TellsLate
 tells_late setup journal net history = (whole setup net journal history).shows.late
+
+-- ---- settled
+pub settled_is_empty : OfHistories SettledIsEmpty
+settled_is_empty setup journal net history settled r t topic there reads =
+    let s : State = at setup journal in
+    let q : PartId = part_of topic t in
+    let reader : reader_of setup.plan q ≡ t = λ i. record { sub = net.one_reader t.sub topic reads i; part = t.part } in
+    tells_lists setup journal net history r q
+    ∙ ap (λ u. recs (by_sender r (past_from (s.committed u topic) (decided s q)))) reader
+    ∙ ap (λ n. recs (by_sender r (past_from n (decided s q)))) (settled.committed t topic there reads)
+    ∙ ap (λ l. recs (by_sender r l)) (decided_below (waiting_at (markers_of s) q) (length (s.partition q)) 0 (s.partition q) (omega arith))

@@ -378,3 +378,32 @@ past_below low (x ∷ xs) = ⊎_elim
 
 pub nothing_between : (low high : ℕ) (xs : List Logged) → high ≡ low → past_from low (below high xs) ≡ []
 nothing_between low high xs e = ap (λ k. past_from low (below k xs)) e ∙ past_below low xs
+
+-- nothing stands at or past the end
+pub decided_below : (waiting : Waiting) (low at : ℕ) (slots : List Slot) → at + length slots ≤ low → past_from low (decided_from waiting at slots) ≡ []
+decided_below waiting low at [] h = refl
+decided_below waiting low at (Plain rec ∷ slots) h = past_out low _ _ (omega (arith, h)) ∙ decided_below waiting low (at + 1) slots (omega (arith, h))
+decided_below waiting low at (Sent w e number task rec ∷ slots) h = by (is_commit (decision (next_mark w e slots) (waiting w e))) (decided_below waiting low (at + 1) slots (omega (arith, h)))
+  where
+    by : (b : Bool) → past_from low (decided_from waiting (at + 1) slots) ≡ [] → past_from low (cond b (record { offset = at; sender = Some task; rec = rec } ∷ decided_from waiting (at + 1) slots) (decided_from waiting (at + 1) slots)) ≡ []
+    by true e = past_out low _ _ (omega (arith, h)) ∙ e
+    by false e = e
+decided_below waiting low at (Mark w e commit ∷ slots) h = decided_below waiting low (at + 1) slots (omega (arith, h))
+
+-- what is readable stands below the stable offset
+readable_below : (high at : ℕ) (slots : List Slot) → at + stable slots ≡ high → below high (readable_from at slots) ≡ readable_from at slots
+readable_below high at [] h = refl
+readable_below high at (Plain rec ∷ slots) h = below_in high _ _ (omega (arith, h)) ∙ ap (λ l. record { offset = at; sender = None; rec = rec } ∷ l) (readable_below high (at + 1) slots (omega (arith, h)))
+readable_below high at (Sent w e number task rec ∷ slots) h = by (next_mark w e slots) h (λ g. readable_below high (at + 1) slots g)
+  where
+    by : (d : Option Bool) → at + by_mark d 0 (suc (stable slots)) (suc (stable slots)) ≡ high
+        → ((at + 1) + stable slots ≡ high → below high (readable_from (at + 1) slots) ≡ readable_from (at + 1) slots)
+        → below high (by_mark d [] (record { offset = at; sender = Some task; rec = rec } ∷ readable_from (at + 1) slots) (readable_from (at + 1) slots))
+        ≡ by_mark d [] (record { offset = at; sender = Some task; rec = rec } ∷ readable_from (at + 1) slots) (readable_from (at + 1) slots)
+    by None h f = refl
+    by (Some true) h f = below_in high _ _ (omega (arith, h)) ∙ ap (λ l. record { offset = at; sender = Some task; rec = rec } ∷ l) (f (omega (arith, h)))
+    by (Some false) h f = f (omega (arith, h))
+readable_below high at (Mark w e commit ∷ slots) h = readable_below high (at + 1) slots (omega (arith, h))
+
+pub readable_is : (waiting : Waiting) (slots : List Slot) → readable_from 0 slots ≡ below (stable slots) (decided_from waiting 0 slots)
+readable_is waiting slots = sym (readable_below (stable slots) 0 slots (omega arith)) ∙ readable_decided waiting (stable slots) 0 slots (omega arith)

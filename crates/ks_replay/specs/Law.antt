@@ -4,11 +4,12 @@ use Rattle.ks_row.specs.declared.record.PartId.{PartId}
 use Rattle.ks_row.specs.declared.record.TaskId.{TaskId}
 use Rattle.ks_network.specs.Run.{initial, TakesEach}
 use Rattle.ks_history.specs.declared.journal.Entry.{Entry}
-use Rattle.ks_history.specs.Partition.{recs, by_sender, past_from}
+use Rattle.ks_history.specs.Partition.{recs, by_sender, past_from, below, readable, stable}
 use Rattle.ks_history.specs.Machine.{Plan, IsNetwork, network, reader_of, part_of, has_topic}
-use Rattle.ks_history.specs.State.{Setup, start}
+use Rattle.ks_history.specs.State.{State, Setup, start, has_task}
 use Rattle.ks_history.specs.Faithful.{decided, folds, capped}
 use Rattle.ks_history.specs.History.{at, IsHistory}
+use Rattle.ks_history.specs.Settled.{IsSettled}
 use Rattle.ks_history.specs.Replay.{replayed, replay, produced, run_of}
 
 -- what holds of every legal, faithful journal over tasks that make a network
@@ -52,3 +53,12 @@ TellsLists setup journal = (r : Option TaskId) (q : PartId) →
 -- the committed late total is the run's late count, which stops at the greatest u64
 abbrev pub TellsLate : Setup → List Entry → Type 0
 TellsLate setup journal = (at setup journal).late ≡ capped (run_of setup journal).late
+
+-- in a settled cluster nothing waits in the lists of what the tasks read
+abbrev pub SettledIsEmpty : Setup → List Entry → Type 0
+SettledIsEmpty setup journal = IsSettled setup (at setup journal) → (r : Option TaskId) (t : TaskId) (topic : ℕ) →
+    has_task t setup.tasks ≡ true → has_topic topic (setup.plan.inputs t.sub) ≡ true → (run_of setup journal).waiting r (part_of topic t) ≡ []
+
+-- what is readable is what is decided below the stable offset, however the markers that wait decide
+abbrev pub ReadableIsDecided : Type 0
+ReadableIsDecided = (s : State) (p : PartId) → readable (s.partition p) ≡ below (stable (s.partition p)) (decided s p)

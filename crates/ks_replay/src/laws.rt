@@ -1,5 +1,5 @@
 //! The history's law. Each law is the contract of a function that does nothing.
-ghost use Rattle.ks_replay.specs.Law.{OfHistories, IsRun, TellsStores, TellsPasts, TellsAll, TellsLists, TellsLate};
+ghost use Rattle.ks_replay.specs.Law.{OfHistories, IsRun, TellsStores, TellsPasts, TellsAll, TellsLists, TellsLate, SettledIsEmpty, ReadableIsDecided};
 ghost use Rattle.ks_replay.specs.Keeping.{AllKept};
 
 /// A legal, faithful journal commits what one run without a crash does, whatever was aborted, fenced or refused in it: the
@@ -18,4 +18,14 @@ pub fn replay_is_run()
 /// the folds: in this way each record on an internal topic has a key and a value of its kind, and stands where its key belongs.
 pub fn kept_by_tasks()
     ensures { OfHistories AllKept }
+{}
+
+/// A settled cluster is at rest: nothing waits in the lists of what its tasks read.
+pub fn settled_is_empty()
+    ensures { OfHistories SettledIsEmpty }
+{}
+
+/// A reader of committed records gets what is decided below the stable offset, neither more nor less.
+pub fn readable_is_decided()
+    ensures { ReadableIsDecided }
 {}
