@@ -64,13 +64,16 @@ time_bytes t = to_be_bytes w64 t
 
 -- ---- what has a spelling
 
+abbrev pub FitsHash : Option ℕ → Type 0
+FitsHash hash = IfSome hash (λ h. h < 2 ^ 128)
+
 pub record FitsSubscription (s : SubscriptionValue) : Type 0 where
-  pub hash : IfSome s.hash (λ h. h < 2 ^ 128)
+  pub hash : FitsHash s.hash
   pub instruction : s.instruction ≤ 3
   pub left : IsKey s.left
 
 pub record FitsResponse (r : Response) : Type 0 where
-  pub hash : IfSome r.hash (λ h. h < 2 ^ 128)
+  pub hash : FitsHash r.hash
   pub right : IfSome r.right FitsRow
 
 abbrev pub FitsDelta : Delta → Type 0
@@ -79,3 +82,11 @@ FitsDelta d = FitsSigned w64 d.amount
 pub record FitsAgg (a : Agg) : Type 0 where
   pub members : FitsSigned w64 a.members
   pub total : FitsSigned w64 a.total
+
+-- a foreign key and a left key
+abbrev pub FitsKeys : List ℕ × List ℕ → Type 0
+FitsKeys p = IsKey p.0 × IsKey p.1
+
+-- a key and the start of a window
+abbrev pub FitsWindow : List ℕ × ℕ → Type 0
+FitsWindow p = IsKey p.0 × (p.1 < 2 ^ 64)

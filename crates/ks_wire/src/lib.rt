@@ -3,5 +3,10 @@
 
 mod reading;
 mod values;
+mod writing;
 
 pub use values::{Agg, Delta, Response, Subscription};
+pub use writing::{
+    write_agg, write_delta, write_hash, write_response, write_subscription, write_subscription_key,
+    write_time, write_window_key,
+};
