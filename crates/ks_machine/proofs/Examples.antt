@@ -1,24 +1,26 @@
--- Worked rows, computed: the query, and the machine drained.
-use Rattle.ks_wire.specs.declared.values.Agg.{Agg}
-use Rattle.std.proofs.Common.{◌≡◌, ℕ, ◌++◌, ◌+◌, ◌*◌, List, [], ◌∷◌, Option, Some, None, refl, fold}
+-- Worked examples, computed: what the query gives, and what the machine leaves in three orders of choices, with nothing waiting.
+use Rattle.std.proofs.Common.{◌≡◌, ℕ, ◌++◌, ◌+◌, ◌*◌, List, [], ◌∷◌, Option, Some, None, refl, fold, map}
 use Rattle.std.specs.Prelude.{ℤ, pos, negsuc, codes, unsigned_abs}
 use Rattle.ks_row.specs.declared.row.Field.{Field}
 use Rattle.ks_row.specs.declared.row.Field.TheVariants.{Int, Text}
+use Rattle.ks_row.specs.declared.record.TaskId.{TaskId}
 use Rattle.ks_expr.specs.declared.terms.JoinKind.{JoinKind}
 use Rattle.ks_expr.specs.declared.terms.JoinKind.TheVariants.{Inner, Left as LeftJoin, Outer}
 use Rattle.ks_expr.specs.Terms.Term.{LeftOf, RightOf, FieldOf, Number}
 use Rattle.ks_expr.specs.Terms.Test.{IsLess}
 use Rattle.ks_expr.specs.Eval.{Row}
-use Rattle.ks_query.specs.Streams.{Key}
-use Rattle.ks_topo.specs.Drafts.{DraftView, StreamOf, TableOf, FilterOf, KeyOf, CountOf, SumOf, WindowedOf, JoinOf, FkJoinOf}
+use Rattle.ks_topo.specs.Drafts.{DraftView, NodeView, StreamOf, TableOf, FilterOf, KeyOf, CountOf, SumOf, WindowedOf, JoinOf, FkJoinOf}
 use Rattle.ks_topo.specs.Plan.{plan_of}
 use Rattle.ks_topo.specs.Layout.{sub_count}
-use Rattle.ks_map.specs.FinMap as map
+use Rattle.ks_map.specs.FinMap as fin
+use Rattle.ks_network.specs.Run.{RunState}
+use Rattle.ks_query.specs.Streams.{Key, Input}
+use Rattle.ks_query.specs.Windows.{WindowKey}
 use Rattle.ks_query.specs.Query.{query}
-use Rattle.ks_query.specs.Streams.{Input}
-use Rattle.ks_machine.specs.Messages.{Rules}
-use Rattle.ks_machine.specs.Drain.{drained, rows_of}
+use Rattle.ks_machine.specs.Messages.{Place, Item, Store, Rules}
+use Rattle.ks_machine.specs.Drain.{by_lists, by_rounds, by_rounds_back, run_by, waiting_in, rows_of, window_rows_of}
 
+-- ---- small rules for small runs: all keys in one partition, and rows' hashes by a polynomial
 abbrev pub number_in : Field → ℕ
 number_in (Int z) = unsigned_abs z
 number_in (Text s) = fold (λ h b. h * 257 + b) 3 s
@@ -32,27 +34,44 @@ put_row t k row = record { topic = t; key = Some k; value = Some row; time = 0 }
 abbrev pub delete : ℕ → Key → Input
 delete t k = record { topic = t; key = Some k; value = None; time = 0 }
 
+-- the states after three orders
+abbrev pub ends : DraftView → List Input → ℕ → List (RunState TaskId Place Store Item)
+ends d records n =
+    let p = plan_of d in
+    run_by one_part p records (by_lists p n) ∷ run_by one_part p records (by_rounds p n) ∷ run_by one_part p records (by_rounds_back p n) ∷ []
+
+abbrev pub three : {A : Type 0} → A → List A
+three x = x ∷ x ∷ x ∷ []
+
+-- a table after each, and what waits
+abbrev pub ran : DraftView → List Input → ℕ → ℕ → List (List (Key × Row) × List Item)
+ran d records n node = map (λ st. (rows_of (plan_of d) st node, waiting_in (plan_of d) st)) (ends d records n)
+
+abbrev pub asked : DraftView → List Input → ℕ → List (Key × Row)
+asked d records node = fin.entries ((query (plan_of d) records).tables node)
+
+-- the query and the three runs give these rows, and nothing waits
+abbrev pub Gives : DraftView → List Input → ℕ → ℕ → List (Key × Row) → Type 0
+Gives d records n node rows = (asked d records node ≡ rows) × (ran d records n node ≡ three (rows, []))
+
+-- ---- one table: deletions, and the last row of a key
 abbrev n_is : ℕ → Row
 n_is n = (codes "n", Int (pos n)) ∷ []
 
--- row 1
-abbrev draft_a : DraftView
-draft_a = record { app = codes "a"; topics = (codes "t", pos 1) ∷ []; nodes = record { name = codes "x"; op = TableOf (codes "t") } ∷ []; print = codes "x" ∷ [] }
+abbrev one_topic : List NodeView → DraftView
+one_topic nodes = record { app = codes "a"; topics = (codes "t", pos 1) ∷ []; nodes = nodes; print = [] }
 
-abbrev records_1 : List Input
-records_1 = put_row 0 (codes "b") (n_is 1) ∷ put_row 0 (codes "a") (n_is 2) ∷ put_row 0 (codes "b") (n_is 3) ∷ delete 0 (codes "a") ∷ []
+abbrev one_table : DraftView
+one_table = one_topic (record { name = codes "x"; op = TableOf (codes "t") } ∷ [])
 
-row_1_query : map.entries ((query (plan_of draft_a) records_1).tables 0) ≡ (codes "b", n_is 3) ∷ []
-unfolding map.entries map.empty map.get map.insert map.retain_keys map.remove map.checked
-row_1_query = refl
+table_rows : Gives one_table (put_row 0 (codes "b") (n_is 1) ∷ put_row 0 (codes "a") (n_is 2) ∷ put_row 0 (codes "b") (n_is 3) ∷ delete 0 (codes "a") ∷ []) 5 0
+    ((codes "b", n_is 3) ∷ [])
+unfolding fin.entries fin.empty fin.get fin.insert fin.retain_keys fin.remove fin.checked
+table_rows = (refl, refl)
 
-row_1_run : rows_of (plan_of draft_a) (drained one_part (plan_of draft_a) records_1 5) 0 ≡ (codes "b", n_is 3) ∷ []
-unfolding map.entries map.empty map.get map.insert map.retain_keys map.remove map.checked
-row_1_run = refl
-
--- rows 4 to 8: customers is topic 0, orders topic 1; nodes o 0, c 1, e 2
-abbrev draft_b : JoinKind → DraftView
-draft_b kind = record {
+-- ---- orders joined with their customers: customers is topic 0, orders topic 1; nodes o 0, c 1, e 2
+abbrev orders : JoinKind → DraftView
+orders kind = record {
   app = codes "s";
   topics = (codes "customers", pos 1) ∷ (codes "orders", pos 1) ∷ [];
   nodes = record { name = codes "o"; op = TableOf (codes "orders") } ∷ record { name = codes "c"; op = TableOf (codes "customers") }
@@ -60,8 +79,11 @@ draft_b kind = record {
   print = codes "e" ∷ [];
 }
 
+abbrev pub order_row : ℕ → Key → Row
+order_row a c = (codes "amt", Int (pos a)) ∷ (codes "cust", Text c) ∷ []
+
 abbrev pub order : Key → Key → ℕ → Input
-order k c a = put_row 1 k ((codes "amt", Int (pos a)) ∷ (codes "cust", Text c) ∷ [])
+order k c a = put_row 1 k (order_row a c)
 
 abbrev pub customer : Key → Key → Input
 customer k r = put_row 0 k ((codes "region", Text r) ∷ [])
@@ -69,181 +91,130 @@ customer k r = put_row 0 k ((codes "region", Text r) ∷ [])
 abbrev pub result : ℕ → Key → Row
 result a r = (codes "amt", Int (pos a)) ∷ (codes "region", Text r) ∷ []
 
-abbrev by_query : JoinKind → List Input → List (Key × Row)
-by_query kind records = map.entries ((query (plan_of (draft_b kind)) records).tables 2)
+-- the customer comes after the order
+late_customer : Gives (orders Inner) (order (codes "o1") (codes "c1") 5 ∷ customer (codes "c1") (codes "eu") ∷ []) 6 2 ((codes "o1", result 5 (codes "eu")) ∷ [])
+unfolding fin.entries fin.empty fin.get fin.insert fin.retain_keys fin.remove fin.checked
+late_customer = (refl, refl)
 
-abbrev by_run : JoinKind → List Input → List (Key × Row)
-by_run kind records = rows_of (plan_of (draft_b kind)) (drained one_part (plan_of (draft_b kind)) records 6) 2
+-- an order moves to another customer
+abbrev moving : List Input
+moving = customer (codes "c1") (codes "eu") ∷ customer (codes "c2") (codes "us") ∷ order (codes "o1") (codes "c1") 5 ∷ order (codes "o1") (codes "c2") 5 ∷ []
 
-abbrev records_4 : List Input
-records_4 = order (codes "o1") (codes "c1") 5 ∷ customer (codes "c1") (codes "eu") ∷ []
+moved_order : Gives (orders Inner) moving 8 2 ((codes "o1", result 5 (codes "us")) ∷ [])
+unfolding fin.entries fin.empty fin.get fin.insert fin.retain_keys fin.remove fin.checked
+moved_order = (refl, refl)
 
-row_4 : record { asked : by_query Inner records_4 ≡ (codes "o1", result 5 (codes "eu")) ∷ []; ran : by_run Inner records_4 ≡ (codes "o1", result 5 (codes "eu")) ∷ [] }
-unfolding map.entries map.empty map.get map.insert map.retain_keys map.remove map.checked
-row_4 = record { asked = refl; ran = refl }
+-- and of the subscription store, the order under its new customer alone is left
+abbrev hashes_at : RunState TaskId Place Store Item → Key → List (Key × ℕ)
+hashes_at st b = fin.entries ((st.stores (record { sub = 1; part = 0 })).hashes 2 b)
 
-abbrev records_5 : List Input
-records_5 = customer (codes "c1") (codes "eu") ∷ customer (codes "c2") (codes "us") ∷ order (codes "o1") (codes "c1") 5 ∷ order (codes "o1") (codes "c2") 5 ∷ []
+moved_hashes : map {B = List (Key × ℕ) × List (Key × ℕ)} (λ st. (hashes_at st (codes "c1"), hashes_at st (codes "c2"))) (ends (orders Inner) moving 8)
+    ≡ three ([], (codes "o1", one_part.hash (order_row 5 (codes "c2"))) ∷ [])
+unfolding fin.entries fin.empty fin.get fin.insert fin.retain_keys fin.remove fin.checked
+moved_hashes = refl
 
-row_5 : record { asked : by_query Inner records_5 ≡ (codes "o1", result 5 (codes "us")) ∷ []; ran : by_run Inner records_5 ≡ (codes "o1", result 5 (codes "us")) ∷ [] }
-unfolding map.entries map.empty map.get map.insert map.retain_keys map.remove map.checked
-row_5 = record { asked = refl; ran = refl }
+-- the customer goes: of an inner join the result too, of a left one its left part stays
+abbrev going : List Input
+going = customer (codes "c1") (codes "eu") ∷ order (codes "o1") (codes "c1") 5 ∷ delete 0 (codes "c1") ∷ []
 
--- of the subscription store, o1 under c2 alone is left
-abbrev hashes_after_5 : Key → List (Key × ℕ)
-hashes_after_5 b = map.entries (((drained one_part (plan_of (draft_b Inner)) records_5 6).stores (record { sub = 1; part = 0 })).hashes 2 b)
+gone_inner : Gives (orders Inner) going 6 2 []
+unfolding fin.entries fin.empty fin.get fin.insert fin.retain_keys fin.remove fin.checked
+gone_inner = (refl, refl)
 
-abbrev amount_and_customer : ℕ → Key → Row
-amount_and_customer a c = (codes "amt", Int (pos a)) ∷ (codes "cust", Text c) ∷ []
+gone_left : Gives (orders LeftJoin) going 6 2 ((codes "o1", (codes "amt", Int (pos 5)) ∷ []) ∷ [])
+unfolding fin.entries fin.empty fin.get fin.insert fin.retain_keys fin.remove fin.checked
+gone_left = (refl, refl)
 
-row_5_store : record {
-  left : hashes_after_5 (codes "c1") ≡ [];
-  kept : hashes_after_5 (codes "c2") ≡ (codes "o1", one_part.hash (amount_and_customer 5 (codes "c2"))) ∷ [];
-}
-unfolding map.entries map.empty map.get map.insert map.retain_keys map.remove map.checked
-row_5_store = record { left = refl; kept = refl }
+-- an order goes, and comes back with an unknown customer
+returned : Gives (orders Inner) (customer (codes "c1") (codes "eu") ∷ order (codes "o1") (codes "c1") 5 ∷ delete 1 (codes "o1") ∷ order (codes "o1") (codes "c2") 5 ∷ []) 8 2 []
+unfolding fin.entries fin.empty fin.get fin.insert fin.retain_keys fin.remove fin.checked
+returned = (refl, refl)
 
-abbrev records_7 : List Input
-records_7 = customer (codes "c1") (codes "eu") ∷ order (codes "o1") (codes "c1") 5 ∷ delete 1 (codes "o1") ∷ order (codes "o1") (codes "c2") 5 ∷ []
+-- an order goes to an unknown customer and back, while its first customer changes
+moved_back : Gives (orders Inner)
+    (customer (codes "c1") (codes "eu") ∷ order (codes "o1") (codes "c1") 5 ∷ order (codes "o1") (codes "c2") 5 ∷ customer (codes "c1") (codes "us") ∷ order (codes "o1") (codes "c1") 5 ∷ []) 9 2
+    ((codes "o1", result 5 (codes "us")) ∷ [])
+unfolding fin.entries fin.empty fin.get fin.insert fin.retain_keys fin.remove fin.checked
+moved_back = (refl, refl)
 
-row_7 : record { asked : by_query Inner records_7 ≡ []; ran : by_run Inner records_7 ≡ [] }
-unfolding map.entries map.empty map.get map.insert map.retain_keys map.remove map.checked
-row_7 = record { asked = refl; ran = refl }
-
-abbrev records_6 : List Input
-records_6 = customer (codes "c1") (codes "eu") ∷ order (codes "o1") (codes "c1") 5 ∷ delete 0 (codes "c1") ∷ []
-
-row_6 : record {
-  asked : by_query Inner records_6 ≡ [];
-  ran : by_run Inner records_6 ≡ [];
-  asked_left : by_query LeftJoin records_6 ≡ (codes "o1", (codes "amt", Int (pos 5)) ∷ []) ∷ [];
-  ran_left : by_run LeftJoin records_6 ≡ (codes "o1", (codes "amt", Int (pos 5)) ∷ []) ∷ [];
-}
-unfolding map.entries map.empty map.get map.insert map.retain_keys map.remove map.checked
-row_6 = record { asked = refl; ran = refl; asked_left = refl; ran_left = refl }
-
-abbrev records_8 : List Input
-records_8 = customer (codes "c1") (codes "eu") ∷ order (codes "o1") (codes "c1") 5 ∷ order (codes "o1") (codes "c2") 5 ∷ customer (codes "c1") (codes "us") ∷ order (codes "o1") (codes "c1") 5 ∷ []
-
-row_8 : record { asked : by_query Inner records_8 ≡ (codes "o1", result 5 (codes "us")) ∷ []; ran : by_run Inner records_8 ≡ (codes "o1", result 5 (codes "us")) ∷ [] }
-unfolding map.entries map.empty map.get map.insert map.retain_keys map.remove map.checked
-row_8 = record { asked = refl; ran = refl }
-
--- row 9: x 0, g 1
-abbrev draft_g : DraftView
-draft_g = record {
-  app = codes "a";
-  topics = (codes "t", pos 1) ∷ [];
-  nodes = record { name = codes "x"; op = TableOf (codes "t") } ∷ record { name = codes "g"; op = CountOf (codes "x") (Some (codes "r")) } ∷ [];
-  print = codes "g" ∷ [];
-}
+-- ---- a count of a table: x 0, g 1
+abbrev counted : DraftView
+counted = one_topic (record { name = codes "x"; op = TableOf (codes "t") } ∷ record { name = codes "g"; op = CountOf (codes "x") (Some (codes "r")) } ∷ [])
 
 abbrev r_is : Key → Row
 r_is r = (codes "r", Text r) ∷ []
 
-abbrev records_9 : List Input
-records_9 = put_row 0 (codes "k1") (r_is (codes "p")) ∷ put_row 0 (codes "k2") (r_is (codes "q")) ∷ delete 0 (codes "k1") ∷ []
-
 abbrev count_is : ℤ → Row
 count_is n = (codes "count", Int n) ∷ []
 
-row_9 : record {
-  asked : map.entries ((query (plan_of draft_g) records_9).tables 1) ≡ (codes "q", count_is (pos 1)) ∷ [];
-  ran : rows_of (plan_of draft_g) (drained one_part (plan_of draft_g) records_9 8) 1 ≡ (codes "q", count_is (pos 1)) ∷ [];
-  subs : sub_count (plan_of draft_g) ≡ 2;
-}
-unfolding map.entries map.empty map.get map.insert map.retain_keys map.remove map.checked
-row_9 = record { asked = refl; ran = refl; subs = refl }
+left_group : Gives counted (put_row 0 (codes "k1") (r_is (codes "p")) ∷ put_row 0 (codes "k2") (r_is (codes "q")) ∷ delete 0 (codes "k1") ∷ []) 8 1
+    ((codes "q", count_is (pos 1)) ∷ [])
+unfolding fin.entries fin.empty fin.get fin.insert fin.retain_keys fin.remove fin.checked
+left_group = (refl, refl)
 
--- row 10: s 0, z 1
-abbrev draft_z : DraftView
-draft_z = record {
-  app = codes "a";
-  topics = (codes "t", pos 1) ∷ [];
-  nodes = record { name = codes "s"; op = StreamOf (codes "t") } ∷ record { name = codes "z"; op = SumOf (codes "s") None (codes "n") } ∷ [];
-  print = codes "z" ∷ [];
-}
+two_subs : sub_count (plan_of counted) ≡ 2
+two_subs = refl
 
-abbrev records_10 : List Input
-records_10 = put_row 0 (codes "k") (n_is 9223372036854775807) ∷ put_row 0 (codes "k") (n_is 1) ∷ []
+-- ---- a sum of a stream, which wraps: s 0, z 1
+abbrev summed : DraftView
+summed = one_topic (record { name = codes "s"; op = StreamOf (codes "t") } ∷ record { name = codes "z"; op = SumOf (codes "s") None (codes "n") } ∷ [])
 
-abbrev row_10_is : List (Key × Row)
-row_10_is = (codes "k", (codes "sum", Int (negsuc 9223372036854775807)) ∷ []) ∷ []
+wrapped : Gives summed (put_row 0 (codes "k") (n_is 9223372036854775807) ∷ put_row 0 (codes "k") (n_is 1) ∷ []) 4 1
+    ((codes "k", (codes "sum", Int (negsuc 9223372036854775807)) ∷ []) ∷ [])
+unfolding fin.entries fin.empty fin.get fin.insert fin.retain_keys fin.remove fin.checked
+wrapped = (refl, refl)
 
-row_10 : record {
-  asked : map.entries ((query (plan_of draft_z) records_10).tables 1) ≡ row_10_is;
-  ran : rows_of (plan_of draft_z) (drained one_part (plan_of draft_z) records_10 4) 1 ≡ row_10_is;
-  subs : sub_count (plan_of draft_z) ≡ 1;
-}
-unfolding map.entries map.empty map.get map.insert map.retain_keys map.remove map.checked
-row_10 = record { asked = refl; ran = refl; subs = refl }
-
--- rows 11 and 12: s 0, w 1
-abbrev draft_w : ℤ → Option ℤ → Option ℤ → DraftView
-draft_w size advance grace = record {
-  app = codes "a";
-  topics = (codes "t", pos 1) ∷ [];
-  nodes = record { name = codes "s"; op = StreamOf (codes "t") } ∷ record { name = codes "w"; op = WindowedOf (codes "s") None size advance grace } ∷ [];
-  print = codes "w" ∷ [];
-}
+-- ---- windowed counts: s 0, w 1
+abbrev windowed : ℤ → Option ℤ → Option ℤ → DraftView
+windowed size advance grace = one_topic (record { name = codes "s"; op = StreamOf (codes "t") } ∷ record { name = codes "w"; op = WindowedOf (codes "s") None size advance grace } ∷ [])
 
 abbrev at_time : ℕ → Input
 at_time t = record { topic = 0; key = Some (codes "k"); value = Some (n_is 1); time = t }
 
-abbrev counts_in : DraftView → List Input → List ((Key × ℕ) × Agg)
-counts_in d records = map.entries (((drained one_part (plan_of d) records 4).stores (record { sub = 0; part = 0 })).counts 1)
+abbrev asked_windows : DraftView → List Input → List (WindowKey × Row)
+asked_windows d records = fin.entries ((query (plan_of d) records).windows 1)
 
-abbrev late_in : DraftView → List Input → ℕ
-late_in d records = (drained one_part (plan_of d) records 4).late
+-- the table after each order, what waits, and how many were late
+abbrev pub ran_windows : DraftView → List Input → List (List (WindowKey × Row) × List Item × ℕ)
+ran_windows d records = map (λ st. (window_rows_of (plan_of d) st 1, waiting_in (plan_of d) st, st.late)) (ends d records 4)
 
-abbrev once : Agg
-once = record { members = pos 1; total = pos 0 }
+abbrev hops : List (WindowKey × Row)
+hops = ((codes "k", 0), count_is (pos 1)) ∷ ((codes "k", 5), count_is (pos 1)) ∷ ((codes "k", 10), count_is (pos 1)) ∷ []
 
-row_11 : record {
-  asked : map.entries ((query (plan_of (draft_w (pos 10) (Some (pos 5)) None)) (at_time 3 ∷ at_time 12 ∷ [])).windows 1) ≡ ((codes "k", 0), count_is (pos 1)) ∷ ((codes "k", 5), count_is (pos 1)) ∷ ((codes "k", 10), count_is (pos 1)) ∷ [];
-  ran : counts_in (draft_w (pos 10) (Some (pos 5)) None) (at_time 3 ∷ at_time 12 ∷ []) ≡ ((codes "k", 0), once) ∷ ((codes "k", 5), once) ∷ ((codes "k", 10), once) ∷ [];
-  late : late_in (draft_w (pos 10) (Some (pos 5)) None) (at_time 3 ∷ at_time 12 ∷ []) ≡ 0;
+hopping : record {
+  asked : asked_windows (windowed (pos 10) (Some (pos 5)) None) (at_time 3 ∷ at_time 12 ∷ []) ≡ hops;
+  ran : ran_windows (windowed (pos 10) (Some (pos 5)) None) (at_time 3 ∷ at_time 12 ∷ []) ≡ three (hops, [], 0);
 }
-unfolding map.entries map.empty map.get map.insert map.retain_keys map.remove map.checked
-row_11 = record { asked = refl; ran = refl; late = refl }
+unfolding fin.entries fin.empty fin.get fin.insert fin.retain_keys fin.remove fin.checked
+hopping = record { asked = refl; ran = refl }
 
-row_12 : record {
-  ran : counts_in (draft_w (pos 10) None (Some (pos 0))) (at_time 100 ∷ at_time 5 ∷ []) ≡ ((codes "k", 100), once) ∷ [];
-  late : late_in (draft_w (pos 10) None (Some (pos 0))) (at_time 100 ∷ at_time 5 ∷ []) ≡ 1;
+-- without grace the second record is late
+late_window : record {
+  asked : asked_windows (windowed (pos 10) None (Some (pos 0))) (at_time 100 ∷ at_time 5 ∷ []) ≡ ((codes "k", 0), count_is (pos 1)) ∷ ((codes "k", 100), count_is (pos 1)) ∷ [];
+  ran : ran_windows (windowed (pos 10) None (Some (pos 0))) (at_time 100 ∷ at_time 5 ∷ []) ≡ three (((codes "k", 100), count_is (pos 1)) ∷ [], [], 1);
 }
-unfolding map.entries map.empty map.get map.insert map.retain_keys map.remove map.checked
-row_12 = record { ran = refl; late = refl }
+unfolding fin.entries fin.empty fin.get fin.insert fin.retain_keys fin.remove fin.checked
+late_window = record { asked = refl; ran = refl }
 
--- row 20: s 0, m 1; a table joined with itself
-abbrev draft_m : DraftView
-draft_m = record {
-  app = codes "a";
-  topics = (codes "staff", pos 1) ∷ [];
-  nodes = record { name = codes "s"; op = TableOf (codes "staff") }
-      ∷ record { name = codes "m"; op = FkJoinOf (codes "s") (codes "s") (codes "boss") LeftJoin ((codes "boss", RightOf (codes "name")) ∷ (codes "name", LeftOf (codes "name")) ∷ []) } ∷ [];
-  print = codes "m" ∷ [];
-}
+-- ---- a table joined with itself: s 0, m 1
+abbrev bosses : DraftView
+bosses = one_topic (record { name = codes "s"; op = TableOf (codes "t") }
+    ∷ record { name = codes "m"; op = FkJoinOf (codes "s") (codes "s") (codes "boss") LeftJoin ((codes "boss", RightOf (codes "name")) ∷ (codes "name", LeftOf (codes "name")) ∷ []) } ∷ [])
 
 abbrev staff : Key → Key → Row
 staff boss name = (codes "boss", Text boss) ∷ (codes "name", Text name) ∷ []
 
-abbrev records_20 : List Input
-records_20 = put_row 0 (codes "a") (staff (codes "a") (codes "Ann")) ∷ put_row 0 (codes "b") (staff (codes "a") (codes "Bob")) ∷ put_row 0 (codes "c") ((codes "name", Text (codes "Cy")) ∷ []) ∷ []
+own_boss : Gives bosses (put_row 0 (codes "a") (staff (codes "a") (codes "Ann")) ∷ put_row 0 (codes "b") (staff (codes "a") (codes "Bob")) ∷ put_row 0 (codes "c") ((codes "name", Text (codes "Cy")) ∷ []) ∷ []) 8 1
+    ((codes "a", staff (codes "Ann") (codes "Ann")) ∷ (codes "b", staff (codes "Ann") (codes "Bob")) ∷ (codes "c", (codes "name", Text (codes "Cy")) ∷ []) ∷ [])
+unfolding fin.entries fin.empty fin.get fin.insert fin.retain_keys fin.remove fin.checked
+own_boss = (refl, refl)
 
-abbrev row_20_is : List (Key × Row)
-row_20_is = (codes "a", staff (codes "Ann") (codes "Ann")) ∷ (codes "b", staff (codes "Ann") (codes "Bob")) ∷ (codes "c", (codes "name", Text (codes "Cy")) ∷ []) ∷ []
+one_sub : sub_count (plan_of bosses) ≡ 1
+one_sub = refl
 
-row_20 : record {
-  asked : map.entries ((query (plan_of draft_m) records_20).tables 1) ≡ row_20_is;
-  ran : rows_of (plan_of draft_m) (drained one_part (plan_of draft_m) records_20 8) 1 ≡ row_20_is;
-  subs : sub_count (plan_of draft_m) ≡ 1;
-}
-unfolding map.entries map.empty map.get map.insert map.retain_keys map.remove map.checked
-row_20 = record { asked = refl; ran = refl; subs = refl }
-
--- row 21: x 0, y 1, j 2, f 3
-abbrev draft_j : DraftView
-draft_j = record {
+-- ---- a join by key and a filter: x 0, y 1, j 2, f 3
+abbrev joined_tables : DraftView
+joined_tables = record {
   app = codes "a";
   topics = (codes "x", pos 1) ∷ (codes "y", pos 1) ∷ [];
   nodes = record { name = codes "x"; op = TableOf (codes "x") } ∷ record { name = codes "y"; op = TableOf (codes "y") }
@@ -255,61 +226,62 @@ draft_j = record {
 abbrev one_int : List ℕ → ℕ → Row
 one_int name n = (name, Int (pos n)) ∷ []
 
-abbrev records_21 : List Input
-records_21 = put_row 0 (codes "k1") (one_int (codes "a") 1) ∷ put_row 1 (codes "k2") (one_int (codes "b") 2) ∷ put_row 0 (codes "k3") (one_int (codes "a") 3) ∷ put_row 1 (codes "k3") (one_int (codes "b") 4) ∷ []
+abbrev both_sides : List Input
+both_sides = put_row 0 (codes "k1") (one_int (codes "a") 1) ∷ put_row 1 (codes "k2") (one_int (codes "b") 2) ∷ put_row 0 (codes "k3") (one_int (codes "a") 3) ∷ put_row 1 (codes "k3") (one_int (codes "b") 4) ∷ []
 
-abbrev row_21_is : List (Key × Row)
-row_21_is = (codes "k1", one_int (codes "a") 1) ∷ (codes "k2", one_int (codes "b") 2) ∷ (codes "k3", one_int (codes "a") 3 ++ one_int (codes "b") 4) ∷ []
+outer_join : Gives joined_tables both_sides 6 2 ((codes "k1", one_int (codes "a") 1) ∷ (codes "k2", one_int (codes "b") 2) ∷ (codes "k3", one_int (codes "a") 3 ++ one_int (codes "b") 4) ∷ [])
+unfolding fin.entries fin.empty fin.get fin.insert fin.retain_keys fin.remove fin.checked
+outer_join = (refl, refl)
 
-row_21 : record {
-  asked : map.entries ((query (plan_of draft_j) records_21).tables 2) ≡ row_21_is;
-  ran : rows_of (plan_of draft_j) (drained one_part (plan_of draft_j) records_21 6) 2 ≡ row_21_is;
-  filtered : rows_of (plan_of draft_j) (drained one_part (plan_of draft_j) records_21 6) 3 ≡ (codes "k1", one_int (codes "a") 1) ∷ [];
-  subs : sub_count (plan_of draft_j) ≡ 1;
-}
-unfolding map.entries map.empty map.get map.insert map.retain_keys map.remove map.checked
-row_21 = record { asked = refl; ran = refl; filtered = refl; subs = refl }
+filtered : Gives joined_tables both_sides 6 3 ((codes "k1", one_int (codes "a") 1) ∷ [])
+unfolding fin.entries fin.empty fin.get fin.insert fin.retain_keys fin.remove fin.checked
+filtered = (refl, refl)
 
--- row 21's stream: s 0, k 1, c 2
-abbrev draft_k : DraftView
-draft_k = record {
-  app = codes "a";
-  topics = (codes "t", pos 1) ∷ [];
-  nodes = record { name = codes "s"; op = StreamOf (codes "t") } ∷ record { name = codes "k"; op = KeyOf (codes "s") (codes "u") } ∷ record { name = codes "c"; op = CountOf (codes "k") None } ∷ [];
-  print = codes "c" ∷ [];
-}
+-- ---- a stream without keys, regrouped: s 0, k 1, c 2
+abbrev rekeyed : DraftView
+rekeyed = one_topic (record { name = codes "s"; op = StreamOf (codes "t") } ∷ record { name = codes "k"; op = KeyOf (codes "s") (codes "u") } ∷ record { name = codes "c"; op = CountOf (codes "k") None } ∷ [])
 
 abbrev u_is : Key → Input
 u_is u = record { topic = 0; key = None; value = Some ((codes "u", Text u) ∷ []); time = 0 }
 
-abbrev records_k : List Input
-records_k = u_is (codes "p") ∷ u_is (codes "q") ∷ u_is (codes "p") ∷ record { topic = 0; key = None; value = None; time = 0 } ∷ []
+regrouped : Gives rekeyed (u_is (codes "p") ∷ u_is (codes "q") ∷ u_is (codes "p") ∷ record { topic = 0; key = None; value = None; time = 0 } ∷ []) 6 2
+    ((codes "p", count_is (pos 2)) ∷ (codes "q", count_is (pos 1)) ∷ [])
+unfolding fin.entries fin.empty fin.get fin.insert fin.retain_keys fin.remove fin.checked
+regrouped = (refl, refl)
 
-row_21_stream : record {
-  asked : map.entries ((query (plan_of draft_k) records_k).tables 2) ≡ (codes "p", count_is (pos 2)) ∷ (codes "q", count_is (pos 1)) ∷ [];
-  ran : rows_of (plan_of draft_k) (drained one_part (plan_of draft_k) records_k 6) 2 ≡ (codes "p", count_is (pos 2)) ∷ (codes "q", count_is (pos 1)) ∷ [];
-  subs : sub_count (plan_of draft_k) ≡ 2;
+-- ---- a group counted and joined back to its source: x 0, g 1, j 2; one subtopology
+abbrev back : DraftView
+back = one_topic (record { name = codes "x"; op = TableOf (codes "t") } ∷ record { name = codes "g"; op = CountOf (codes "x") (Some (codes "r")) }
+    ∷ record { name = codes "j"; op = JoinOf (codes "x") (codes "g") Outer ((codes "n", RightOf (codes "count")) ∷ (codes "r", LeftOf (codes "r")) ∷ []) } ∷ [])
+
+joined_back : Gives back (put_row 0 (codes "a") (r_is (codes "a")) ∷ put_row 0 (codes "b") (r_is (codes "a")) ∷ put_row 0 (codes "c") (r_is (codes "b")) ∷ delete 0 (codes "c") ∷ []) 9 2
+    ((codes "a", (codes "n", Int (pos 2)) ∷ (codes "r", Text (codes "a")) ∷ []) ∷ (codes "b", (codes "r", Text (codes "a")) ∷ []) ∷ [])
+unfolding fin.entries fin.empty fin.get fin.insert fin.retain_keys fin.remove fin.checked
+joined_back = (refl, refl)
+
+back_sub : sub_count (plan_of back) ≡ 1
+back_sub = refl
+
+-- ---- orders and customers over several partitions, and a sum over the join: o 0, c 1, e 2, totals 3; the query alone
+abbrev totals : DraftView
+totals = record {
+  app = codes "s";
+  topics = (codes "customers", pos 2) ∷ (codes "orders", pos 4) ∷ [];
+  nodes = (orders Inner).nodes ++ record { name = codes "totals"; op = SumOf (codes "e") (Some (codes "region")) (codes "amt") } ∷ [];
+  print = codes "e" ∷ codes "totals" ∷ [];
 }
-unfolding map.entries map.empty map.get map.insert map.retain_keys map.remove map.checked
-row_21_stream = record { asked = refl; ran = refl; subs = refl }
 
--- a group counted and joined back to its source: x 0, g 1, j 2; one subtopology
-abbrev draft_back : DraftView
-draft_back = record {
-  app = codes "a";
-  topics = (codes "t", pos 1) ∷ [];
-  nodes = record { name = codes "x"; op = TableOf (codes "t") } ∷ record { name = codes "g"; op = CountOf (codes "x") (Some (codes "r")) }
-      ∷ record { name = codes "j"; op = JoinOf (codes "x") (codes "g") Outer ((codes "n", RightOf (codes "count")) ∷ (codes "r", LeftOf (codes "r")) ∷ []) } ∷ [];
-  print = codes "j" ∷ [];
+abbrev twelve : List Input
+twelve = customer (codes "c1") (codes "eu") ∷ customer (codes "c2") (codes "us") ∷ customer (codes "c3") (codes "eu")
+    ∷ order (codes "o1") (codes "c1") 10 ∷ order (codes "o2") (codes "c2") 20 ∷ order (codes "o3") (codes "c3") 30 ∷ order (codes "o4") (codes "c9") 40
+    ∷ order (codes "o5") (codes "c1") 50 ∷ order (codes "o6") (codes "c2") 60 ∷ customer (codes "c3") (codes "us") ∷ delete 1 (codes "o5") ∷ order (codes "o2") (codes "c1") 25 ∷ []
+
+abbrev sum_is : ℕ → Row
+sum_is n = (codes "sum", Int (pos n)) ∷ []
+
+summed_regions : record {
+  orders : asked totals twelve 2 ≡ (codes "o1", result 10 (codes "eu")) ∷ (codes "o2", result 25 (codes "eu")) ∷ (codes "o3", result 30 (codes "us")) ∷ (codes "o6", result 60 (codes "us")) ∷ [];
+  sums : asked totals twelve 3 ≡ (codes "eu", sum_is 35) ∷ (codes "us", sum_is 90) ∷ [];
 }
-
-abbrev records_back : List Input
-records_back = put_row 0 (codes "a") (r_is (codes "a")) ∷ put_row 0 (codes "b") (r_is (codes "a")) ∷ put_row 0 (codes "c") (r_is (codes "b")) ∷ delete 0 (codes "c") ∷ []
-
-row_back : record {
-  asked : map.entries ((query (plan_of draft_back) records_back).tables 2) ≡ (codes "a", (codes "n", Int (pos 2)) ∷ (codes "r", Text (codes "a")) ∷ []) ∷ (codes "b", (codes "r", Text (codes "a")) ∷ []) ∷ [];
-  ran : rows_of (plan_of draft_back) (drained one_part (plan_of draft_back) records_back 8) 2 ≡ (codes "a", (codes "n", Int (pos 2)) ∷ (codes "r", Text (codes "a")) ∷ []) ∷ (codes "b", (codes "r", Text (codes "a")) ∷ []) ∷ [];
-  subs : sub_count (plan_of draft_back) ≡ 1;
-}
-unfolding map.entries map.empty map.get map.insert map.retain_keys map.remove map.checked
-row_back = record { asked = refl; ran = refl; subs = refl }
+unfolding fin.entries fin.empty fin.get fin.insert fin.retain_keys fin.remove fin.checked
+summed_regions = record { orders = refl; sums = refl }

@@ -1,5 +1,5 @@
--- One run that takes all: topic after topic in the drain order.
-use Rattle.std.specs.Prelude.{ℕ, zero, suc, List, [], ◌∷◌, map, Option, Some, None}
+-- Runs that take all, in several orders, and what they leave.
+use Rattle.std.specs.Prelude.{ℕ, zero, suc, List, [], ◌∷◌, ◌++◌, reverse, map, Option, Some, None, true}
 use Rattle.std.specs.List.{flat_map}
 use Rattle.ks_expr.specs.Eval.{Row}
 use Rattle.ks_query.specs.Streams.{Key}
@@ -13,7 +13,10 @@ use Rattle.ks_query.specs.Streams.{Input}
 use Rattle.ks_network.specs.Run.{RunState, run}
 use Rattle.ks_row.specs.declared.record.TaskId.{TaskId}
 use Rattle.ks_machine.specs.Messages.{Place, shown, Item, Store, Rules}
+use Rattle.ks_query.specs.Windows.{WindowKey}
+use Rattle.ks_query.specs.Aggregates.{agg_row}
 use Rattle.ks_machine.specs.Tasks.{machine, inputs_of}
+use Rattle.ks_machine.specs.Rest.{store_at}
 
 -- the subtopology that writes an internal topic
 abbrev pub from_of : Kind → ℕ
@@ -23,6 +26,7 @@ from_of (Windowed f by w through) = f
 from_of (ForeignKeyJoin l r fk kind s) = l
 from_of _ = 0
 
+-- who sends to a topic
 abbrev pub senders : Plan → Topic → List (Option TaskId)
 senders p (InputTopic t) = None ∷ []
 senders p (Repartition n) = map (λ i. Some (record { sub = sub_of p (from_of (kind_at p n)); part = i })) (up_to (parts_of p (from_of (kind_at p n))))
@@ -30,18 +34,39 @@ senders p (Subscriptions n) = map (λ i. Some (record { sub = sub_of p n; part =
 senders p (Responses n) = map (λ i. Some (record { sub = sub_of p (right_of (kind_at p n)); part = i })) (up_to (parts_of p (right_of (kind_at p n))))
 senders p _ = []
 
-abbrev pub times : {A : Type 0} → ℕ → A → List A
-times zero x = []
-times (suc n) x = x ∷ times n x
+abbrev pub times : {A : Type 0} → ℕ → List A → List A
+times zero xs = []
+times (suc n) xs = xs ++ times n xs
 
--- each list of each topic, n times
-abbrev pub drain_schedule : Plan → ℕ → List (Option TaskId × Place)
-drain_schedule p n =
-    flat_map (λ t. flat_map (λ i. flat_map (λ s. times n (s, record { topic = t; part = i })) (senders p t)) (up_to (parts_of_topic p t))) (drain_order p)
+-- the lists of a topic, by partition and sender
+abbrev pub lists_of : Plan → Topic → List (Option TaskId × Place)
+lists_of p t = flat_map (λ i. map (λ s. (s, record { topic = t; part = i })) (senders p t)) (up_to (parts_of_topic p t))
 
-abbrev pub drained : Rules → Plan → List Input → ℕ → RunState TaskId Place Store Item
-drained rules p records n = run (machine rules p) (inputs_of rules p records) (drain_schedule p n)
+-- all lists, in the drain order
+abbrev pub all_lists : Plan → List (Option TaskId × Place)
+all_lists p = flat_map (lists_of p) (drain_order p)
+
+-- ---- orders of choices: each list n times, one after another; each list once, in n rounds; the same in rounds from the last list on
+abbrev pub by_lists : Plan → ℕ → List (Option TaskId × Place)
+by_lists p n = flat_map (λ c. times n (c ∷ [])) (all_lists p)
+
+abbrev pub by_rounds : Plan → ℕ → List (Option TaskId × Place)
+by_rounds p n = times n (all_lists p)
+
+abbrev pub by_rounds_back : Plan → ℕ → List (Option TaskId × Place)
+by_rounds_back p n = times n (reverse (all_lists p))
+
+abbrev pub run_by : Rules → Plan → List Input → List (Option TaskId × Place) → RunState TaskId Place Store Item
+run_by rules p records schedule = run (machine rules p) (inputs_of rules p records) schedule
+
+-- all that waits in a state
+abbrev pub waiting_in : Plan → RunState TaskId Place Store Item → List Item
+waiting_in p st = flat_map (λ c. st.waiting c.0 c.1) (all_lists p)
 
 -- the rows of a node, over its tasks
 abbrev pub rows_of : Plan → RunState TaskId Place Store Item → ℕ → List (Key × Row)
-rows_of p st n = flat_map (λ i. map (λ e. (e.0, shown e.1)) (map.entries ((st.stores (record { sub = sub_of p n; part = i })).tables n))) (up_to (parts_of p n))
+rows_of p st n = flat_map (λ i. map (λ e. (e.0, shown e.1)) (map.entries ((store_at p st n i).tables n))) (up_to (parts_of p n))
+
+-- of a windowed count
+abbrev pub window_rows_of : Plan → RunState TaskId Place Store Item → ℕ → List (WindowKey × Row)
+window_rows_of p st n = flat_map (λ i. map (λ e. (e.0, agg_row true e.1)) (map.entries ((store_at p st n i).counts n))) (up_to (parts_of p n))
