@@ -1,10 +1,15 @@
 //! What tasks say to one another and keep, as bytes: subscriptions, responses, deltas, aggregates, and the keys of stores.
 #![tactic(auto)]
 
+mod codec;
 mod reading;
 mod values;
 mod writing;
 
+pub use codec::{
+    read_agg, read_delta, read_hash, read_response, read_subscription, read_subscription_key,
+    read_time, read_window_key, reading_undoes_writing,
+};
 pub use values::{Agg, Delta, Response, Subscription};
 pub use writing::{
     write_agg, write_delta, write_hash, write_response, write_subscription, write_subscription_key,

@@ -2,7 +2,7 @@
 ghost use Rattle.std.specs.Prelude.{◌≡◌, ◌++◌, ◌∷◌, [], IfOk, OnOk};
 ghost use Rattle.ks_row.specs.Spelling.{int_bytes};
 ghost use Rattle.ks_row.specs.Texts.{IsKey};
-ghost use Rattle.ks_wire.specs.Spelling.{hash_flag, hash_or_nothing, hash_bytes, time_bytes, subscription_bytes, response_bytes, delta_bytes, agg_bytes, long_key, subscription_key, window_key, FitsHash, FitsSubscription, FitsResponse};
+ghost use Rattle.ks_wire.specs.Spelling.{hash_flag, hash_or_nothing, hash_bytes, time_bytes, subscription_bytes, response_bytes, delta_bytes, agg_bytes, long_key, subscription_key, window_key, FitsHash, FitsSubscription, FitsResponse, FitsDelta, FitsAgg, FitsKeys, FitsWindow};
 
 use crate::values::{Agg, Delta, Response, Subscription};
 use ks_row::{Blob, Key, encode};
@@ -61,7 +61,8 @@ pub fn write_response(alloc: Global, response: &Response) -> Result<Blob, AllocE
 /// The bytes that spell the delta.
 #[tactic(auto, unfolding(crate::specs::Spelling::delta_bytes))]
 pub fn write_delta(alloc: Global, delta: &Delta) -> Result<Blob, AllocError>
-    ensures { IfOk result (λ b. b ≡ delta_bytes delta.now) }
+    ensures bytes { IfOk result (λ b. b ≡ delta_bytes delta.now) }
+    ensures fits { OnOk result (FitsDelta delta.now) }
 {
     let mut out = Vec::new(alloc);
     out.push(if delta.add { 1 } else { 0 })?;
@@ -72,7 +73,8 @@ pub fn write_delta(alloc: Global, delta: &Delta) -> Result<Blob, AllocError>
 /// The bytes that spell the aggregate.
 #[tactic(auto, unfolding(crate::specs::Spelling::agg_bytes))]
 pub fn write_agg(alloc: Global, agg: &Agg) -> Result<Blob, AllocError>
-    ensures { IfOk result (λ b. b ≡ agg_bytes agg.now) }
+    ensures bytes { IfOk result (λ b. b ≡ agg_bytes agg.now) }
+    ensures fits { OnOk result (FitsAgg agg.now) }
 {
     let mut out = Vec::new(alloc);
     out.extend_from_slice(&agg.members.to_be_bytes())?;
@@ -95,7 +97,8 @@ pub fn write_time(alloc: Global, time: u64) -> Result<Blob, AllocError>
 }
 
 fn push_long_key(out: &mut Vec<u8>, key: &Key) -> Result<(), AllocError>
-    ensures { OnOk result (out.new.items ≡ out.old.items ++ long_key key.now) }
+    ensures bytes { OnOk result (out.new.items ≡ out.old.items ++ long_key key.now) }
+    ensures fits { OnOk result (IsKey key.now) }
 {
     let bytes = key.as_str().as_bytes();
     out.extend_from_slice(&(bytes.len() as u32).to_be_bytes())?;
@@ -106,7 +109,8 @@ fn push_long_key(out: &mut Vec<u8>, key: &Key) -> Result<(), AllocError>
 /// Where the store of a foreign-key join keeps the hash of a left key at a foreign key.
 #[tactic(auto, unfolding(crate::specs::Spelling::subscription_key))]
 pub fn write_subscription_key(alloc: Global, foreign: &Key, left: &Key) -> Result<Blob, AllocError>
-    ensures { IfOk result (λ b. b ≡ subscription_key foreign.now left.now) }
+    ensures bytes { IfOk result (λ b. b ≡ subscription_key foreign.now left.now) }
+    ensures fits { OnOk result (FitsKeys (foreign.now, left.now)) }
 {
     let mut out = Vec::new(alloc);
     push_long_key(&mut out, foreign)?;
@@ -117,7 +121,8 @@ pub fn write_subscription_key(alloc: Global, foreign: &Key, left: &Key) -> Resul
 /// Where a windowed count keeps the count of a key in the window that starts at `start`.
 #[tactic(auto, unfolding(crate::specs::Spelling::window_key))]
 pub fn write_window_key(alloc: Global, key: &Key, start: u64) -> Result<Blob, AllocError>
-    ensures { IfOk result (λ b. b ≡ window_key key.now start) }
+    ensures bytes { IfOk result (λ b. b ≡ window_key key.now start) }
+    ensures fits { OnOk result (FitsWindow (key.now, start)) }
 {
     let mut out = Vec::new(alloc);
     push_long_key(&mut out, key)?;
