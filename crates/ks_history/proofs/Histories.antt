@@ -1,11 +1,12 @@
 -- Journals that go on, and journals cut short.
-use Rattle.std.proofs.Common.{◌≡◌, ◌≤◌, suc, true, false, Some, None, List, [], ◌∷◌, ◌++◌, length, refl, subst, arith}
+use Rattle.std.proofs.Common.{◌≡◌, ◌+◌, ◌∙◌, ◌≤◌, suc, true, false, Some, None, List, [], ◌∷◌, ◌++◌, length, refl, subst, arith}
 use Rattle.ks_history.specs.declared.journal.Entry.{Entry}
 use Rattle.ks_history.specs.declared.partition.Slot.{Slot}
 use Rattle.ks_history.specs.declared.partition.Slot.TheVariants.{Plain, Sent, Mark}
 use Rattle.ks_history.specs.Partition.{by_mark, next_mark, stable}
 use Rattle.ks_history.specs.State.{State, Setup, start}
-use Rattle.ks_history.specs.Step.{after}
+use Rattle.ks_history.specs.Step.{refusal, after}
+use Rattle.ks_history.specs.Count.{records_by, records_from, records_in}
 use Rattle.ks_history.specs.History.{state_after, at, Each, IsStep, IsFaithfulEntry, IsHistory, IsPrefix}
 
 pub state_after-append : (setup : Setup) (s : State) (xs ys : List Entry) → state_after setup s (xs ++ ys) ≡ state_after setup (state_after setup s xs) ys
@@ -47,3 +48,12 @@ stable-le (Sent w e number task rec ∷ slots) =
       | Some commit ↦ elim commit as (λ c. by_mark (Some c) 0 (suc (stable slots)) (suc (stable slots)) ≤ suc (length slots)) [ true ↦ omega arith | false ↦ omega arith ]
     ]
 stable-le (Mark w e commit ∷ slots) = omega (arith, stable-le slots)
+
+-- ---- the count of records
+records_from-append : (setup : Setup) (s : State) (xs ys : List Entry) → records_from setup s (xs ++ ys) ≡ records_from setup s xs + records_from setup (state_after setup s xs) ys
+records_from-append setup s [] ys = omega arith
+records_from-append setup s (x ∷ xs) ys = omega (arith, records_from-append setup (after setup s x.request) xs ys)
+
+pub records_in-more : (setup : Setup) (journal : List Entry) (entry : Entry) →
+    records_in setup (journal ++ entry ∷ []) ≡ records_in setup journal + records_by entry.request (refusal setup (at setup journal) entry.request)
+records_in-more setup journal entry = records_from-append setup start journal (entry ∷ []) ∙ omega arith

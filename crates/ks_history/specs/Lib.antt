@@ -8,3 +8,4 @@ pub mod Reads
 pub mod Settled
 pub mod Follows
 pub mod Replay
+pub mod Count

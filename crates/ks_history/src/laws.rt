@@ -1,9 +1,10 @@
 //! What holds of every journal. Each law is the contract of a function that does nothing.
-ghost use Rattle.std.specs.Prelude.{◌≡◌, ℕ, ◌≤◌, List, [], ◌∷◌, ◌++◌, length};
+ghost use Rattle.std.specs.Prelude.{◌≡◌, ℕ, ◌+◌, ◌≤◌, List, [], ◌∷◌, ◌++◌, length};
 ghost use Rattle.ks_history.specs.declared.journal.Entry.{Entry};
 ghost use Rattle.ks_history.specs.declared.partition.Slot.{Slot};
 ghost use Rattle.ks_history.specs.State.{Setup};
-ghost use Rattle.ks_history.specs.Step.{after};
+ghost use Rattle.ks_history.specs.Step.{after, refusal};
+ghost use Rattle.ks_history.specs.Count.{records_by, records_in};
 ghost use Rattle.ks_history.specs.Partition.{stable};
 ghost use Rattle.ks_history.specs.History.{at, IsHistory, IsStep, IsFaithfulEntry, IsPrefix};
 
