@@ -1,5 +1,5 @@
 -- How many records a journal puts into the partitions; markers aren't counted.
-use Rattle.std.specs.Prelude.{ℕ, ◌+◌, Option, Some, None, List, [], ◌∷◌, length}
+use Rattle.std.specs.Prelude.{ℕ, ◌+◌, Option, None, List, [], ◌∷◌, length}
 use Rattle.ks_row.specs.declared.assignment.Refused.{Refused}
 use Rattle.ks_history.specs.declared.journal.Request.{Request}
 use Rattle.ks_history.specs.declared.journal.Request.TheVariants.{Produce, Append}

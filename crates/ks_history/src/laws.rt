@@ -12,6 +12,7 @@ ghost use Rattle.ks_history.specs.History.{at, IsHistory, IsStep, IsFaithfulEntr
 pub fn one_more()
     ensures state { (setup : Setup) (journal : List Entry) (entry : Entry) → at setup (journal ++ entry ∷ []) ≡ after setup (at setup journal) entry.request }
     ensures history { (setup : Setup) (journal : List Entry) (entry : Entry) → IsHistory setup journal → IsStep setup (at setup journal) entry → IsFaithfulEntry setup (at setup journal) entry → IsHistory setup (journal ++ entry ∷ []) }
+    ensures records { (setup : Setup) (journal : List Entry) (entry : Entry) → records_in setup (journal ++ entry ∷ []) ≡ records_in setup journal + records_by entry.request (refusal setup (at setup journal) entry.request) }
 {}
 
 /// A prefix of a history is a history: what is one now was one at each earlier moment.
