@@ -1,0 +1,142 @@
+//! The left side of a foreign-key join: what a changed row asks of the right side, and what an answer sets (KIP-213).
+#![tactic(auto)]
+
+ghost use Rattle.std.specs.Prelude.{◌≡◌, ◌≤◌, ◌++◌, Some, None, IfOk, OnOk, option_copied, option_map, is_none};
+ghost use Rattle.ks_row.specs.Spelling.{spelling};
+ghost use Rattle.ks_row.specs.FieldKeys.{field_key};
+ghost use Rattle.ks_expr.specs.Terms.{set_of};
+ghost use Rattle.ks_expr.specs.Eval.{same_bytes, joined};
+ghost use Rattle.ks_machine.specs.Messages.{same_option};
+ghost use Rattle.ks_machine.specs.Foreign.{subscriptions, is_direct, key_of_row, respond as responded, is_present, hash_of};
+ghost use Rattle.ks_fk_left.specs.Asked.{row_hash, told, asked, set_by};
+
+use ks_expr::{JoinKind, Proj};
+use ks_hash::Hash128;
+use ks_row::{Change, Key, Name, Row, encode, key_of_field};
+use ks_table_ops::join_rows;
+use ks_wire::{Response, Subscription};
+use std::alloc::{AllocError, Global};
+
+// What a subscription asks of the right side.
+const DELETE: u8 = 0;
+
+const DELETE_AND_ANSWER: u8 = 1;
+
+const ANSWER: u8 = 2;
+
+/// What a response does to the join's result.
+#[derive(Drop, Debug)]
+pub enum Answer {
+    /// It answers an older left row: the result stays.
+    Stale,
+    /// The result is this row, or goes.
+    Set(Option<Row>),
+}
+
+/// The hash of a row's bytes.
+fn hash_row<H: Hash128>(alloc: Global, row: &Row) -> Result<u128, AllocError>
+    ensures { IfOk result (λ h. h ≡ row_hash H.hash_of row.now) }
+{
+    let bytes = encode(alloc, row)?;
+    Ok(H::hash(bytes.as_slice()))
+}
+
+fn foreign_key(alloc: Global, fk: &Name, row: Option<&Row>) -> Result<Option<Key>, AllocError>
+    ensures { IfOk result (λ k. k ≡ key_of_row fk.now (option_copied row.entry)) }
+{
+    match row {
+        Some(row) => key_of_field(alloc, row, fk.as_str().as_bytes()),
+        None => Ok(None),
+    }
+}
+
+fn same_bytes_of(a: &Key, b: &Key) -> bool
+    ensures { result ≡ same_bytes a.now b.now }
+{
+    a.as_str() == b.as_str()
+}
+
+fn is_same_key(old: &Option<Key>, new: &Option<Key>) -> bool
+    ensures { result ≡ same_option same_bytes old.now new.now }
+{
+    match (old, new) {
+        (None, None) => true,
+        (Some(before), Some(now)) => same_bytes_of(before, now),
+        _ => false,
+    }
+}
+
+fn push_asked(
+    out: &mut Vec<(Key, Subscription)>,
+    to: Option<Key>,
+    hash: Option<u128>,
+    instruction: u8,
+    left: &Key,
+) -> Result<(), AllocError>
+    requires { instruction ≤ 3 }
+    ensures { OnOk result (out.new.items ≡ out.old.items ++ asked to hash instruction left.now) }
+{
+    if let Some(key) = to {
+        out.push((key, Subscription::new(hash, instruction, left.clone()?)))?;
+    }
+    Ok(())
+}
+
+/// What a changed left row asks of the right side, by foreign key, the old one first; and whether the result is set at once,
+/// since no answer will come: where the new row has no foreign key, or the deleted one had none.
+pub fn subscriptions<H: Hash128>(
+    alloc: Global,
+    fk: &Name,
+    change: &Change,
+) -> Result<(Vec<(Key, Subscription)>, bool), AllocError>
+    ensures asked { IfOk result (λ r. r.0.items ≡ told change.now.key (subscriptions (row_hash H.hash_of) fk.now change.now.old change.now.new)) }
+    ensures direct { IfOk result (λ r. r.1 ≡ is_direct fk.now change.now.old change.now.new) }
+{
+    let before = foreign_key(alloc, fk, change.old.as_ref())?;
+    let mut out = Vec::new(alloc);
+    let Some(row) = &change.new else {
+        let direct = before.is_none();
+        push_asked(&mut out, before, None, DELETE_AND_ANSWER, &change.key)?;
+        return Ok((out, direct));
+    };
+    let hash = hash_row::<H>(alloc, row)?;
+    let now = foreign_key(alloc, fk, Some(row))?;
+    let direct = now.is_none();
+    if !is_same_key(&before, &now) {
+        push_asked(&mut out, before, Some(hash), DELETE, &change.key)?;
+    }
+    push_asked(&mut out, now, Some(hash), ANSWER, &change.key)?;
+    Ok((out, direct))
+}
+
+/// Whether a response answers the present left row: their hashes are equal, or both are absent.
+fn is_answer<H: Hash128>(
+    alloc: Global,
+    left: Option<&Row>,
+    response: &Response,
+) -> Result<bool, AllocError>
+    ensures { IfOk result (λ b. b ≡ is_present (row_hash H.hash_of) (option_copied left.entry) response.now) }
+{
+    match (left, response.hash) {
+        (None, None) => Ok(true),
+        (Some(row), Some(hash)) => Ok(hash_row::<H>(alloc, row)? == hash),
+        _ => Ok(false),
+    }
+}
+
+/// What a response does to the result of the join, by the present left row.
+pub fn respond<H: Hash128>(
+    alloc: Global,
+    kind: JoinKind,
+    set: &Proj,
+    left: Option<&Row>,
+    response: &Response,
+) -> Result<Answer, AllocError>
+    ensures { IfOk result (λ a. set_by a ≡ responded (row_hash H.hash_of) kind (set_of set.now) (option_copied left.entry) response.now) }
+{
+    if is_answer::<H>(alloc, left, response)? {
+        Ok(Answer::Set(join_rows(alloc, kind, set, left, response.right.as_ref())?))
+    } else {
+        Ok(Answer::Stale)
+    }
+}
