@@ -8,4 +8,5 @@ mod Quiet
 mod Inputs
 mod Replays
 mod Keeping
+mod Counts
 mod Written

@@ -1,5 +1,5 @@
 -- What the replay of a legal, faithful journal is: an uncrashed run that has taken what the cluster has committed.
-use Rattle.std.specs.Prelude.{◌≡◌, ◌≢◌, ℕ, true, List, [], ◌∷◌, Option, Some}
+use Rattle.std.specs.Prelude.{◌≡◌, ◌≢◌, ◌≤◌, length, ℕ, true, List, [], ◌∷◌, Option, Some}
 use Rattle.ks_row.specs.declared.record.PartId.{PartId}
 use Rattle.ks_row.specs.declared.record.TaskId.{TaskId}
 use Rattle.ks_network.specs.Run.{initial, TakesEach}
@@ -10,6 +10,7 @@ use Rattle.ks_history.specs.State.{State, Setup, start, has_task}
 use Rattle.ks_history.specs.Faithful.{decided, folds, capped}
 use Rattle.ks_history.specs.History.{at, IsHistory}
 use Rattle.ks_history.specs.Settled.{IsSettled}
+use Rattle.ks_history.specs.Count.{records_in}
 use Rattle.ks_history.specs.Replay.{replayed, replay, produced, run_of}
 
 -- what holds of every legal, faithful journal over tasks that make a network
@@ -62,3 +63,7 @@ SettledIsEmpty setup journal = IsSettled setup (at setup journal) → (r : Optio
 -- what is readable is what is decided below the stable offset, however the markers that wait decide
 abbrev pub ReadableIsDecided : Type 0
 ReadableIsDecided = (s : State) (p : PartId) → readable (s.partition p) ≡ below (stable (s.partition p)) (decided s p)
+
+-- the replay has at most as many steps as there are records
+abbrev pub IsShort : Setup → List Entry → Type 0
+IsShort setup journal = length (replay setup journal) ≤ records_in setup journal

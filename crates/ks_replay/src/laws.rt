@@ -1,5 +1,5 @@
 //! The history's law. Each law is the contract of a function that does nothing.
-ghost use Rattle.ks_replay.specs.Law.{OfHistories, IsRun, TellsStores, TellsPasts, TellsAll, TellsLists, TellsLate, SettledIsEmpty, ReadableIsDecided};
+ghost use Rattle.ks_replay.specs.Law.{OfHistories, IsRun, TellsStores, TellsPasts, TellsAll, TellsLists, TellsLate, SettledIsEmpty, IsShort, ReadableIsDecided};
 ghost use Rattle.ks_replay.specs.Keeping.{AllKept};
 
 /// A legal, faithful journal commits what one run without a crash does, whatever was aborted, fenced or refused in it: the
@@ -28,4 +28,9 @@ pub fn settled_is_empty()
 /// A reader of committed records gets what is decided below the stable offset, neither more nor less.
 pub fn readable_is_decided()
     ensures { ReadableIsDecided }
+{}
+
+/// A replay has at most as many steps as there are records, so a bound on the records of a journal is one on the run.
+pub fn replay_is_short()
+    ensures { OfHistories IsShort }
 {}
