@@ -1,5 +1,9 @@
 -- Laws over every run of the machine of every plan.
-use Rattle.std.specs.Prelude.{◌≡◌, ℕ, List, Option}
+use Rattle.std.specs.Prelude.{◌≡◌, ℕ, List, Option, true, false}
+use Rattle.ks_row.specs.declared.record.Rec.{Rec}
+use Rattle.ks_row.specs.declared.record.PartId.{PartId}
+use Rattle.ks_topo.specs.Layout.{topic_at}
+use Rattle.ks_machine.specs.Bytes.{ByteStores, byte_step, is_own_number, keep_all, records_at}
 use Rattle.ks_row.specs.declared.record.TaskId.{TaskId}
 use Rattle.ks_topo.specs.Plan.{Plan}
 use Rattle.ks_topo.specs.declared.node.Topic.TheVariants.{Changelog}
@@ -24,3 +28,12 @@ PastsAreWritten = (rules : Rules) (p : Plan) (inputs : Place → List Item) (sch
     let m = machine rules p in
     let st = run m inputs schedule in
     past p st n part ≡ sent_to m (record { topic = Changelog n; part = part }) (local m (record { sub = sub_of p n; part = part }) empty_store st.taken).made
+
+-- over bytes: each own changelog tells each change of its store, and no other store changes
+pub record Tells (rules : Rules) (p : Plan) (t : TaskId) (stores : ByteStores) (q : PartId) (r : Rec) (n : ℕ) : Type 0 where
+  pub own : is_own_number p t.sub (topic_at p n) ≡ true →
+      (byte_step rules p t stores q r).store n ≡ keep_all (stores n) (records_at (record { topic = n; part = t.part }) (byte_step rules p t stores q r).made)
+  pub other : is_own_number p t.sub (topic_at p n) ≡ false → (byte_step rules p t stores q r).store n ≡ stores n
+
+abbrev pub ChangelogsTell : Type 0
+ChangelogsTell = (rules : Rules) (p : Plan) (t : TaskId) (stores : ByteStores) (q : PartId) (r : Rec) (n : ℕ) → Tells rules p t stores q r n

@@ -3,6 +3,7 @@ pub mod Windowed
 pub mod Foreign
 pub mod Step
 pub mod Tasks
+pub mod Bytes
 pub mod Collision
 pub mod Rest
 pub mod Drain
