@@ -1,0 +1,11 @@
+pub mod Mixed
+pub mod Following
+pub mod Follow
+pub mod Fits
+pub mod WellFormed
+pub mod Each
+pub mod Placed
+pub mod Sources
+pub mod Queries
+pub mod Inputs
+pub mod Derived

@@ -1,0 +1,4 @@
+pub mod WellFormed
+pub mod Taken
+pub mod States
+pub mod Tables

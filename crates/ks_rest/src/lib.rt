@@ -1,0 +1,8 @@
+//! Quiescence: what holds in every state of every uncrashed run of a topology's tasks, and what holds once nothing waits.
+//!
+//! Laws alone: each public function has an empty body, and its contract is the law.
+#![tactic(auto)]
+
+mod tables;
+
+pub use tables::{derived_tables_follow, source_tables_are_latest};
