@@ -6,7 +6,9 @@ mod Stores
 mod Commits
 mod Quiet
 mod Inputs
+mod Refusals
 mod Replays
 mod Keeping
 mod Counts
+mod Appending
 mod Written

@@ -1,13 +1,11 @@
 -- What a legal, faithful journal commits is one run.
 use Rattle.std.proofs.Common.{length, ◌≡◌, ◌≢◌, ℕ, ◌+◌, Bool, true, false, cond, ◌⊎◌, inr, List, [], ◌∷◌, ◌++◌, fold, map, Option, Some, None, refl, sym, ap, ap₂, subst, ◌∙◌, arith, append_assoc, append-nil, ⊎_elim}
-use Rattle.std.specs.Prelude.{◌==◌}
 use Rattle.std.proofs.lemmas.List.Sums.{fold-append}
-use Rattle.std.proofs.lemmas.Bool.{eqb-true, eq-eqb, true≢false, or_cases, or_left, or_right}
+use Rattle.std.proofs.lemmas.Bool.{eq-eqb, true≢false, or_cases, or_left, or_right}
 use Rattle.ks_row.specs.declared.record.Rec.{Rec}
 use Rattle.ks_row.specs.declared.record.PartId.{PartId}
 use Rattle.ks_row.specs.declared.record.TaskId.{TaskId}
 use Rattle.ks_row.specs.declared.assignment.Refused.{Refused}
-use Rattle.ks_row.specs.declared.assignment.Refused.TheVariants.{NoTransaction, AlreadyDecided, Fenced}
 use Rattle.ks_row.specs.declared.assignment.Assignment.{Assignment}
 use Rattle.ks_row.specs.declared.assignment.Marker.{Marker}
 use Rattle.ks_history.specs.declared.partition.Slot.TheVariants.{Mark}
@@ -27,14 +25,15 @@ use Rattle.ks_history.specs.Machine.{reader_of, Stores, network, part_of, has_to
 use Rattle.ks_history.specs.Partition.{is_commit, sent_slots, recs, by_sender, past_from}
 use Rattle.ks_history.specs.Replay.{takes_of, takes_by, replayed, produced_by, produced}
 use Rattle.ks_history.specs.State.{State, Setup, start, with_number, grown, insert_part, has_part, has_task, with_pending, without_number}
-use Rattle.ks_history.specs.Step.{markers_for, refusal, effect, state_by, pending_at, fenced, none_undecided, or_else, without_part, markers_waiting, old_generation, not_assigned, unstable_beside, renewed, can_expire, closed, tx_of}
+use Rattle.ks_history.specs.Step.{refusal, effect, state_by, pending_at, fenced, or_else, without_part, markers_waiting, old_generation, not_assigned, unstable_beside, renewed, can_expire, closed, tx_of}
 use Rattle.ks_history.proofs.Names.{has_names, same_task-refl}
 use Rattle.ks_replay.specs.Law.{OfHistories, IsRun, TellsStores, TellsAll, TellsPasts, TellsLists, TellsLate, SettledIsEmpty}
 use Rattle.ks_replay.proofs.Stores.{only_sender}
 use Rattle.ks_replay.proofs.Commits.{took, shows_after, sound_after}
 use Rattle.ks_replay.proofs.Inputs.{replayed-topics}
 use Rattle.ks_replay.proofs.Order.{Distinct-with}
-use Rattle.ks_replay.proofs.Quiet.{Quiet, quiet_shows, quiet_sound, produce_shows, produce_sound, start_sound, producer_quiet, slots_quiet, mark_quiet, abort_goes, grow_goes, aborted_waiting, none_waiting, tx_pending, tx_is, has_part-insert, at_number}
+use Rattle.ks_replay.proofs.Quiet.{Quiet, quiet_shows, quiet_sound, produce_shows, produce_sound, start_sound, producer_quiet, slots_quiet, mark_quiet, abort_goes, grow_goes, none_waiting, tx_pending, tx_is, has_part-insert, at_number}
+use Rattle.ks_replay.proofs.Refusals.{some_undecided, both_none, not_fenced, with_part, closed_undecided, closed_waiting}
 use Rattle.ks_replay.proofs.Slots.{next_mark-sent, decided-sent, Open-sent, decided_below}
 use Rattle.ks_replay.proofs.Sound.{IsOfTx, Owned, Distinct, Shows, Sound}
 
@@ -57,16 +56,6 @@ module _ (setup : Setup) (net : IsNetwork setup.plan) where
     each : (more : PartId → List Rec) → TakesEach (network setup.plan) (fed (network setup.plan) st (λ q. produced_by request q (more q))) (map (channel (network setup.plan)) (takes_by setup s request r))
     goes : (more : PartId → List Rec) → fold (advance (network setup.plan)) (fed (network setup.plan) st (λ q. produced_by request q (more q))) (map (channel (network setup.plan)) (takes_by setup s request r)) ≡ fed (network setup.plan) now more
 
-  some_undecided : (p : Producer) (e : ℕ) → or_else (fenced p e) (none_undecided p) ≡ None → (tx : Transaction) × (p.undecided ≡ Some tx)
-  some_undecided p e is = by (fenced p e) p.undecided p.last refl is
-    where
-      by : (g : Option Refused) (u : Option Transaction) (l : Option Bool) → p.undecided ≡ u →
-          or_else g (elim u as (λ _. Option Refused) [ Some tx ↦ None | None ↦ elim l as (λ _. Option Refused) [ None ↦ Some NoTransaction | Some commit ↦ Some (AlreadyDecided commit) ] ]) ≡ None → (tx : Transaction) × (p.undecided ≡ Some tx)
-      by g (Some tx) l h is = (tx, h)
-      by None None None h is = absurd cc
-      by None None (Some c) h is = absurd cc
-      by (Some g) None l h is = absurd cc
-
   commit_step : (s : State) (st : RunState TaskId PartId Stores Rec) (w e : ℕ) (tx : Transaction) → (s.producer w).undecided ≡ Some tx → Sound setup s → Shows setup s st → IsFaithful setup s w tx →
       Stepped s st (Decide w e true) None (effect s (Decide w e true))
   commit_step s st w e tx is sound shows f =
@@ -79,43 +68,6 @@ module _ (setup : Setup) (net : IsNetwork setup.plan) where
         each = λ more. (fed_later (network setup.plan) (has_names setup.plan) more st _ t.each).0;
         goes = λ more. (fed_later (network setup.plan) (has_names setup.plan) more st _ t.each).1;
       }
-
-  both_none : (a b : Option Refused) → or_else a b ≡ None → (a ≡ None) × (b ≡ None)
-  both_none None b e = (refl, e)
-  both_none (Some x) b e = absurd cc
-
-  not_fenced : (p : Producer) (e : ℕ) → fenced p e ≡ None → e ≡ p.epoch
-  not_fenced p e is = by (e == p.epoch) refl is
-    where
-      by : (b : Bool) → (e == p.epoch) ≡ b → cond b None (Some (Fenced p.epoch)) ≡ None → e ≡ p.epoch
-      by true h g = eqb-true e p.epoch h
-      by false h g = absurd cc
-
-  with_part : (p : Producer) (part : PartId) → without_part p part ≡ None → (tx : Transaction) × (p.undecided ≡ Some tx) × (has_part part tx.parts ≡ true)
-  with_part p part is = by p.undecided refl is
-    where
-      by : (u : Option Transaction) → p.undecided ≡ u → (elim u as (λ _. Option Refused) [ None ↦ Some NoTransaction | Some tx ↦ cond (has_part part tx.parts) None (Some NoTransaction) ]) ≡ None
-          → (tx : Transaction) × (p.undecided ≡ Some tx) × (has_part part tx.parts ≡ true)
-      by None h g = absurd cc
-      by (Some tx) h g = (tx, h, there (has_part part tx.parts) refl g)
-        where
-          there : (b : Bool) → has_part part tx.parts ≡ b → cond b None (Some NoTransaction) ≡ None → has_part part tx.parts ≡ true
-          there true k l = k
-          there false k l = absurd cc
-
-  closed_undecided : (p : Producer) → (closed p false).undecided ≡ None
-  closed_undecided p = by p.undecided refl
-    where
-      by : (u : Option Transaction) → p.undecided ≡ u → (elim u as (λ _. Producer) [ None ↦ p | Some tx ↦ record p { undecided = None; waiting = p.waiting ++ markers_for p.epoch false tx.parts; last = Some false } ]).undecided ≡ None
-      by None h = h
-      by (Some tx) h = refl
-
-  closed_waiting : (p : Producer) → (closed p false).waiting ≡ aborted_waiting p p.undecided
-  closed_waiting p = by p.undecided
-    where
-      by : (u : Option Transaction) → (elim u as (λ _. Producer) [ None ↦ p | Some tx ↦ record p { undecided = None; waiting = p.waiting ++ markers_for p.epoch false tx.parts; last = Some false } ]).waiting ≡ aborted_waiting p u
-      by None = refl
-      by (Some tx) = refl
 
   has_task-more : (t u : TaskId) (ts : List TaskId) → has_task t ts ≡ true → has_task t (ts ++ u ∷ []) ≡ true
   has_task-more t u [] h = absurd (true≢false (sym h))
@@ -175,7 +127,7 @@ module _ (setup : Setup) (net : IsNetwork setup.plan) where
   }
 
   renewed_quiet : (s : State) (w : ℕ) → Sound setup s → Quiet s (record s { producer = with_number s.producer w (renewed (s.producer w)) })
-  renewed_quiet s w sound = producer_quiet setup s w _ sound (abort_goes (s.producer w) (renewed (s.producer w)) (s.producer w).undecided refl (closed_undecided (s.producer w)) (closed_waiting (s.producer w)))
+  renewed_quiet s w sound = producer_quiet setup s w _ sound (abort_goes (s.producer w) (renewed (s.producer w)) (s.producer w).undecided refl (closed_undecided (s.producer w) false) (closed_waiting (s.producer w)))
 
   -- ---- any entry
   step : (s : State) (st : RunState TaskId PartId Stores Rec) (request : Request) (r : Option Refused) → refusal setup s request ≡ r → Meets setup s request → CommitsFaithfully setup s request
@@ -231,7 +183,7 @@ module _ (setup : Setup) (net : IsNetwork setup.plan) where
       commit_step s st w e u.0 u.1 sound shows (f is u.0 u.1)
   step s st (Decide w e false) (Some refused) is meets f sound shows = record { now = st; shows = shows; sound = sound; taken = sym (append-nil st.taken); each = λ more. tt; goes = λ more. refl }
   step s st (Decide w e false) None is meets f sound shows =
-      let quiet = producer_quiet setup s w _ sound (abort_goes (s.producer w) (closed (s.producer w) false) (s.producer w).undecided refl (closed_undecided (s.producer w)) (closed_waiting (s.producer w))) in
+      let quiet = producer_quiet setup s w _ sound (abort_goes (s.producer w) (closed (s.producer w) false) (s.producer w).undecided refl (closed_undecided (s.producer w) false) (closed_waiting (s.producer w))) in
       record { now = st; shows = quiet_shows setup s _ st quiet shows; sound = quiet_sound setup s _ quiet sound; taken = sym (append-nil st.taken); each = λ more. tt; goes = λ more. refl }
   step s st (MarkNext w) (Some refused) is meets f sound shows = absurd cc
   step s st (MarkNext w) None is meets f sound shows = by (s.producer w).waiting refl
@@ -295,10 +247,11 @@ module _ (setup : Setup) (net : IsNetwork setup.plan) where
     pub each : TakesEach (network setup.plan) (fed (network setup.plan) st (produced entries)) (map (channel (network setup.plan)) (replayed setup s entries))
     pub shows : Shows setup (state_after setup s entries) (fold (advance (network setup.plan)) (fed (network setup.plan) st (produced entries)) (map (channel (network setup.plan)) (replayed setup s entries)))
     pub sound : Sound setup (state_after setup s entries)
+    pub sounds : Each (λ setup s entry. Sound setup s) setup s entries
     pub taken : (fold (advance (network setup.plan)) (fed (network setup.plan) st (produced entries)) (map (channel (network setup.plan)) (replayed setup s entries))).taken ≡ st.taken ++ replayed setup s entries
 
   pub replays : (entries : List Entry) (s : State) (st : RunState TaskId PartId Stores Rec) → Each IsStep setup s entries → Each IsFaithfulEntry setup s entries → Sound setup s → Shows setup s st → Replays s st entries
-  replays [] s st legal faithful sound shows = record { each = tt; shows = subst (Shows setup s) (fed_nothing st) shows; sound = sound; taken = sym (append-nil st.taken) }
+  replays [] s st legal faithful sound shows = record { each = tt; shows = subst (Shows setup s) (fed_nothing st) shows; sound = sound; sounds = tt; taken = sym (append-nil st.taken) }
   replays (entry ∷ entries) s st legal faithful sound shows =
       let r : Option Refused = refusal setup s entry.request in
       let one : Stepped s st entry.request r (state_by s entry.request r) = step s st entry.request r refl legal.0.meets faithful.0 sound shows in
@@ -314,6 +267,7 @@ module _ (setup : Setup) (net : IsNetwork setup.plan) where
         shows = subst (λ l. Shows setup (state_after setup s (entry ∷ entries)) (fold (advance net_of) from l)) (sym cut)
             (subst (Shows setup (state_after setup s (entry ∷ entries))) (sym (fold-append (advance net_of) from first then_ ∙ ap (λ (n : RunState TaskId PartId Stores Rec). fold (advance net_of) n then_) goes)) more.shows);
         sound = more.sound;
+        sounds = (sound, more.sounds);
         taken =
             ap (λ l. (fold (advance net_of) from l).taken) cut
             ∙ ap (λ (n : RunState TaskId PartId Stores Rec). n.taken) (fold-append (advance net_of) from first then_ ∙ ap (λ (n : RunState TaskId PartId Stores Rec). fold (advance net_of) n then_) goes)

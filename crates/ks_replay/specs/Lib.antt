@@ -1,3 +1,4 @@
 pub mod Law
 pub mod Keeping
+pub mod Appended
 pub mod Example

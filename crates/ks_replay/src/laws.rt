@@ -1,6 +1,7 @@
 //! The history's law. Each law is the contract of a function that does nothing.
 ghost use Rattle.ks_replay.specs.Law.{OfHistories, IsRun, TellsStores, TellsPasts, TellsAll, TellsLists, TellsLate, SettledIsEmpty, IsShort, ReadableIsDecided};
 ghost use Rattle.ks_replay.specs.Keeping.{AllKept};
+ghost use Rattle.ks_replay.specs.Appended.{OpenIsAppended};
 
 /// A legal, faithful journal commits what one run without a crash does, whatever was aborted, fenced or refused in it: the
 /// steps that its commits name, each taking the first record of its list, leave in the stores the folds of the changelogs,
@@ -33,4 +34,10 @@ pub fn readable_is_decided()
 /// A replay has at most as many steps as there are records, so a bound on the records of a journal is one on the run.
 pub fn replay_is_short()
     ensures { OfHistories IsShort }
+{}
+
+/// What a faithful commit compares with what its tasks make is what its transaction appended: the records of an undecided
+/// transaction that no marker completes are those of its accepted appends, in their order.
+pub fn open_is_appended()
+    ensures { OfHistories OpenIsAppended }
 {}

@@ -1,0 +1,37 @@
+-- What a transaction appended, told by the journal: the records of the accepted appends since its producer last ended one.
+use Rattle.std.specs.Prelude.{◌≡◌, ℕ, ◌==◌, ◌&&◌, if◌then◌else◌, List, [], ◌∷◌, ◌++◌, Option, Some, None}
+use Rattle.ks_row.specs.declared.record.Rec.{Rec}
+use Rattle.ks_row.specs.declared.record.PartId.{PartId}
+use Rattle.ks_row.specs.declared.record.TaskId.{TaskId}
+use Rattle.ks_row.specs.declared.assignment.Refused.{Refused}
+use Rattle.ks_row.specs.Parts.{same_part, same_task}
+use Rattle.ks_history.specs.declared.journal.Request.{Request}
+use Rattle.ks_history.specs.declared.journal.Request.TheVariants.{Init, Append, Decide, Expire}
+use Rattle.ks_history.specs.declared.journal.Entry.{Entry}
+use Rattle.ks_history.specs.declared.transaction.Transaction.{Transaction}
+use Rattle.ks_history.specs.Partition.{recs, open_from}
+use Rattle.ks_history.specs.State.{State, Setup, start}
+use Rattle.ks_history.specs.Step.{refusal, after, can_expire}
+use Rattle.ks_history.specs.History.{at}
+
+-- by an entry: of this producer, for this task in this partition
+abbrev pub appended_by : State → Request → Option Refused → ℕ → TaskId → PartId → List Rec → List Rec
+appended_by s request (Some refused) w t q before = before
+appended_by s (Append v e number u p recs) None w t q before = if ((w == v) && same_task t u) && same_part q p then before ++ recs else before
+appended_by s (Init v) None w t q before = if w == v then [] else before
+appended_by s (Decide v e commit) None w t q before = if w == v then [] else before
+appended_by s (Expire v) None w t q before = if (w == v) && can_expire s v then [] else before
+appended_by s _ None w t q before = before
+
+abbrev pub appended_from : Setup → State → List Entry → ℕ → TaskId → PartId → List Rec → List Rec
+appended_from setup s [] w t q before = before
+appended_from setup s (entry ∷ entries) w t q before =
+    appended_from setup (after setup s entry.request) entries w t q (appended_by s entry.request (refusal setup s entry.request) w t q before)
+
+abbrev pub appended : Setup → List Entry → ℕ → TaskId → PartId → List Rec
+appended setup journal w t q = appended_from setup start journal w t q []
+
+-- with which a faithful commit compares: the records of an undecided transaction that no marker completes
+abbrev pub OpenIsAppended : Setup → List Entry → Type 0
+OpenIsAppended setup journal = (w : ℕ) (tx : Transaction) → ((at setup journal).producer w).undecided ≡ Some tx → (t : TaskId) (q : PartId) →
+    recs (open_from w ((at setup journal).producer w).epoch t 0 ((at setup journal).partition q)) ≡ appended setup journal w t q
