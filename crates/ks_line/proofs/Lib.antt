@@ -1,0 +1,4 @@
+pub mod Trees
+pub mod Verdicts
+pub mod Nodes
+pub mod Texts

@@ -1,0 +1,9 @@
+pub mod Gives
+pub mod Members
+pub mod Labels
+pub mod Exprs
+pub mod Tests
+pub mod Nodes
+pub mod Topology
+pub mod Record
+pub mod Texts
