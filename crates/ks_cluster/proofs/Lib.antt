@@ -1,0 +1,6 @@
+pub mod Lists
+pub mod Logs
+pub mod Cuts
+pub mod Steps
+pub mod Readings
+pub mod Entries

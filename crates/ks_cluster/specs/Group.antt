@@ -1,0 +1,18 @@
+-- The group's part of the refusals, each over what it needs.
+use Rattle.std.specs.Prelude.{ℕ, ◌==◌, if◌then◌else◌, Option, Some, None, List}
+use Rattle.ks_row.specs.declared.record.TaskId.{TaskId}
+use Rattle.ks_row.specs.declared.assignment.Assignment.{Assignment}
+use Rattle.ks_row.specs.declared.assignment.Refused.{Refused}
+use Rattle.ks_row.specs.declared.assignment.Refused.TheVariants.{OldGeneration, NotAssigned}
+use Rattle.ks_history.specs.Step.{place_in}
+
+-- the generation isn't the present one
+abbrev pub generation_fault : ℕ → ℕ → Option Refused
+generation_fault now g = if g == now then None else Some (OldGeneration now)
+
+abbrev pub owner_at : Option Assignment → List ℕ → TaskId → Option ℕ
+owner_at assignment members t = elim assignment [ None ↦ None | Some a ↦ place_in t members a.active ]
+
+-- the owner isn't this worker
+abbrev pub owner_fault : Option ℕ → ℕ → Option Refused
+owner_fault owner w = elim owner [ None ↦ Some (NotAssigned None) | Some v ↦ if v == w then None else Some (NotAssigned (Some v)) ]

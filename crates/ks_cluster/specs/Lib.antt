@@ -1,0 +1,7 @@
+pub mod Placed
+pub mod Producers
+pub mod Group
+pub mod Replies
+pub mod Reading
+pub mod Moves
+pub mod Kept

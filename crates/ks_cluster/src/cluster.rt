@@ -1,0 +1,379 @@
+//! The cluster: a broker under a journal that is legal and faithful.
+ghost use Rattle.std.specs.Prelude.{◌≡◌, ℕ, ◌≤◌, ◌<◌, ◌^◌, [], true, IfOk, OnErr, length};
+ghost use Rattle.std.specs.List.{All};
+ghost use Rattle.ks_history.specs.declared.journal.Request.TheVariants.{Produce, Init, Add, Append, SendOffsets, Decide, MarkNext, Join, Assign};
+ghost use Rattle.ks_history.specs.declared.journal.Reply.TheVariants.{Number, Mark as Marked};
+ghost use Rattle.ks_history.specs.Machine.{has_topic};
+ghost use Rattle.ks_history.specs.State.{IsSetup, IsPart, has_task};
+ghost use Rattle.ks_history.specs.History.{Meets, CommitsFaithfully, IsHistory};
+ghost use Rattle.ks_history.specs.Reads.{MayFetch, fetched, committed_refusal, committed_offsets, ends_of, decided_records, pending_producers};
+ghost use Rattle.ks_cluster.specs.Replies.{done_or, number_or, truth_or};
+ghost use Rattle.ks_history.specs.Count.{records_in};
+ghost use Rattle.ks_cluster.specs.Kept.{Kept, setup_of, setup_from, state_of, Answers, Refuses};
+
+use crate::append::{copies, copy};
+use crate::broker::Broker;
+use crate::group::copy_assignment;
+use crate::producers::new_pending;
+use crate::reading::{
+    cut_from, decided_in, ends_in, next_in, pending_count, readable_in, stable_in,
+};
+use crate::replies::{done, numbered, told};
+use crate::work::Work;
+use ks_history::{Entry, Journal, Reply, Request};
+use ks_row::{Assignment, PartId, Rec, Refused, Seq, TaskId};
+use std::alloc::{AllocError, Global};
+use std::marker::Model;
+
+/// A cluster in memory: its partitions, producers, group and committed offsets, and the journal of all requests that
+/// write. The journal is a history at all times, and all else is where the journal leaves it.
+#[derive(Drop)]
+pub struct Cluster<W: Work> {
+    work: W,
+    counts: Vec<u8>,
+    broker: Broker,
+    journal: Vec<Entry>,
+}
+
+impl<W: Work> Model for Cluster<W> {
+    ghost use Rattle.ks_cluster.specs.Kept.{Kept, IsKept};
+
+    ghost Value = { Kept W };
+
+    ghost view = { λ c. record { work = c.work; counts = c.counts.items; tasks = c.broker.group.tasks.items; journal = c.journal.items } };
+
+    ghost invariant = { λ c. IsKept (W.plan c.work) c.counts.items c.journal.items c.broker };
+}
+
+impl<W: Work> Cluster<W> {
+    /// An empty cluster, with the partition count of each topic and its tasks.
+    pub fn new(
+        alloc: Global,
+        work: W,
+        parts: Vec<u8>,
+        tasks: Vec<TaskId>,
+    ) -> Result<Cluster<W>, AllocError>
+        requires { IsSetup (setup_from (W.plan work) parts.items tasks.items) }
+        ensures { IfOk result (λ c. c ≡ record { work = work; counts = parts.items; tasks = tasks.items; journal = [] }) }
+    {
+        let broker = Broker::new(alloc, tasks)?;
+        Ok(Cluster {
+            work,
+            counts: parts,
+            broker,
+            journal: Vec::new(alloc),
+        })
+    }
+
+    /// Puts a record into a partition of an input topic, and answers its offset.
+    pub fn produce(&mut self, alloc: Global, part: PartId, rec: &Rec) -> Result<u64, AllocError>
+        requires { Meets (setup_of W.plan self.old) (state_of W.plan self.old) (Produce part rec.now) }
+        ensures ok { IfOk result (λ n. Answers W.plan self.old self.new (Produce part rec.now) (Number n)) }
+        ensures err { OnErr result (self.new ≡ self.old) }
+    {
+        let kept = copy(rec)?;
+        let logged = copy(rec)?;
+        self.journal.reserve(1)?;
+        let offset = self.broker.produce(alloc, part, logged)?;
+        self.journal.push_reserved(Entry {
+            request: Request::Produce { part, rec: kept },
+            reply: Reply::Number(offset),
+        });
+        Ok(offset)
+    }
+
+    /// Begins a new epoch of a producer, whose undecided transaction is aborted, and answers the epoch.
+    pub fn init(&mut self, alloc: Global, w: u8) -> Result<u64, AllocError>
+        requires { Meets (setup_of W.plan self.old) (state_of W.plan self.old) (Init w) }
+        ensures ok { IfOk result (λ n. Answers W.plan self.old self.new (Init w) (Number n)) }
+        ensures err { OnErr result (self.new ≡ self.old) }
+    {
+        self.journal.reserve(1)?;
+        let epoch = self.broker.init(alloc, w)?;
+        self.journal.push_reserved(Entry {
+            request: Request::Init { w },
+            reply: Reply::Number(epoch),
+        });
+        Ok(epoch)
+    }
+
+    /// Takes a partition into the producer's transaction, which begins where there is none. Refused: Fenced,
+    /// MarkersWaiting.
+    pub fn add(
+        &mut self,
+        alloc: Global,
+        w: u8,
+        epoch: u64,
+        part: PartId,
+    ) -> Result<Result<(), Refused>, AllocError>
+        requires { Meets (setup_of W.plan self.old) (state_of W.plan self.old) (Add w epoch part) }
+        ensures ok { IfOk result (λ r. Answers W.plan self.old self.new (Add w epoch part) (done_or r)) }
+        ensures err { OnErr result (self.new ≡ self.old) }
+    {
+        self.journal.reserve(1)?;
+        let outcome = self.broker.add(alloc, w, epoch, part)?;
+        self.journal.push_reserved(Entry {
+            request: Request::Add { w, epoch, part },
+            reply: done(&outcome),
+        });
+        Ok(outcome)
+    }
+
+    /// Appends records of a task to a partition of the producer's transaction, and answers the first offset. Refused:
+    /// Fenced, NoTransaction, OutOfSequence.
+    pub fn append(
+        &mut self,
+        alloc: Global,
+        w: u8,
+        epoch: u64,
+        number: u64,
+        task: TaskId,
+        part: PartId,
+        recs: &[Rec],
+    ) -> Result<Result<u64, Refused>, AllocError>
+        requires { Meets (setup_of W.plan self.old) (state_of W.plan self.old) (Append w epoch number task part recs.now) }
+        ensures ok { IfOk result (λ r. Answers W.plan self.old self.new (Append w epoch number task part recs.now) (number_or r)) }
+        ensures err { OnErr result (self.new ≡ self.old) }
+    {
+        let kept = copies(alloc, recs)?;
+        self.journal.reserve(1)?;
+        let outcome = self
+            .broker
+            .append(alloc, w, epoch, number, task, part, recs)?;
+        self.journal.push_reserved(Entry {
+            request: Request::Append {
+                w,
+                epoch,
+                number,
+                task,
+                part,
+                recs: Seq::of(kept),
+            },
+            reply: numbered(&outcome),
+        });
+        Ok(outcome)
+    }
+
+    /// Pends the offsets of a task in the producer's transaction, which begins where there is none, in place of earlier
+    /// ones of the task. Refused: Fenced, OldGeneration, NotAssigned, MarkersWaiting, Unstable.
+    pub fn send_offsets(
+        &mut self,
+        alloc: Global,
+        w: u8,
+        epoch: u64,
+        generation: u64,
+        task: TaskId,
+        offsets: &[(u16, u64)],
+        order: &[(u16, u64)],
+        late: u64,
+    ) -> Result<Result<(), Refused>, AllocError>
+        requires { Meets (setup_of W.plan self.old) (state_of W.plan self.old) (SendOffsets w epoch generation task offsets.now order.now late) }
+        ensures ok { IfOk result (λ r. Answers W.plan self.old self.new (SendOffsets w epoch generation task offsets.now order.now late) (done_or r)) }
+        ensures err { OnErr result (self.new ≡ self.old) }
+    {
+        let new = new_pending(alloc, task, offsets, order, late)?;
+        let kept = new_pending(alloc, task, offsets, order, late)?;
+        self.journal.reserve(1)?;
+        let outcome = self.broker.send_offsets(alloc, w, epoch, generation, new)?;
+        self.journal.push_reserved(Entry {
+            request: Request::SendOffsets {
+                w,
+                epoch,
+                generation,
+                task,
+                offsets: kept.offsets,
+                order: kept.order,
+                late,
+            },
+            reply: done(&outcome),
+        });
+        Ok(outcome)
+    }
+
+    /// Decides the producer's transaction, whose markers wait from then on. A commit, which is faithful, makes the
+    /// pending offsets the committed ones in the same step. Refused: Fenced, AlreadyDecided, NoTransaction.
+    pub fn decide(
+        &mut self,
+        alloc: Global,
+        w: u8,
+        epoch: u64,
+        commit: bool,
+    ) -> Result<Result<(), Refused>, AllocError>
+        requires meets { Meets (setup_of W.plan self.old) (state_of W.plan self.old) (Decide w epoch commit) }
+        requires faithful { CommitsFaithfully (setup_of W.plan self.old) (state_of W.plan self.old) (Decide w epoch commit) }
+        ensures ok { IfOk result (λ r. Answers W.plan self.old self.new (Decide w epoch commit) (done_or r)) }
+        ensures err { OnErr result (self.new ≡ self.old) }
+    {
+        self.journal.reserve(1)?;
+        let outcome = self.broker.decide(alloc, w, epoch, commit)?;
+        self.journal.push_reserved(Entry {
+            request: Request::Decide { w, epoch, commit },
+            reply: done(&outcome),
+        });
+        Ok(outcome)
+    }
+
+    /// Writes the first waiting marker of a producer, and answers its partition and decision; None where none waits.
+    pub fn mark_next(&mut self, alloc: Global, w: u8) -> Result<Option<(PartId, bool)>, AllocError>
+        requires { Meets (setup_of W.plan self.old) (state_of W.plan self.old) (MarkNext w) }
+        ensures ok { IfOk result (λ m. Answers W.plan self.old self.new (MarkNext w) (Marked m)) }
+        ensures err { OnErr result (self.new ≡ self.old) }
+    {
+        self.journal.reserve(1)?;
+        let marked = self.broker.mark_next(alloc, w)?;
+        self.journal.push_reserved(Entry {
+            request: Request::MarkNext { w },
+            reply: Reply::Mark(marked),
+        });
+        Ok(marked)
+    }
+
+    /// Takes a worker into the group, and answers the new generation, which has no assignment.
+    pub fn join(&mut self, alloc: Global, w: u8) -> Result<u64, AllocError>
+        requires { Meets (setup_of W.plan self.old) (state_of W.plan self.old) (Join w) }
+        ensures ok { IfOk result (λ n. Answers W.plan self.old self.new (Join w) (Number n)) }
+        ensures err { OnErr result (self.new ≡ self.old) }
+    {
+        self.journal.reserve(1)?;
+        let generation = self.broker.join(alloc, w)?;
+        self.journal.push_reserved(Entry {
+            request: Request::Join { w },
+            reply: Reply::Number(generation),
+        });
+        Ok(generation)
+    }
+
+    /// Gives the generation an assignment: false where it has one already. Refused: OldGeneration, BadAssignment.
+    pub fn assign(
+        &mut self,
+        alloc: Global,
+        w: u8,
+        generation: u64,
+        a: &Assignment,
+    ) -> Result<Result<bool, Refused>, AllocError>
+        requires { Meets (setup_of W.plan self.old) (state_of W.plan self.old) (Assign w generation a.now) }
+        ensures ok { IfOk result (λ r. Answers W.plan self.old self.new (Assign w generation a.now) (truth_or r)) }
+        ensures err { OnErr result (self.new ≡ self.old) }
+    {
+        let kept = copy_assignment(alloc, a)?;
+        self.journal.reserve(1)?;
+        let outcome = self.broker.assign(alloc, generation, a)?;
+        self.journal.push_reserved(Entry {
+            request: Request::Assign {
+                w,
+                generation,
+                a: kept,
+            },
+            reply: told(&outcome),
+        });
+        Ok(outcome)
+    }
+
+    /// The first `max` readable records of a partition at or past an offset, with their offsets, and where the next
+    /// fetch goes on.
+    pub fn fetch(
+        &self,
+        alloc: Global,
+        part: PartId,
+        from: u64,
+        max: u32,
+    ) -> Result<(Vec<(u64, Rec)>, u64), AllocError>
+        requires { MayFetch (setup_of W.plan self.now) (state_of W.plan self.now) part from max }
+        ensures records { IfOk result (λ r. r.0.items ≡ (fetched (state_of W.plan self.now) part from max).0) }
+        ensures next { IfOk result (λ r. r.1 ≡ (fetched (state_of W.plan self.now) part from max).1) }
+    {
+        let log = self.broker.log.as_slice();
+        let all = readable_in(alloc, log, part)?;
+        let made = cut_from(alloc, all.as_slice(), from, max as usize)?;
+        let stable = stable_in(log, part);
+        let next = next_in(made.as_slice(), from, max as usize, stable)?;
+        Ok((made, next))
+    }
+
+    /// The committed offset of each input of a task, in the order of its inputs. Refused: OldGeneration, NotAssigned,
+    /// Unstable.
+    pub fn committed(
+        &self,
+        alloc: Global,
+        w: u8,
+        generation: u64,
+        task: TaskId,
+    ) -> Result<Result<Vec<(u16, u64)>, Refused>, AllocError>
+        requires worker { w ≤ 16 }
+        requires task { has_task task (setup_of W.plan self.now).tasks ≡ true }
+        ensures offsets { IfOk result (λ r. IfOk r (λ v. v.items ≡ committed_offsets (setup_of W.plan self.now) (state_of W.plan self.now) task)) }
+        ensures refused { IfOk result (λ r. Refuses (committed_refusal (state_of W.plan self.now) w generation task) r) }
+    {
+        if let Some(refused) = self.broker.read_refusal(w, generation, task) {
+            return Ok(Err(refused));
+        }
+        let inputs = self.work.inputs(task.sub);
+        Ok(Ok(self.broker.group.offsets(alloc, task, inputs)?))
+    }
+
+    /// The ends of some partitions.
+    pub fn ends(&self, alloc: Global, parts: &[PartId]) -> Result<Vec<u64>, AllocError>
+        requires { All (IsPart (setup_of W.plan self.now)) parts.now }
+        ensures { IfOk result (λ v. v.items ≡ ends_of (state_of W.plan self.now) parts.now) }
+    {
+        ends_in(alloc, self.broker.log.as_slice(), parts)
+    }
+
+    /// The journal. It is legal and faithful, and has fewer than 2^48 records.
+    pub fn journal(&self) -> &[Entry]
+        ensures entries { result.now ≡ self.now.journal }
+        ensures history { IsHistory (setup_of W.plan self.now) self.now.journal }
+        ensures few { records_in (setup_of W.plan self.now) self.now.journal < 2 ^ 48 }
+    {
+        self.journal.as_slice()
+    }
+
+    /// The journal alone: legal, faithful and with fewer than 2^48 records.
+    pub fn into_journal(self) -> Journal
+        ensures entries { result ≡ self.journal }
+        ensures history { IsHistory (setup_of W.plan self) self.journal }
+        ensures few { records_in (setup_of W.plan self) self.journal < 2 ^ 48 }
+    {
+        let Cluster {
+            work: _,
+            counts: _,
+            broker: _,
+            journal,
+        } = self;
+        Seq::of(journal)
+    }
+
+    /// The committed late total.
+    pub fn late(&self) -> u64
+        ensures { result ≡ (state_of W.plan self.now).late }
+    {
+        self.broker.group.late
+    }
+
+    /// The committed offset of a task's input.
+    pub fn offset(&self, task: TaskId, topic: u16) -> u64
+        requires task { has_task task (setup_of W.plan self.now).tasks ≡ true }
+        requires input { has_topic topic ((setup_of W.plan self.now).plan.inputs task.sub) ≡ true }
+        ensures { result ≡ (state_of W.plan self.now).committed task topic }
+    {
+        self.broker.group.offset(task, topic)
+    }
+
+    /// How many producers have an undecided transaction or a waiting marker.
+    pub fn pending(&self) -> u32
+        ensures { result ≡ pending_producers (state_of W.plan self.now) }
+    {
+        pending_count(self.broker.producers.as_slice())
+    }
+
+    /// The decided records of a partition, with their offsets.
+    pub fn decided(&self, alloc: Global, part: PartId) -> Result<Vec<(u64, Rec)>, AllocError>
+        requires { IsPart (setup_of W.plan self.now) part }
+        ensures { IfOk result (λ v. v.items ≡ decided_records (state_of W.plan self.now) part) }
+    {
+        let log = self.broker.log.as_slice();
+        let producers = self.broker.producers.as_slice();
+        let made = decided_in(alloc, log, producers, part)?;
+        Ok(made)
+    }
+}

@@ -1,0 +1,243 @@
+//! The group: its members, where the tasks stand, and what was committed.
+ghost use Rattle.std.specs.Prelude.{◌≡◌, ◌++◌, ◌+◌, ◌<◌, ◌≤◌, ◌∷◌, [], IfOk, OnErr, None, Some, length, map};
+ghost use Rattle.ks_history.specs.State.{has_number, insert_number};
+ghost use Rattle.ks_history.specs.Step.{or_else, is_place, place_in, places_of, badly_placed, bad_assignment};
+ghost use Rattle.ks_cluster.specs.Producers.{offset_after};
+ghost use Rattle.ks_cluster.specs.Group.{generation_fault, owner_at, owner_fault};
+
+use crate::producers::offset_with;
+use ks_history::Pending;
+use ks_row::{Assignment, Refused, Seq, TaskId};
+use std::alloc::{AllocError, Global};
+
+/// The group of the workers, and what their tasks committed.
+#[derive(Drop)]
+pub struct Group {
+    pub tasks: Vec<TaskId>,
+    pub generation: u64,
+    /// Rising.
+    pub members: Seq<u8>,
+    pub assignment: Option<Assignment>,
+    /// What was pending at each commit, in order.
+    pub commits: Seq<Seq<Pending>>,
+    /// The committed late total.
+    pub late: u64,
+}
+
+fn is_member(members: &[u8], w: u8) -> bool
+    ensures { result ≡ has_number w members.now }
+{
+    for m in members {
+        if w == *m {
+            return true;
+        }
+    }
+    false
+}
+
+/// Rising members with one more.
+fn with_member(alloc: Global, members: &[u8], w: u8) -> Result<Vec<u8>, AllocError>
+    ensures { IfOk result (λ made. made.items ≡ insert_number w members.now) }
+{
+    let mut made = Vec::new(alloc);
+    for (i, m) in members.iter().enumerate() {
+        if w == *m {
+            made.extend_from_slice(&members[i..])?;
+            return Ok(made);
+        }
+        if w < *m {
+            made.push(w)?;
+            made.extend_from_slice(&members[i..])?;
+            return Ok(made);
+        }
+        made.push(*m)?;
+    }
+    made.push(w)?;
+    Ok(made)
+}
+
+/// Whether a task stands at a member here.
+fn stands(members: &[u8], task: TaskId, place: (TaskId, u8)) -> bool
+    ensures { result ≡ is_place task members.now place }
+{
+    task.is(place.0) && is_member(members, place.1)
+}
+
+/// The member at which a task is active.
+fn place_of(active: &[(TaskId, u8)], members: &[u8], task: TaskId) -> Option<u8>
+    ensures { result ≡ place_in task members.now active.now }
+{
+    for place in active {
+        if stands(members, task, *place) {
+            return Some(place.1);
+        }
+    }
+    None
+}
+
+/// At how many members a task is active.
+fn places(active: &[(TaskId, u8)], members: &[u8], task: TaskId) -> u64
+    ensures { result ≡ places_of task members.now active.now }
+{
+    let mut count: u64 = 0;
+    for place in active {
+        if stands(members, task, *place) {
+            count += 1;
+        }
+    }
+    count
+}
+
+/// The first task, in task order, that isn't active at exactly one member.
+fn misplaced(tasks: &[TaskId], members: &[u8], active: &[(TaskId, u8)]) -> Option<TaskId>
+    ensures { result ≡ badly_placed tasks.now members.now active.now }
+{
+    let mut found: Option<TaskId> = None;
+    let mut i = tasks.len();
+    while i > 0 {
+        i -= 1;
+        let task = tasks[i];
+        if places(active, members, task) != 1 {
+            found = match found {
+                Some(other) if other.is_before(task) => Some(other),
+                _ => Some(task),
+            };
+        }
+    }
+    found
+}
+
+fn copy_places(alloc: Global, places: &[(TaskId, u8)]) -> Result<Vec<(TaskId, u8)>, AllocError>
+    ensures { IfOk result (λ made. made.items ≡ places.now) }
+{
+    let mut made = Vec::new(alloc);
+    made.extend_from_slice(places)?;
+    Ok(made)
+}
+
+/// The same assignment again.
+pub fn copy_assignment(alloc: Global, a: &Assignment) -> Result<Assignment, AllocError>
+    ensures { IfOk result (λ b. b ≡ a.now) }
+{
+    Ok(Assignment {
+        active: Seq::of(copy_places(alloc, a.active.as_slice())?),
+        standby: Seq::of(copy_places(alloc, a.standby.as_slice())?),
+        warmup: Seq::of(copy_places(alloc, a.warmup.as_slice())?),
+    })
+}
+
+impl Group {
+    /// A group without members.
+    pub fn new(alloc: Global, tasks: Vec<TaskId>) -> Group
+        ensures { result ≡ record { tasks = tasks; generation = 0; members = []; assignment = None; commits = []; late = 0 } }
+    {
+        Group {
+            tasks,
+            generation: 0,
+            members: Seq::new(alloc),
+            assignment: None,
+            commits: Seq::new(alloc),
+            late: 0,
+        }
+    }
+
+    /// Why a request of a generation is refused.
+    pub fn generation_refusal(&self, generation: u64) -> Option<Refused>
+        ensures { result ≡ generation_fault self.now.generation generation }
+    {
+        if generation == self.generation {
+            None
+        } else {
+            Some(Refused::OldGeneration {
+                now: self.generation,
+            })
+        }
+    }
+
+    /// The member at which a task is active.
+    fn owner(&self, task: TaskId) -> Option<u8>
+        ensures { result ≡ owner_at self.now.assignment self.now.members task }
+    {
+        match &self.assignment {
+            Some(a) => place_of(a.active.as_slice(), self.members.as_slice(), task),
+            None => None,
+        }
+    }
+
+    /// Why a worker may not speak for a task.
+    pub fn owner_refusal(&self, w: u8, task: TaskId) -> Option<Refused>
+        ensures { result ≡ owner_fault (owner_at self.now.assignment self.now.members task) w }
+    {
+        match self.owner(task) {
+            None => Some(Refused::NotAssigned { owner: None }),
+            Some(v) => {
+                if v == w {
+                    None
+                } else {
+                    Some(Refused::NotAssigned { owner: Some(v) })
+                }
+            }
+        }
+    }
+
+    /// Why an assignment is refused.
+    pub fn assign_refusal(&self, generation: u64, a: &Assignment) -> Option<Refused>
+        ensures { result ≡ or_else (generation_fault self.now.generation generation) (bad_assignment self.now.tasks.items self.now.members a.now.active) }
+    {
+        if generation != self.generation {
+            return Some(Refused::OldGeneration {
+                now: self.generation,
+            });
+        }
+        match misplaced(
+            self.tasks.as_slice(),
+            self.members.as_slice(),
+            a.active.as_slice(),
+        ) {
+            Some(task) => Some(Refused::BadAssignment { task }),
+            None => None,
+        }
+    }
+
+    /// The committed offset of a task's input.
+    pub fn offset(&self, task: TaskId, topic: u16) -> u64
+        ensures { result ≡ offset_after 0 self.now.commits task topic }
+    {
+        let mut at: u64 = 0;
+        for pending in self.commits.as_slice() {
+            at = offset_with(at, pending.as_slice(), task, topic);
+        }
+        at
+    }
+
+    /// The committed offsets of a task's inputs.
+    pub fn offsets(
+        &self,
+        alloc: Global,
+        task: TaskId,
+        inputs: &[u16],
+    ) -> Result<Vec<(u16, u64)>, AllocError>
+        ensures { IfOk result (λ made. made.items ≡ map (λ topic. (topic, offset_after 0 self.now.commits task topic)) inputs.now) }
+    {
+        let mut made = Vec::new(alloc);
+        for topic in inputs {
+            made.push((*topic, self.offset(task, *topic)))?;
+        }
+        Ok(made)
+    }
+
+    /// A worker is a member, of a new generation without an assignment.
+    pub fn join(&mut self, alloc: Global, w: u8) -> Result<u64, AllocError>
+        ensures ok { IfOk result (λ n. (n ≡ self.old.generation + 1) × (self.new ≡ record self.old { members = insert_number w self.old.members; generation = self.old.generation + 1; assignment = None })) }
+        ensures err { OnErr result (self.new ≡ self.old) }
+    {
+        let members = with_member(alloc, self.members.as_slice(), w)?;
+        let Some(generation) = self.generation.checked_add(1) else {
+            return Err(AllocError);
+        };
+        self.members = Seq::of(members);
+        self.generation = generation;
+        self.assignment = None;
+        Ok(generation)
+    }
+}

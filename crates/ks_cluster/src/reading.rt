@@ -1,0 +1,267 @@
+//! What the readers of a partition are given.
+ghost use Rattle.std.specs.Prelude.{◌≡◌, ◌++◌, ◌∷◌, [], take, length, map, max, IfOk, ◌≤◌, ◌==◌, if◌then◌else◌};
+ghost use Rattle.ks_history.specs.Partition.{next_mark, stable, past_last, decision};
+ghost use Rattle.ks_history.specs.Faithful.{marker_among};
+ghost use Rattle.ks_cluster.specs.Placed.{slots_in};
+ghost use Rattle.ks_cluster.specs.Producers.{waiting_in, pending_in};
+ghost use Rattle.ks_cluster.specs.Reading.{readable_pairs, decided_pairs, at_or_past, end_at};
+
+use crate::append::copy;
+use crate::log::Placed;
+use ks_history::{Producer, Slot};
+use ks_row::{Marker, PartId, Rec};
+use std::alloc::{AllocError, Global};
+
+/// The end of a partition: the offset of the next slot.
+pub fn end_in(log: &[Placed], part: PartId) -> u64
+    ensures { result ≡ length (slots_in part log.now) }
+{
+    let mut end: u64 = 0;
+    for placed in log {
+        if part.is(placed.part) {
+            end += 1;
+        }
+    }
+    end
+}
+
+/// How the next marker of this producer and epoch decides.
+fn next_mark_in(log: &[Placed], part: PartId, w: u8, epoch: u64) -> Option<bool>
+    ensures { result ≡ next_mark w epoch (slots_in part log.now) }
+{
+    for placed in log {
+        if part.is(placed.part) {
+            match &placed.slot {
+                Slot::Mark {
+                    producer,
+                    epoch: e,
+                    commit,
+                } => {
+                    if w == *producer && epoch == *e {
+                        return Some(*commit);
+                    }
+                }
+                _ => {}
+            }
+        }
+    }
+    None
+}
+
+/// The last stable offset: where the first record stands that no marker completes, or the end.
+pub fn stable_in(log: &[Placed], part: PartId) -> u64
+    ensures { result ≡ stable (slots_in part log.now) }
+{
+    let mut at: u64 = 0;
+    for (i, placed) in log.iter().enumerate() {
+        if part.is(placed.part) {
+            match &placed.slot {
+                Slot::Sent {
+                    producer,
+                    epoch,
+                    number: _,
+                    task: _,
+                    rec: _,
+                } => {
+                    if next_mark_in(&log[i + 1..], part, *producer, *epoch).is_none() {
+                        return at;
+                    }
+                }
+                _ => {}
+            }
+            at += 1;
+        }
+    }
+    at
+}
+
+/// The readable records of a partition.
+pub fn readable_in(
+    alloc: Global,
+    log: &[Placed],
+    part: PartId,
+) -> Result<Vec<(u64, Rec)>, AllocError>
+    ensures { IfOk result (λ made. made.items ≡ readable_pairs 0 (slots_in part log.now)) }
+{
+    let mut made = Vec::new(alloc);
+    let mut at: u64 = 0;
+    for (i, placed) in log.iter().enumerate() {
+        if part.is(placed.part) {
+            match &placed.slot {
+                Slot::Plain { rec } => made.push((at, copy(rec)?))?,
+                Slot::Sent {
+                    producer,
+                    epoch,
+                    number: _,
+                    task: _,
+                    rec,
+                } => {
+                    match next_mark_in(&log[i + 1..], part, *producer, *epoch) {
+                        None => return Ok(made),
+                        Some(true) => made.push((at, copy(rec)?))?,
+                        Some(false) => {}
+                    }
+                }
+                Slot::Mark {
+                    producer: _,
+                    epoch: _,
+                    commit: _,
+                } => {}
+            }
+            at += 1;
+        }
+    }
+    Ok(made)
+}
+
+/// Those at or past an offset, at most so many.
+pub fn cut_from(
+    alloc: Global,
+    recs: &[(u64, Rec)],
+    from: u64,
+    limit: usize,
+) -> Result<Vec<(u64, Rec)>, AllocError>
+    ensures { IfOk result (λ made. made.items ≡ take limit (at_or_past from recs.now)) }
+{
+    let mut made = Vec::new(alloc);
+    let mut left = limit;
+    for r in recs {
+        if left == 0 {
+            return Ok(made);
+        }
+        if from <= r.0 {
+            made.push((r.0, copy(&r.1)?))?;
+            left -= 1;
+        }
+    }
+    Ok(made)
+}
+
+/// One past the last offset. Where that is 2^64 this is want of memory.
+fn past_last_in(recs: &[(u64, Rec)]) -> Result<u64, AllocError>
+    ensures { IfOk result (λ next. next ≡ past_last recs.now) }
+{
+    let count = recs.len();
+    if count == 0 {
+        return Ok(0);
+    }
+    let last = recs[count - 1].0;
+    if last == u64::MAX {
+        return Err(AllocError);
+    }
+    Ok(last + 1)
+}
+
+/// Where the next read goes on after one that gave these records, of at most so many.
+pub fn next_in(recs: &[(u64, Rec)], from: u64, limit: usize, stable: u64) -> Result<u64, AllocError>
+    ensures { IfOk result (λ next. next ≡ (if length recs.now == limit then past_last recs.now else max from stable)) }
+{
+    if recs.len() == limit {
+        past_last_in(recs)
+    } else {
+        Ok(from.max(stable))
+    }
+}
+
+/// The ends of some partitions.
+pub fn ends_in(alloc: Global, log: &[Placed], parts: &[PartId]) -> Result<Vec<u64>, AllocError>
+    ensures { IfOk result (λ ends. ends.items ≡ map (end_at log.now) parts.now) }
+{
+    let mut ends = Vec::new(alloc);
+    for part in parts {
+        ends.push(end_in(log, *part))?;
+    }
+    Ok(ends)
+}
+
+/// How many producers have an undecided transaction or a waiting marker.
+pub fn pending_count(producers: &[Producer]) -> u32
+    requires { length producers.now ≤ 255 }
+    ensures { result ≡ pending_in producers.now }
+{
+    let mut count: u32 = 0;
+    for p in producers {
+        if p.undecided.is_some() || p.waiting.len() > 0 {
+            count += 1;
+        }
+    }
+    count
+}
+
+/// How the marker of a partition and an epoch decides, among markers that wait.
+fn marker_in(markers: &[Marker], part: PartId, epoch: u64) -> Option<bool>
+    ensures { result ≡ marker_among part epoch markers.now }
+{
+    for marker in markers {
+        if part.is(marker.part) && epoch == marker.epoch {
+            return Some(marker.commit);
+        }
+    }
+    None
+}
+
+/// How a waiting marker of this producer and epoch decides.
+fn waiting_mark(producers: &[Producer], part: PartId, w: u8, epoch: u64) -> Option<bool>
+    ensures { result ≡ waiting_in producers.now part w epoch }
+{
+    match producers.get(w as usize) {
+        Some(producer) => marker_in(producer.waiting.as_slice(), part, epoch),
+        None => None,
+    }
+}
+
+/// How a record of this producer and epoch is decided, where the rest of the log stands behind it.
+fn decision_in(
+    rest: &[Placed],
+    producers: &[Producer],
+    part: PartId,
+    w: u8,
+    epoch: u64,
+) -> Option<bool>
+    ensures { result ≡ decision (next_mark w epoch (slots_in part rest.now)) (waiting_in producers.now part w epoch) }
+{
+    match next_mark_in(rest, part, w, epoch) {
+        Some(commit) => Some(commit),
+        None => waiting_mark(producers, part, w, epoch),
+    }
+}
+
+/// The decided records of a partition.
+pub fn decided_in(
+    alloc: Global,
+    log: &[Placed],
+    producers: &[Producer],
+    part: PartId,
+) -> Result<Vec<(u64, Rec)>, AllocError>
+    ensures { IfOk result (λ made. made.items ≡ decided_pairs (waiting_in producers.now part) 0 (slots_in part log.now)) }
+{
+    let mut made = Vec::new(alloc);
+    let mut at: u64 = 0;
+    for (i, placed) in log.iter().enumerate() {
+        if part.is(placed.part) {
+            match &placed.slot {
+                Slot::Plain { rec } => made.push((at, copy(rec)?))?,
+                Slot::Sent {
+                    producer,
+                    epoch,
+                    number: _,
+                    task: _,
+                    rec,
+                } => {
+                    match decision_in(&log[i + 1..], producers, part, *producer, *epoch) {
+                        None => {}
+                        Some(true) => made.push((at, copy(rec)?))?,
+                        Some(false) => {}
+                    }
+                }
+                Slot::Mark {
+                    producer: _,
+                    epoch: _,
+                    commit: _,
+                } => {}
+            }
+            at += 1;
+        }
+    }
+    Ok(made)
+}

@@ -1,0 +1,24 @@
+//! What the tasks of a cluster do.
+ghost use Rattle.std.specs.Prelude.{◌≡◌, ℕ};
+ghost use Rattle.ks_history.specs.Machine.{Plan, IsApart};
+
+/// The work of a cluster's tasks: which topics they read and write, and, as a meaning alone, what they make of a record.
+pub trait Work: Drop {
+    /// The topics of each subtopology, and what its tasks make of a record.
+    ghost plan: { Self → Plan };
+
+    /// The number of input topics, which have the first numbers.
+    fn sources(&self) -> u16
+        ensures { result ≡ (plan self.now).sources };
+
+    /// The topics that the tasks of a subtopology read.
+    fn inputs(&self, sub: u8) -> &[u16]
+        ensures { result.now ≡ (plan self.now).inputs sub };
+
+    /// The changelogs that the tasks of a subtopology write.
+    fn changelogs(&self, sub: u8) -> &[u16]
+        ensures { result.now ≡ (plan self.now).changelogs sub };
+
+    /// Each changelog partition is written by one task, and is read by none.
+    ghost apart: { (work : Self) → IsApart (plan work) };
+}
