@@ -1,0 +1,18 @@
+-- What a job's lines give, without the places of the boxes in them.
+use Rattle.std.specs.Prelude.{ℕ, List, map}
+use Rattle.ks_row.specs.declared.record.Rec.{Rec}
+use Rattle.ks_topo.specs.Drafts.{DraftView, draft_view}
+use Rattle.ks_job.specs.declared.judge.JobItem.{JobItem}
+use Rattle.ks_job.specs.declared.judge.JobItem.TheVariants.{Topology, Input}
+
+-- a topology with the number of its line; a record with the number of its topic
+pub data ItemView : Type 0 where
+  TopologyAt : ℕ → DraftView → ItemView
+  RecordTo : ℕ → Rec → ItemView
+
+abbrev pub item_view : JobItem → ItemView
+item_view (Topology line draft) = TopologyAt line (draft_view draft)
+item_view (Input topic rec) = RecordTo topic rec
+
+abbrev pub item_views : List JobItem → List ItemView
+item_views is = map item_view is
