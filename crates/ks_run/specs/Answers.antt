@@ -5,7 +5,7 @@ use Rattle.ks_edge.specs.Causes.{Rose}
 use Rattle.ks_run.specs.Bytes.{taken}
 use Rattle.ks_run.specs.Form.{same}
 use Rattle.ks_run.specs.Lines.{Job, job_of}
-use Rattle.ks_run.specs.Tables.{Table, IsLatest}
+use Rattle.ks_run.specs.Tables.{latest}
 use Rattle.ks_run.specs.Texts.{settled_text, bad_words_text, read_fault_text, bad_line_text}
 
 abbrev pub words_of : List (String Global) → List (List ℕ)
@@ -23,7 +23,7 @@ IsBadJob bytes text = (line : ℕ) × (job_of bytes ≡ Err line) × (text ≡ b
 
 -- the bytes are a job, and the text has the last row of each key
 abbrev pub IsSettled : List ℕ → List ℕ → Type 0
-IsSettled bytes text = (job : Job) × (t : Table) × (job_of bytes ≡ Ok job) × IsLatest job.records t × (text ≡ settled_text job.table t)
+IsSettled bytes text = (job : Job) × (job_of bytes ≡ Ok job) × (text ≡ settled_text job.table (latest job.records))
 
 -- what is judged, with its text: by the words, the bytes where they are known, and the source's count of faults before and after
 pub record IsJudged (words : List (List ℕ)) (left : Option (List ℕ)) (before now : ℕ) (status : ℕ) (text : List ℕ) : Type 0 where

@@ -1,9 +1,8 @@
 -- The first form of a job: what its first line and its further lines say.
-use Rattle.std.specs.Prelude.{ℕ, suc, zero, ◌&&◌, ◌||◌, ◌==◌, ◌++◌, not, List, [], ◌∷◌, length, Bool, true, false, Option, Some, None, pos, nat_lt, nat_le, codes, unwrap_or, option_map, if◌then◌else◌}
-use Rattle.std.specs.Ordering.{int_eq}
+use Rattle.std.specs.Prelude.{ℕ, suc, ◌&&◌, ◌||◌, ◌==◌, ◌++◌, not, List, length, Bool, false, Option, Some, None, pos, negsuc, ℤ, nat_le, codes, unwrap_or, option_map, if◌then◌else◌}
 use Rattle.std.specs.Cmp.Lexicographic.{pointwise}
 use Rattle.std.specs.List.{list_all}
-use Rattle.serde_json.specs.Data.{Data, null, boolean, number, string, array, object, Items, no_items, item, Members, no_members, member}
+use Rattle.serde_json.specs.Data.{Data, Items, no_items, item, Members, no_members, member}
 use Rattle.serde_json.specs.Find.{get, as_str, as_number, as_i64, as_array, as_object}
 
 infixl 10 ◌>>=◌
@@ -75,13 +74,19 @@ node_of d = do
   source ← text_at (codes "topic") d
   if has_members 3 d then Some record { name = name; op = op; source = source } else None
 
--- the one topic and its partition count
+-- a number of partitions
+abbrev pub parts_in : ℤ → Option ℕ
+parts_in (pos n) = if nat_le 1 n && nat_le n 64 then Some n else None
+parts_in (negsuc n) = None
+
+-- the one topic, which has 1 to 64 partitions
 unfoldable pub topic_of : Data → Option (List ℕ)
 topic_of d = do
   topic ← only_member_of d
   n ← as_number topic.1
   partitions ← as_i64 n
-  if int_eq partitions (pos 1) && is_label topic.0 then Some topic.0 else None
+  parts ← parts_in partitions
+  if is_label topic.0 then Some topic.0 else None
 
 unfoldable pub printed_of : Data → Option (List ℕ)
 printed_of d = do

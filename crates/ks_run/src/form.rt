@@ -1,8 +1,8 @@
 //! The first form of a job.
-ghost use Rattle.std.specs.Prelude.{◌≡◌, IfOk, option_map, string_bytes};
+ghost use Rattle.std.specs.Prelude.{◌≡◌, ◌≤◌, IfOk, IfSome, option_map, string_bytes};
 ghost use Rattle.std.specs.List.{list_all};
 ghost use Rattle.serde_json.specs.View.{view};
-ghost use Rattle.ks_run.specs.Form.{has_members, only_member_of, only_item_of, text_at, is_word_byte, is_label_byte, is_node_name, is_label, node_of, topic_of, printed_of, only_node_of, changelog_of, header_of};
+ghost use Rattle.ks_run.specs.Form.{has_members, only_member_of, only_item_of, text_at, is_word_byte, is_label_byte, is_node_name, is_label, node_of, parts_in, topic_of, printed_of, only_node_of, changelog_of, header_of};
 
 use serde_json::Value;
 use std::alloc::{AllocError, Global};
@@ -11,7 +11,11 @@ use std::alloc::{AllocError, Global};
 #[derive(Clone, Copy)]
 pub struct Header<'a> {
     pub topic: &'a str,
+    /// How many partitions the topic has.
+    pub parts: u8,
     pub table: &'a str,
+    ghost low: { 1 ≤ parts },
+    ghost high: { parts ≤ 64 },
 }
 
 #[derive(Clone, Copy)]
@@ -123,14 +127,26 @@ fn read_node(value: &Value) -> Option<Node<'_>>
     }
 }
 
+fn read_parts(partitions: i64) -> Option<u8>
+    ensures value { result ≡ parts_in partitions }
+    ensures range { IfSome result (λ n. (1 ≤ n) × (n ≤ 64)) }
+{
+    if 1 <= partitions && partitions <= 64 {
+        Some(partitions as u8)
+    } else {
+        None
+    }
+}
+
 #[tactic(auto, unfolding(crate::specs::Form::topic_of))]
-fn read_topic(value: &Value) -> Option<&str>
-    ensures { option_map (λ s. s.now) result ≡ topic_of (view value.now) }
+fn read_topic(value: &Value) -> Option<(&str, u8)>
+    ensures name { option_map (λ s. s.0.now) result ≡ topic_of (view value.now) }
+    ensures parts { IfSome result (λ s. (1 ≤ s.1) × (s.1 ≤ 64)) }
 {
     let (name, count) = only_member(value)?;
-    let partitions = count.as_number()?.as_i64()?;
-    if partitions == 1 && is_topic_name(name) {
-        Some(name)
+    let parts = read_parts(count.as_number()?.as_i64()?)?;
+    if is_topic_name(name) {
+        Some((name, parts))
     } else {
         None
     }
@@ -172,7 +188,7 @@ pub fn read_header(alloc: Global, value: &Value) -> Result<Option<Header<'_>>, A
     let Some(topics) = value.get("topics") else {
         return Ok(None);
     };
-    let Some(topic) = read_topic(topics) else {
+    let Some((topic, parts)) = read_topic(topics) else {
         return Ok(None);
     };
     let Some(nodes) = value.get("nodes") else {
@@ -198,6 +214,7 @@ pub fn read_header(alloc: Global, value: &Value) -> Result<Option<Header<'_>>, A
     {
         Ok(Some(Header {
             topic,
+            parts,
             table: node.name,
         }))
     } else {

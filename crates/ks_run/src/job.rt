@@ -1,26 +1,27 @@
 //! The job that an input is.
 ghost use Rattle.std.specs.Prelude.{◌≡◌, ◌≤◌, ◌&&◌, IfOk, IsSome, option_map, string_bytes, MatchResult, Ok, Err};
-ghost use Rattle.ks_run.specs.Lines.{lines_of, no_lines, entry_line, uncut_value, header_line, records_from, job_of, Job as SpecJob};
+ghost use Rattle.ks_run.specs.Lines.{lines_of, no_lines, change_line, uncut_value, header_line, records_from, job_of, Job as SpecJob};
 ghost use Rattle.serde_json.specs.View.{view};
-ghost use Rattle.ks_run.specs.Seen.{entry_seen, entries_seen};
+ghost use Rattle.ks_run.specs.Seen.{change_seen, changes_seen};
 
 use crate::form::read_header;
 use crate::lines::{first_line, read_line};
 use crate::reading::MOST_BYTES;
-use crate::records::{Record, read_record};
+use crate::records::read_record;
+use crate::table::Upsert;
 use serde_json::Value;
 use std::alloc::{AllocError, Global};
 
 /// The record of a line; none where the line isn't in the first form.
-#[tactic(auto, unfolding(crate::specs::Lines::entry_line))]
+#[tactic(auto, unfolding(crate::specs::Lines::change_line))]
 fn read_record_line(
     alloc: Global,
     cut: bool,
     number: u64,
     topic: &str,
     line: &[u8],
-) -> Result<Option<Record>, AllocError>
-    ensures entry { IfOk result (λ o. option_map (λ r. entry_seen r) o ≡ entry_line cut number topic.now line.now) }
+) -> Result<Option<Upsert>, AllocError>
+    ensures entry { IfOk result (λ o. option_map (λ r. change_seen r) o ≡ change_line cut number topic.now line.now) }
     ensures few { IfOk result (λ o. IsSome o → number ≤ 250001) }
 {
     if cut {
@@ -49,9 +50,9 @@ fn read_records(
     over: bool,
     topic: &str,
     input: &[u8],
-) -> Result<Result<Vec<Record>, u64>, AllocError>
+) -> Result<Result<Vec<Upsert>, u64>, AllocError>
     ensures { IfOk result (λ r. MatchResult r
-        (λ v. records_from over 2 topic.now (lines_of input.now) ≡ Ok (entries_seen v.items))
+        (λ v. records_from over 2 topic.now (lines_of input.now) ≡ Ok (changes_seen v.items))
         (λ n. records_from over 2 topic.now (lines_of input.now) ≡ Err n)) }
 {
     let mut records = Vec::new(alloc);
@@ -86,14 +87,18 @@ fn read_uncut(alloc: Global, cut: bool, line: &[u8]) -> Result<Option<Value>, Al
 pub struct Job {
     /// The name of the table that is printed.
     pub table: String,
-    pub records: Vec<Record>,
+    /// How many partitions its topic has.
+    pub parts: u8,
+    pub records: Vec<Upsert>,
+    ghost low: { 1 ≤ parts },
+    ghost high: { parts ≤ 64 },
 }
 
 /// The job that the input is, or the number of the first line that isn't in the first form.
 #[tactic(auto, unfolding(crate::specs::Lines::job_of))]
 pub fn read_job(alloc: Global, input: &[u8]) -> Result<Result<Job, u64>, AllocError>
     ensures { IfOk result (λ r. MatchResult r
-        (λ job. job_of input.now ≡ Ok (record { table = string_bytes job.table; records = entries_seen job.records.items }))
+        (λ job. job_of input.now ≡ Ok (record { table = string_bytes job.table; records = changes_seen job.records.items }))
         (λ n. job_of input.now ≡ Err n)) }
 {
     let over = input.len() > MOST_BYTES;
@@ -111,7 +116,11 @@ pub fn read_job(alloc: Global, input: &[u8]) -> Result<Result<Job, u64>, AllocEr
     match read_records(alloc, over, header.topic, rest)? {
         Ok(records) => {
             let table = String::from_str(alloc, header.table)?;
-            Ok(Ok(Job { table, records }))
+            Ok(Ok(Job {
+                table,
+                parts: header.parts,
+                records,
+            }))
         }
         Err(number) => Ok(Err(number)),
     }

@@ -17,6 +17,14 @@ const TABLE: &str =
 const CHANGELOG: &str =
     "{\"app\":\"a\",\"topics\":{\"a-x-changelog\":1},\"nodes\":[{\"name\":\"x\",\"op\":\"table\",\"topic\":\"a-x-changelog\"}],\"print\":[\"x\"]}\n";
 
+// A topic of seven partitions.
+const SPREAD: &str =
+    "{\"app\":\"a\",\"topics\":{\"t\":7},\"nodes\":[{\"name\":\"x\",\"op\":\"table\",\"topic\":\"t\"}],\"print\":[\"x\"]}\n";
+
+// One partition too many.
+const TOO_SPREAD: &str =
+    "{\"app\":\"a\",\"topics\":{\"t\":65},\"nodes\":[{\"name\":\"x\",\"op\":\"table\",\"topic\":\"t\"}],\"print\":[\"x\"]}\n";
+
 // Two rows for b, the later one counts; a row of a, and its deletion.
 const RECORDS: &str =
     "{\"topic\":\"t\",\"key\":\"b\",\"value\":{\"n\":1}}\n{\"topic\":\"t\",\"key\":\"a\",\"value\":{\"n\":2}}\n{\"topic\":\"t\",\"key\":\"b\",\"value\":{\"n\":3}}\n{\"topic\":\"t\",\"key\":\"a\",\"value\":null}\n";
@@ -24,6 +32,10 @@ const RECORDS: &str =
 // Rows that come out in order of key bytes, with escapes and the members in order.
 const UNSORTED: &str =
     "{\"value\":{\"b\":-1,\"a\":\"q\\\"\\u000a\"},\"key\":\"z\",\"topic\":\"t\"}\n{\"topic\":\"t\",\"key\":\"Z\",\"value\":{\"n\":0,\"m\":null}}";
+
+// Keys of several partitions, out of order.
+const MANY_KEYS: &str =
+    "{\"topic\":\"t\",\"key\":\"f\",\"value\":{\"n\":6}}\n{\"topic\":\"t\",\"key\":\"b\",\"value\":{\"n\":2}}\n{\"topic\":\"t\",\"key\":\"d\",\"value\":{\"n\":4}}\n{\"topic\":\"t\",\"key\":\"a\",\"value\":{\"n\":1}}\n{\"topic\":\"t\",\"key\":\"e\",\"value\":{\"n\":5}}\n{\"topic\":\"t\",\"key\":\"c\",\"value\":{\"n\":3}}\n{\"topic\":\"t\",\"key\":\"d\",\"value\":null}\n{\"topic\":\"t\",\"key\":\"a\",\"value\":{\"n\":7}}\n";
 
 // How the input comes and the output goes: the sizes of the pieces, and the numbers of the takes and puts that fail.
 #[derive(Clone, Copy)]
@@ -115,6 +127,11 @@ fn settled(rt: HostRuntime) -> Result<(), Fail> {
     for (input, output) in [
         ([TABLE, RECORDS], "settled\ntable x 1\n[\"b\",{\"n\":3}]\n"),
         ([TABLE, ""], "settled\ntable x 0\n"),
+        ([SPREAD, RECORDS], "settled\ntable x 1\n[\"b\",{\"n\":3}]\n"),
+        (
+            [SPREAD, MANY_KEYS],
+            "settled\ntable x 5\n[\"a\",{\"n\":7}]\n[\"b\",{\"n\":2}]\n[\"c\",{\"n\":3}]\n[\"e\",{\"n\":5}]\n[\"f\",{\"n\":6}]\n",
+        ),
         (
             [TABLE, UNSORTED],
             "settled\ntable x 2\n[\"Z\",{\"n\":0}]\n[\"z\",{\"a\":\"q\\\"\\n\",\"b\":-1}]\n",
@@ -139,6 +156,7 @@ fn bad_jobs(rt: HostRuntime) -> Result<(), Fail> {
     let run = ["run"];
     for (input, output) in [
         (["", ""], "bad job line 1: 0 NotBuilt\n"),
+        ([TOO_SPREAD, RECORDS], "bad job line 1: 0 NotBuilt\n"),
         ([CHANGELOG, ""], "bad job line 1: 0 NotBuilt\n"),
         ([TABLE, "\n"], "bad job line 2: 0 NotBuilt\n"),
         (

@@ -1,4 +1,4 @@
-use Rattle.std.proofs.Common.{arith, ◌≤◌, ◌∙◌}
+use Rattle.std.proofs.Common.{arith, ◌∙◌}
 use Rattle.ks_run.proofs.Known.{put_more}
 use Rattle.ks_run.proofs.writing.write_output.Goals as goal
 
