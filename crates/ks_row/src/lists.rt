@@ -1,5 +1,5 @@
 //! Lists that contracts see as lists, whatever keeps them.
-ghost use Rattle.std.specs.Prelude.{◌≡◌, ◌++◌, ◌∷◌, [], OnOk, OnErr, length};
+ghost use Rattle.std.specs.Prelude.{◌≡◌, ◌++◌, ◌∷◌, [], IfOk, OnOk, OnErr, length};
 
 use std::alloc::{AllocError, Global};
 use std::marker::Model;
@@ -105,6 +105,15 @@ impl Blob {
         ensures { result ≡ bytes.items }
     {
         Blob { bytes }
+    }
+
+    /// A copy of these bytes.
+    pub fn from_slice(alloc: Global, bytes: &[u8]) -> Result<Blob, AllocError>
+        ensures { IfOk result (λ b. b ≡ bytes.now) }
+    {
+        Ok(Blob {
+            bytes: Vec::from_slice(alloc, bytes)?,
+        })
     }
 
     pub fn as_slice(&self) -> &[u8]

@@ -86,14 +86,14 @@ pub fn write_agg(alloc: Global, agg: &Agg) -> Result<Blob, AllocError>
 pub fn write_hash(alloc: Global, hash: u128) -> Result<Blob, AllocError>
     ensures { IfOk result (λ b. b ≡ hash_bytes hash) }
 {
-    Ok(Blob::of(Vec::from_slice(alloc, &hash.to_be_bytes())?))
+    Blob::from_slice(alloc, &hash.to_be_bytes())
 }
 
 /// The bytes of a timestamp alone.
 pub fn write_time(alloc: Global, time: u64) -> Result<Blob, AllocError>
     ensures { IfOk result (λ b. b ≡ time_bytes time) }
 {
-    Ok(Blob::of(Vec::from_slice(alloc, &time.to_be_bytes())?))
+    Blob::from_slice(alloc, &time.to_be_bytes())
 }
 
 fn push_long_key(out: &mut Vec<u8>, key: &Key) -> Result<(), AllocError>
