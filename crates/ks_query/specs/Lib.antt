@@ -3,3 +3,4 @@ pub mod Streams
 pub mod Aggregates
 pub mod Query
 pub mod Grace
+pub mod Printed

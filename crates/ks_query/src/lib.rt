@@ -1,2 +1,8 @@
-//! The query of a topology over whole lists of records.
+//! The query of a topology over whole lists of records, and the text of its tables.
 #![tactic(auto)]
+
+mod printing;
+mod table;
+
+pub use printing::printed;
+pub use table::{Table, TableRow};
