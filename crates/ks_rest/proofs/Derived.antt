@@ -30,7 +30,7 @@ follows_at values n (y ∷ ys) a k h s = ⊎_elim
     (λ (e : (n ≡ a) × (y ≡ k)). subst (λ m. FollowsIn values m k) e.0 (subst (FollowsIn values n) e.1 h.0))
     (λ (e : (n < a) × Stands_at a k (suc n) ys). follows_at values (suc n) ys a k h.1 e.1) s
 
-shown_row : (w : Option Row) → option_map shown (of_row w) ≡ w
+pub shown_row : (w : Option Row) → option_map shown (of_row w) ≡ w
 shown_row None = refl
 shown_row (Some r) = refl
 

@@ -29,9 +29,9 @@ use Rattle.ks_machine.specs.Step.{Arrival, Sent, of_row, over_nodes, sends_at, i
 use Rattle.ks_machine.specs.Tasks.{machine, step, stands_at, inputs_of, item_of_input, part_of_key}
 use Rattle.ks_machine.specs.Rest.{IsDrained}
 use Rattle.ks_machine.proofs.Names.{names}
-use Rattle.ks_rest.specs.Taken.{taken_at, change_of, changes_in}
+use Rattle.ks_rest.specs.Taken.{messages, taken_at, change_of, changes_in}
 use Rattle.ks_rest.proofs.Fits.{Sourced}
-use Rattle.ks_rest.proofs.Mixed.{messages, messages-append, picked, picked-append, picked_none, avoids_sends, made_is, Stands_at}
+use Rattle.ks_rest.proofs.Mixed.{messages-append, picked, picked-append, picked_none, avoids_sends, made_is, Stands_at}
 use Rattle.ks_rest.proofs.Placed.{home_task}
 use Rattle.ks_rest.proofs.Sources.{latest_run}
 use Rattle.ks_rest.proofs.Queries.{query_at, given_here}

@@ -9,3 +9,11 @@ pub mod Sources
 pub mod Queries
 pub mod Inputs
 pub mod Derived
+pub mod Sender
+pub mod Bits
+pub mod Regrouped
+pub mod Senders
+pub mod Counted
+pub mod Received
+pub mod SentGroups
+pub mod AtRest

@@ -20,9 +20,7 @@ use Rattle.ks_machine.specs.Foreign.{subscriptions, answer_all}
 use Rattle.ks_machine.specs.Step.{Arrival, Sent, Values, row_in, changed, arrived, step_key, sends_at, changes_at, join_sends, regroup, keyed_to, send_deltas, send_subscriptions, send_responses, answer_one, write_all, value_changes, counted_at, hash_changes, over_nodes, whole_step, items_from, olds_at, news_at}
 use Rattle.ks_machine.specs.Tasks.{machine, sent_item, written_item, is_changelog, step}
 use Rattle.ks_network.proofs.Runs.{sent_to-append}
-
-abbrev pub messages : List Item → List Message
-messages xs = map (λ x. x.message) xs
+use Rattle.ks_rest.specs.Taken.{messages}
 
 pub messages-append : (xs ys : List Item) → messages (xs ++ ys) ≡ messages xs ++ messages ys
 messages-append [] ys = refl

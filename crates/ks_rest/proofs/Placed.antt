@@ -37,7 +37,8 @@ use Rattle.ks_machine.specs.Rest.{home}
 use Rattle.ks_machine.proofs.Names.{same_task-is, same_place-is}
 use Rattle.ks_rest.proofs.Each.{Each, each_nothing, each_first, each_parts, Each-append, Each-cond, Each-filter, Each-map}
 use Rattle.ks_rest.proofs.Fits.{Fits, NodeFits, EachFits, Beside, Sourced}
-use Rattle.ks_rest.proofs.Mixed.{messages, messages-append, picked, made_is}
+use Rattle.ks_rest.proofs.Mixed.{messages-append, picked, made_is}
+use Rattle.ks_rest.specs.Taken.{messages}
 use Rattle.ks_query.specs.Streams.{group_key}
 
 pub topic-is : (a b : Topic) → same_topic a b ≡ true → a ≡ b

@@ -2,3 +2,5 @@ pub mod WellFormed
 pub mod Taken
 pub mod States
 pub mod Tables
+pub mod Groups
+pub mod AtRest

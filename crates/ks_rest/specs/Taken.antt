@@ -1,5 +1,5 @@
 -- What was taken at a partition, and what it tells a table.
-use Rattle.std.specs.Prelude.{List, [], ◌∷◌, Option, Some, None, cond}
+use Rattle.std.specs.Prelude.{List, [], ◌∷◌, map, Option, Some, None, cond}
 use Rattle.ks_row.specs.declared.record.TaskId.{TaskId}
 use Rattle.ks_expr.specs.Eval.{Row}
 use Rattle.ks_map.specs.Table.{Change}
@@ -7,6 +7,10 @@ use Rattle.ks_network.specs.Run.{Taken}
 use Rattle.ks_query.specs.Streams.{Key, some_of}
 use Rattle.ks_machine.specs.Messages.{Place, same_place, Message, Item}
 use Rattle.ks_machine.specs.Messages.Message.{Given}
+
+-- what records say
+abbrev pub messages : List Item → List Message
+messages xs = map (λ x. x.message) xs
 
 -- from all senders, in the order in which it was taken
 abbrev pub taken_at : Place → List (Taken TaskId Place Item) → List Message

@@ -3,6 +3,8 @@
 //! Laws alone: each public function has an empty body, and its contract is the law.
 #![tactic(auto)]
 
+mod groups;
 mod tables;
 
+pub use groups::table_groups_are_sums;
 pub use tables::{derived_tables_follow, source_tables_are_latest};
