@@ -50,7 +50,7 @@ module _ (rules : Rules) (p : Plan) (fits : Fits p) (records : List Input) (sche
   abbrev st : State
   st = state_of rules p records schedule
 
-  abbrev follows : Follows (machine rules p) (inputs_of rules p records) st
+  abbrev pub follows : Follows (machine rules p) (inputs_of rules p records) st
   follows = Follows-run (machine rules p) (names rules p) (inputs_of rules p records) schedule
 
   -- what the task that keeps each key shows is what all tasks do
@@ -116,18 +116,18 @@ shown_below : (x : Key) (es : List (Key × Stored)) → below_all by_bytes x (ma
 shown_below x [] = refl
 shown_below x (e ∷ es) = ap (λ b. is_lt (by_bytes x e.0) && b) (shown_below x es)
 
-shown_sorted : (es : List (Key × Stored)) → is_sorted by_bytes (map (λ e. (e.0, shown e.1)) es) ≡ is_sorted by_bytes es
+pub shown_sorted : (es : List (Key × Stored)) → is_sorted by_bytes (map (λ e. (e.0, shown e.1)) es) ≡ is_sorted by_bytes es
 shown_sorted [] = refl
 shown_sorted (e ∷ es) = ap₂ (λ a b. a && b) (shown_below e.0 es) (shown_sorted es)
 
-shown_found : (q : Key) (es : List (Key × Stored)) → find by_bytes q (map (λ e. (e.0, shown e.1)) es) ≡ option_map shown (find by_bytes q es)
+pub shown_found : (q : Key) (es : List (Key × Stored)) → find by_bytes q (map (λ e. (e.0, shown e.1)) es) ≡ option_map shown (find by_bytes q es)
 shown_found q [] = refl
 shown_found q (e ∷ es) = elim (eq_by_cmp by_bytes q e.0) as (λ b. cond b (Some (shown e.1)) (find by_bytes q (map (λ e. (e.0, shown e.1)) es)) ≡ option_map shown (cond b (Some e.1) (find by_bytes q es))) [
   | true ↦ refl
   | false ↦ shown_found q es
 ]
 
-where_sum : (f : Key × Row → ℕ) (test : Key → Bool) (es : List (Key × Row)) → sum_map f (where_key by_bytes test es) ≡ sum_map (λ e. cond (test e.0) (f e) 0) es
+pub where_sum : (f : Key × Row → ℕ) (test : Key → Bool) (es : List (Key × Row)) → sum_map f (where_key by_bytes test es) ≡ sum_map (λ e. cond (test e.0) (f e) 0) es
 where_sum f test [] = refl
 where_sum f test (e ∷ es) = elim (test e.0) as (λ b. sum_map f (cond b (e ∷ where_key by_bytes test es) (where_key by_bytes test es)) ≡ cond b (f e) 0 + sum_map (λ e. cond (test e.0) (f e) 0) es) [
   | true ↦ ap (λ n. f e + n) (where_sum f test es)
@@ -137,6 +137,6 @@ where_sum f test (e ∷ es) = elim (test e.0) as (λ b. sum_map f (cond b (e ∷
     zero_sum : (n : ℕ) → n ≡ 0 + n
     zero_sum n = omega arith
 
-swap_sums : {A B : Type 0} (h : A → B → ℕ) (xs : List A) (ys : List B) → sum_map (λ x. sum_map (h x) ys) xs ≡ sum_map (λ y. sum_map (λ x. h x y) xs) ys
+pub swap_sums : {A B : Type 0} (h : A → B → ℕ) (xs : List A) (ys : List B) → sum_map (λ x. sum_map (h x) ys) xs ≡ sum_map (λ y. sum_map (λ x. h x y) xs) ys
 swap_sums h xs [] = sum_map-zero xs
 swap_sums h xs (y ∷ ys) = sum_map-add (λ x. h x y) (λ x. sum_map (h x) ys) xs ∙ ap (λ n. sum_map (λ x. h x y) xs + n) (swap_sums h xs ys)

@@ -17,3 +17,5 @@ pub mod Counted
 pub mod Received
 pub mod SentGroups
 pub mod AtRest
+pub mod GroupsRest
+pub mod PlainRest

@@ -4,7 +4,9 @@
 #![tactic(auto)]
 
 mod groups;
+mod rest;
 mod tables;
 
 pub use groups::table_groups_are_sums;
+pub use rest::plain_tables_rest;
 pub use tables::{derived_tables_follow, source_tables_are_latest};
