@@ -1,3 +1,5 @@
 pub mod Names
-pub mod Examples
 pub mod Told
+pub mod Numbers
+pub mod Alone
+pub mod Examples

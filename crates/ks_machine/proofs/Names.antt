@@ -12,7 +12,7 @@ use Rattle.ks_row.specs.Parts.{same_task}
 use Rattle.ks_machine.specs.Messages.{Place, same_place, Rules}
 use Rattle.ks_machine.specs.Tasks.{machine}
 
-topic-is : (a b : Topic) → same_topic a b ≡ true → a ≡ b
+pub topic-is : (a b : Topic) → same_topic a b ≡ true → a ≡ b
 topic-is (Input a) (Input b) e = ap Input ((Decides-eqb a b).0 e)
 topic-is (Repartition a) (Repartition b) e = ap Repartition ((Decides-eqb a b).0 e)
 topic-is (Subscriptions a) (Subscriptions b) e = ap Subscriptions ((Decides-eqb a b).0 e)
@@ -21,7 +21,7 @@ topic-is (Changelog a) (Changelog b) e = ap Changelog ((Decides-eqb a b).0 e)
 topic-is (HashChangelog a) (HashChangelog b) e = ap HashChangelog ((Decides-eqb a b).0 e)
 topic-is _ _ e = cc
 
-topic_itself : (a : Topic) → same_topic a a ≡ true
+pub topic_itself : (a : Topic) → same_topic a a ≡ true
 topic_itself (Input a) = (Decides-eqb a a).1 refl
 topic_itself (Repartition a) = (Decides-eqb a a).1 refl
 topic_itself (Subscriptions a) = (Decides-eqb a a).1 refl

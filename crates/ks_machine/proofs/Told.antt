@@ -14,8 +14,8 @@ use Rattle.ks_machine.specs.Laws.{Tells}
 
 -- of what a step makes of stores
 record ToldBy (p : Plan) (t : TaskId) (stores : ByteStores) (n : ℕ) (o : Outcome PartId ByteStores Rec) : Type 0 where
-  own : is_own_number p t.sub (topic_at p n) ≡ true → o.store n ≡ keep_all (stores n) (records_at (record { topic = n; part = t.part }) o.made)
-  other : is_own_number p t.sub (topic_at p n) ≡ false → o.store n ≡ stores n
+  own : is_own_number p t.sub n ≡ true → o.store n ≡ keep_all (stores n) (records_at (record { topic = n; part = t.part }) o.made)
+  other : is_own_number p t.sub n ≡ false → o.store n ≡ stores n
 
 told_nothing : (p : Plan) (t : TaskId) (stores : ByteStores) (n : ℕ) → ToldBy p t stores n (nothing_made stores)
 told_nothing p t stores n = record { own = λ e. refl; other = λ e. refl }

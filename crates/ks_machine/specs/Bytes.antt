@@ -2,7 +2,8 @@
 -- bytes are, and spells what that step makes; its stores become what its own changelog records make of them.
 -- Kafka Streams developer guide, "Memory management" and "State stores": a store is what its changelog says (also KIP-98 on why
 -- both are written in one transaction).
-use Rattle.std.specs.Prelude.{ℕ, List, [], ◌∷◌, map, fold, Option, Some, None, Bool, false, ◌&&◌, cond, nat_eq, option_map, is_none}
+use Rattle.std.specs.Prelude.{ℕ, List, [], ◌∷◌, map, fold, Option, Some, None, Bool, true, false, ◌||◌, ◌==◌, ◌&&◌, cond, nat_eq, option_map, is_none}
+use Rattle.std.specs.List.{filter}
 use Rattle.std.specs.declared.cmp.Ordering.{Ordering}
 use Rattle.ks_row.specs.Texts.{key_from}
 use Rattle.ks_row.specs.Spelling.{spelling}
@@ -23,14 +24,15 @@ use Rattle.ks_topo.specs.Plan.{Plan, Kind, is_windowed}
 use Rattle.ks_topo.specs.Plan.Kind.{StreamAggregate, TableAggregate, Windowed}
 use Rattle.ks_topo.specs.declared.node.Topic.{Topic}
 use Rattle.ks_topo.specs.declared.node.Topic.TheVariants.{Input, Repartition, Subscriptions, Responses, Changelog, HashChangelog}
-use Rattle.ks_topo.specs.Layout.{number_of, topic_at, kind_at, reads}
+use Rattle.ks_topo.specs.Infos.{changelog_numbers}
+use Rattle.ks_topo.specs.Layout.{number_of, topic_at, kind_at, reads, sub_count}
 use Rattle.ks_network.specs.Run.{Outcome}
 use Rattle.ks_query.specs.Streams.{Key}
 use Rattle.ks_query.specs.Windows.{by_window}
 use Rattle.ks_machine.specs.Messages.{Place, Stored, Message, Item, Store, Rules, value_of, subscription_of}
 use Rattle.ks_machine.specs.Messages.Stored.{OfRow, OfAgg}
 use Rattle.ks_machine.specs.Messages.Message.{Given, Keyed, Moved, Asked, Answered, Kept, KeptCount, KeptTime, KeptHash}
-use Rattle.ks_machine.specs.Tasks.{step, is_changelog}
+use Rattle.ks_machine.specs.Tasks.{step, is_changelog, taker}
 
 -- ---- the spelling of a message: the key and the value of its record
 abbrev pub stored_bytes : Stored → List ℕ
@@ -171,21 +173,28 @@ abbrev pub keep_all : ByteStore → List Rec → ByteStore
 keep_all m [] = m
 keep_all m (r ∷ rs) = keep_all (keep_bytes m r.key r.value) rs
 
--- whether a topic's number is that of a changelog of these tasks
-abbrev pub is_own_number : Plan → ℕ → Option Topic → Bool
-is_own_number p sub None = false
-is_own_number p sub (Some t) = is_own p sub t
+-- whether a number is that of a changelog of these tasks
+abbrev pub has_number : ℕ → List ℕ → Bool
+has_number n [] = false
+has_number n (m ∷ ms) = (n == m) || has_number n ms
+
+abbrev pub is_own_number : Plan → ℕ → ℕ → Bool
+is_own_number p sub n = has_number n (changelog_numbers p sub)
 
 -- each own changelog's store becomes what the step's records make of it
 abbrev pub stores_after : Plan → TaskId → ByteStores → List (PartId × Rec) → ByteStores
-stores_after p t stores made n = cond (is_own_number p t.sub (topic_at p n)) (keep_all (stores n) (records_at (record { topic = n; part = t.part }) made)) (stores n)
+stores_after p t stores made n = cond (is_own_number p t.sub n) (keep_all (stores n) (records_at (record { topic = n; part = t.part }) made)) (stores n)
+
+-- a record for a changelog's partition is made by the task that keeps it alone
+abbrev pub is_sent : Plan → TaskId → Place × Item → Bool
+is_sent p t x = cond (is_changelog x.0.topic) (is_own p t.sub x.0.topic && (x.0.part == t.part)) true
 
 abbrev pub nothing_made : ByteStores → Outcome PartId ByteStores Rec
 nothing_made stores = record { store = stores; made = []; late = 0 }
 
 abbrev pub outcome_of : Plan → TaskId → ByteStores → Outcome Place Store Item → Outcome PartId ByteStores Rec
 outcome_of p t stores o =
-    let made = spelled p o.made in
+    let made = spelled p (filter (is_sent p t) o.made) in
     record { store = stores_after p t stores made; made = made; late = o.late }
 
 -- a record that spells nothing of its topic's kind changes nothing
@@ -201,3 +210,11 @@ step_at rules p t stores q r (Some topic) = cond (nat_eq (reads p topic) t.sub) 
 
 abbrev pub byte_step : Rules → Plan → TaskId → ByteStores → PartId → Rec → Outcome PartId ByteStores Rec
 byte_step rules p t stores q r = step_at rules p t stores q r (topic_at p q.topic)
+
+-- ---- who takes a topic's records, by number
+abbrev pub taker_at : Plan → Option Topic → ℕ
+taker_at p None = sub_count p
+taker_at p (Some t) = taker p t
+
+abbrev pub reader_number : Plan → ℕ → ℕ
+reader_number p n = taker_at p (topic_at p n)

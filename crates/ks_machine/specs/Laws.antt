@@ -1,9 +1,10 @@
 -- Laws over every run of the machine of every plan.
-use Rattle.std.specs.Prelude.{◌≡◌, ℕ, List, Option, true, false}
+use Rattle.std.specs.Prelude.{◌≡◌, ℕ, ◌≤◌, length, List, [], Option, true, false}
 use Rattle.ks_row.specs.declared.record.Rec.{Rec}
 use Rattle.ks_row.specs.declared.record.PartId.{PartId}
-use Rattle.ks_topo.specs.Layout.{topic_at}
-use Rattle.ks_machine.specs.Bytes.{ByteStores, byte_step, is_own_number, keep_all, records_at}
+use Rattle.ks_row.specs.Parts.{same_task}
+use Rattle.ks_topo.specs.Infos.{input_numbers}
+use Rattle.ks_machine.specs.Bytes.{ByteStores, byte_step, is_own_number, has_number, reader_number, keep_all, records_at}
 use Rattle.ks_row.specs.declared.record.TaskId.{TaskId}
 use Rattle.ks_topo.specs.Plan.{Plan}
 use Rattle.ks_topo.specs.declared.node.Topic.TheVariants.{Changelog}
@@ -31,9 +32,24 @@ PastsAreWritten = (rules : Rules) (p : Plan) (inputs : Place → List Item) (sch
 
 -- over bytes: each own changelog tells each change of its store, and no other store changes
 pub record Tells (rules : Rules) (p : Plan) (t : TaskId) (stores : ByteStores) (q : PartId) (r : Rec) (n : ℕ) : Type 0 where
-  pub own : is_own_number p t.sub (topic_at p n) ≡ true →
+  pub own : is_own_number p t.sub n ≡ true →
       (byte_step rules p t stores q r).store n ≡ keep_all (stores n) (records_at (record { topic = n; part = t.part }) (byte_step rules p t stores q r).made)
-  pub other : is_own_number p t.sub (topic_at p n) ≡ false → (byte_step rules p t stores q r).store n ≡ stores n
+  pub other : is_own_number p t.sub n ≡ false → (byte_step rules p t stores q r).store n ≡ stores n
 
 abbrev pub ChangelogsTell : Type 0
 ChangelogsTell = (rules : Rules) (p : Plan) (t : TaskId) (stores : ByteStores) (q : PartId) (r : Rec) (n : ℕ) → Tells rules p t stores q r n
+
+-- the topics of a plan, by number: each is taken by one subtopology; a changelog is no input topic of the job, and is kept by one
+-- subtopology
+pub record IsApart (p : Plan) : Type 0 where
+  pub one_reader : (sub n : ℕ) → has_number n (input_numbers p sub) ≡ true → reader_number p n ≡ sub
+  pub no_source : (sub n : ℕ) → is_own_number p sub n ≡ true → length p.counts ≤ n
+  pub one_keeper : (sub other n : ℕ) → is_own_number p sub n ≡ true → is_own_number p other n ≡ true → sub ≡ other
+
+abbrev pub TopicsAreApart : Type 0
+TopicsAreApart = (p : Plan) → IsApart p
+
+-- no task makes a record for another's changelog
+abbrev pub NoneForOthers : Type 0
+NoneForOthers = (rules : Rules) (p : Plan) (t u : TaskId) (stores : ByteStores) (q : PartId) (r : Rec) (n : ℕ) → same_task u t ≡ false →
+    is_own_number p u.sub n ≡ true → records_at (record { topic = n; part = u.part }) (byte_step rules p t stores q r).made ≡ []

@@ -1,7 +1,7 @@
 //! The task machine of a topology: what a task makes of one record, and the runs of all tasks.
 #![tactic(auto)]
 
-ghost use Rattle.ks_machine.specs.Laws.{NamesAreDecided, FollowsTaken, PastsAreWritten, ChangelogsTell};
+ghost use Rattle.ks_machine.specs.Laws.{NamesAreDecided, FollowsTaken, PastsAreWritten, ChangelogsTell, TopicsAreApart, NoneForOthers};
 
 /// In each state of each run of each topology, in whatever order records are taken: a task's stores are what its own steps made of
 /// what it took, what was sent is what was received and then what waits, and a changelog's past is what its owner's own steps wrote.
@@ -11,7 +11,10 @@ pub fn runs_follow()
     ensures pasts { PastsAreWritten }
 {}
 
-/// Over bytes: what a step changes in a task's stores is what its own records for their changelogs say.
+/// Over bytes: what a step changes in a task's stores is what its own records for their changelogs say; each topic is taken by one
+/// subtopology, and no task makes a record for another's changelog.
 pub fn changelogs_tell()
-    ensures { ChangelogsTell }
+    ensures told { ChangelogsTell }
+    ensures apart { TopicsAreApart }
+    ensures alone { NoneForOthers }
 {}
