@@ -102,7 +102,7 @@ field_itself : (f : Field) → same_field f f ≡ true
 field_itself (Int z) = ap is_eq (tied_itself int_cmp_total z)
 field_itself (Text t) = ap is_eq (tied_itself nat_list_cmp_total t)
 
-row_itself : (r : Row) → same_row r r ≡ true
+pub row_itself : (r : Row) → same_row r r ≡ true
 row_itself [] = refl
 row_itself (m ∷ ms) = and_from _ _ (and_from _ _ (ap is_eq (tied_itself nat_list_cmp_total m.0)) (field_itself m.1)) (row_itself ms)
 

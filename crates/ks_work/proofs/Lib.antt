@@ -1,0 +1,3 @@
+mod Topics
+mod Writes
+mod Networks
