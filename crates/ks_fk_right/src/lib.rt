@@ -1,0 +1,137 @@
+//! The right side of a foreign-key join: what it keeps of a subscription, and what it answers (KIP-213).
+#![tactic(auto)]
+
+ghost use Rattle.std.specs.Prelude.{◌≡◌, ◌++◌, Some, None, IfOk, OnOk, OnErr, option_copied, option_map};
+ghost use Rattle.ks_map.specs.Bytes.{by_bytes};
+ghost use Rattle.ks_map.specs.Table.{write};
+ghost use Rattle.ks_wire.specs.Spelling.{subscription_key, hash_bytes, long_key};
+ghost use Rattle.ks_query.specs.Streams.{some_of};
+ghost use Rattle.ks_machine.specs.Messages.{subscription_of, instruction_of};
+ghost use Rattle.ks_machine.specs.Foreign.{subscribed, answer_to, answer_all};
+ghost use Rattle.ks_fk_right.specs.Kept.{kept_in, kept_under};
+
+use ks_row::{Blob, Change, Key, Row};
+use ks_store::KvStore;
+use ks_wire::{
+    Response, Subscription, read_hash, read_subscription_key, write_hash, write_subscription_key,
+};
+use std::alloc::{AllocError, Global};
+
+fn copy_row(row: Option<&Row>) -> Result<Option<Row>, AllocError>
+    ensures { IfOk result (λ r. r ≡ option_copied row.entry) }
+{
+    match row {
+        Some(row) => Ok(Some(row.clone()?)),
+        None => Ok(None),
+    }
+}
+
+/// The hash that is kept of a subscription: the instructions 2 and 3 put it, the others delete.
+#[tactic(auto)]
+fn kept_hash(subscription: &Subscription) -> Option<u128>
+    ensures { result ≡ subscribed (subscription_of subscription.now) }
+{
+    match subscription.instruction() {
+        0 | 1 => None,
+        _ => subscription.hash(),
+    }
+}
+
+/// The answer to a subscription, with the right row of the moment: none to the instruction 0, nor to 3 without a right row.
+fn answer(subscription: &Subscription, right: Option<&Row>) -> Result<Option<Response>, AllocError>
+    ensures { IfOk result (λ r. r ≡ answer_to (subscription_of subscription.now) (option_copied right.entry)) }
+{
+    match subscription.instruction() {
+        0 => Ok(None),
+        1 => Ok(Some(Response {
+            hash: None,
+            right: None,
+        })),
+        2 => Ok(Some(Response {
+            hash: subscription.hash(),
+            right: copy_row(right)?,
+        })),
+        _ => match right {
+            Some(row) => Ok(Some(Response {
+                hash: subscription.hash(),
+                right: Some(row.clone()?),
+            })),
+            None => Ok(None),
+        },
+    }
+}
+
+/// Takes a subscription to a foreign key: keeps its hash or deletes it, and answers with the right row of the moment; none where
+/// the instruction is 0, or 3 and there is no right row. After want of memory the store is as before.
+pub fn on_subscription<S: KvStore>(
+    alloc: Global,
+    store: &mut S,
+    foreign: &Key,
+    subscription: &Subscription,
+    right: Option<&Row>,
+) -> Result<Option<Response>, AllocError>
+    ensures kept { OnOk result (S.contents store.new ≡ write by_bytes (S.contents store.old) (subscription_key foreign.now subscription.now.left) (option_map hash_bytes (subscribed (subscription_of subscription.now)))) }
+    ensures answer { IfOk result (λ r. r ≡ answer_to (subscription_of subscription.now) (option_copied right.entry)) }
+    ensures err { OnErr result (S.contents store.new ≡ S.contents store.old) }
+{
+    let response = answer(subscription, right)?;
+    let key = write_subscription_key(alloc, foreign, subscription.left())?;
+    match kept_hash(subscription) {
+        Some(hash) => {
+            let value = write_hash(alloc, hash)?;
+            store.put(key.as_slice(), value.as_slice())?;
+        }
+        None => store.delete(key.as_slice()),
+    }
+    Ok(response)
+}
+
+/// The front of all keys of the store that stand under a foreign key.
+fn front_of(alloc: Global, foreign: &Key) -> Result<Vec<u8>, AllocError>
+    ensures { IfOk result (λ v. v.items ≡ long_key foreign.now) }
+{
+    let bytes = foreign.as_str().as_bytes();
+    let mut front = Vec::new(alloc);
+    front.extend_from_slice(&(bytes.len() as u32).to_be_bytes())?;
+    front.extend_from_slice(bytes)?;
+    Ok(front)
+}
+
+/// The left key and the hash of a pair of the store; none where the pair is spelled otherwise.
+#[tactic(auto, unfolding(crate::specs::Kept::kept_in))]
+fn read_kept(alloc: Global, key: &Blob, value: &Blob) -> Result<Option<(Key, u128)>, AllocError>
+    ensures { IfOk result (λ o. o ≡ kept_in (key.now, value.now)) }
+{
+    let Some((_, left)) = read_subscription_key(alloc, key.as_slice())? else {
+        return Ok(None);
+    };
+    let Some(hash) = read_hash(value.as_slice()) else {
+        return Ok(None);
+    };
+    Ok(Some((left, hash)))
+}
+
+/// What a changed right row answers: to each left key that the store keeps under it, in order, the hash that is kept and the new
+/// right row or none.
+pub fn on_right<S: KvStore>(
+    alloc: Global,
+    store: &S,
+    change: &Change,
+) -> Result<Vec<(Key, Response)>, AllocError>
+    ensures { IfOk result (λ v. v.items ≡ answer_all change.now.new (kept_under change.now.key (S.contents store.now))) }
+{
+    let front = front_of(alloc, &change.key)?;
+    let pairs = store.prefix(&front)?;
+    let mut answers = Vec::new(alloc);
+    for (key, value) in &pairs {
+        let Some((left, hash)) = read_kept(alloc, key, value)? else {
+            continue;
+        };
+        let response = Response {
+            hash: Some(hash),
+            right: copy_row(change.new.as_ref())?,
+        };
+        answers.push((left, response))?;
+    }
+    Ok(answers)
+}
