@@ -7,3 +7,4 @@ pub mod Nodes
 pub mod Topology
 pub mod Record
 pub mod Texts
+pub mod Ordered

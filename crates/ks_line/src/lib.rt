@@ -5,6 +5,7 @@ mod expr;
 mod fault;
 mod field;
 mod labels;
+mod laws;
 mod members;
 mod node;
 mod pred;
@@ -14,6 +15,7 @@ mod show;
 mod topology;
 
 pub use fault::{JobKind, ReadError, too_many};
+pub use laws::least_unknown_is_named;
 pub use record::{Input, read_input};
 pub use show::{fault_text, name_text};
 pub use topology::{copy_names, read_topology};
