@@ -1,3 +1,3 @@
-mod Topics
 mod Writes
 mod Networks
+mod Kept

@@ -2,10 +2,16 @@
 //! law.
 #![tactic(auto)]
 
-ghost use Rattle.ks_work.specs.Work.{WorksAreNetworks};
+ghost use Rattle.ks_work.specs.Work.{WorksAreNetworks, NothingIsHeldBack};
 
-/// The tasks of every well-formed topology make a network: each topic has one reader, no changelog is an input or belongs to two
+/// The tasks of every topology make a network: each topic has one reader, no changelog is an input or belongs to two
 /// subtopologies, nobody writes into another task's changelog, and a changelog tells each change of its store.
 pub fn works_are_networks()
     ensures { WorksAreNetworks }
+{}
+
+/// Where a topology is well formed, a task that takes a record writes its own changelogs alone: that a record for another's
+/// changelog would be held back changes nothing.
+pub fn nothing_is_held_back()
+    ensures { NothingIsHeldBack }
 {}
