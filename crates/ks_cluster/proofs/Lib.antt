@@ -2,5 +2,6 @@ pub mod Lists
 pub mod Logs
 pub mod Cuts
 pub mod Steps
+pub mod Groups
 pub mod Readings
 pub mod Entries

@@ -25,7 +25,7 @@ use Rattle.ks_cluster.specs.declared.group.Group.{Group}
 use Rattle.ks_cluster.specs.declared.broker.Broker.{Broker}
 use Rattle.ks_cluster.specs.Placed.{slots_in, placed_at}
 use Rattle.ks_cluster.specs.Producers.{sequence_fault, unstable_in, counts_for, offset_with, offset_after}
-use Rattle.ks_cluster.specs.Group.{generation_fault, owner_at, owner_fault}
+use Rattle.ks_cluster.specs.Group.{generation_fault, owner_at, owner_fault, is_parked_in, unparked_in}
 use Rattle.ks_history.specs.Count.{records_by}
 use Rattle.ks_cluster.specs.Moves.{IsGroupAt, IsAt, Moves, IsNew, sending_fault}
 use Rattle.ks_cluster.proofs.Lists.{get_or-within, get_or-replicate, with_element, first_and_rest}
@@ -72,6 +72,9 @@ producer_at setup s old new w p k h log producers group = record {
     assignment_is = k.group_is.assignment_is;
     committed_is = k.group_is.committed_is;
     late_is = k.group_is.late_is;
+    held_is = k.group_is.held_is;
+    held_count = k.group_is.held_count;
+    parked_is = k.group_is.parked_is;
   });
 }
 
@@ -93,6 +96,9 @@ produced old new p rec n log few producers group is = accepted_moves old new (Pr
         assignment_is = k.group_is.assignment_is;
         committed_is = k.group_is.committed_is;
         late_is = k.group_is.late_is;
+        held_is = k.group_is.held_is;
+        held_count = k.group_is.held_count;
+        parked_is = k.group_is.parked_is;
       });
     })
     (omega (arith, ap length log ∙ longer old.log p (Plain rec ∷ [])))
@@ -105,7 +111,7 @@ closed_none p = by_tx p.undecided refl
     by_tx None is = is
     by_tx (Some tx) is = refl
 
-renewed-is : (p : Producer) (waiting : List Marker) → waiting ≡ (closed p false).waiting → record { epoch = p.epoch + 1; undecided = None; last = None; waiting = waiting } ≡ renewed p
+pub renewed-is : (p : Producer) (waiting : List Marker) → waiting ≡ (closed p false).waiting → record { epoch = p.epoch + 1; undecided = None; last = None; waiting = waiting } ≡ renewed p
 renewed-is p waiting is = λ i. record { epoch = p.epoch + 1; undecided = sym (closed_none p) i; last = None; waiting = is i }
 
 pub renewed_moves : (old new : Broker) (w : ℕ) (p q : Producer) (waiting : List Marker) → w ≤ 16
@@ -183,6 +189,9 @@ appended_moves old new w e number t part recs p p' q tasks n first h read read' 
         assignment_is = k.group_is.assignment_is;
         committed_is = k.group_is.committed_is;
         late_is = k.group_is.late_is;
+        held_is = k.group_is.held_is;
+        held_count = k.group_is.held_count;
+        parked_is = k.group_is.parked_is;
       });
     })
     (omega (arith, ap length log ∙ longer old.log part (sent_slots w e number t recs) ∙ ap (λ m. length old.log + m) (length-sent w e number t recs)))
@@ -298,10 +307,10 @@ pub committed_moves : (old new : Broker) (w e : ℕ) (p p' q : Producer) (waitin
     → p ≡ get_or old.producers.items w p → p' ≡ get_or old.producers.items w p' → None ≡ or_else (fenced p e) (none_undecided p)
     → waiting ≡ (closed p true).waiting → q ≡ record p' { undecided = None; waiting = waiting; last = Some true } → pending ≡ pending_at p
     → new.log ≡ old.log → new.producers.items ≡ set old.producers.items w q
-    → new.group.tasks.items ≡ old.group.tasks.items → new.group.generation ≡ old.group.generation → new.group.members ≡ old.group.members → new.group.assignment ≡ old.group.assignment
+    → new.group.tasks.items ≡ old.group.tasks.items → new.group.generation ≡ old.group.generation → new.group.members ≡ old.group.members → new.group.assignment ≡ old.group.assignment → new.group.held.items ≡ old.group.held.items → new.group.parked ≡ old.group.parked
     → new.group.commits ≡ old.group.commits ++ pending ∷ [] → new.group.late ≡ with_late old.group.late pending
     → Moves old new (Decide w e true) Done
-committed_moves old new w e p p' q waiting pending h read read' none waits made pends log producers tasks generation members assignment commits late = accepted_moves old new (Decide w e true) Done
+committed_moves old new w e p p' q waiting pending h read read' none waits made pends log producers tasks generation members assignment held parked commits late = accepted_moves old new (Decide w e true) Done
     (λ setup s k. decide_refused setup s old w e true p None k h read none)
     (λ setup s k. refl)
     (λ setup s k.
@@ -320,6 +329,9 @@ committed_moves old new w e p p' q waiting pending h read read' none waits made 
         committed_is = λ t topic. ap (λ l. offset_after 0 l t topic) commits ∙ offset_after-more 0 old.group.commits pending t topic
             ∙ ap (λ n. offset_with n pending t topic) (k.group_is.committed_is t topic) ∙ ap (λ l. offset_with (s.committed t topic) l t topic) pends';
         late_is = late ∙ ap (λ n. with_late n pending) k.group_is.late_is ∙ ap (with_late s.late) pends';
+        held_is = λ v. ap (λ l. get_or l v []) held ∙ k.group_is.held_is v;
+        held_count = ap length held ∙ k.group_is.held_count;
+        parked_is = λ i t. ap (is_parked_in i t) parked ∙ k.group_is.parked_is i t;
       };
     })
     (omega (arith, ap length log))
@@ -372,6 +384,9 @@ marked_moves old new w p p' q m rest h read read' some made log few producers gr
         assignment_is = k.group_is.assignment_is;
         committed_is = k.group_is.committed_is;
         late_is = k.group_is.late_is;
+        held_is = k.group_is.held_is;
+        held_count = k.group_is.held_count;
+        parked_is = k.group_is.parked_is;
       });
     }))
     (omega (arith, ap length log ∙ longer old.log m.part (Mark w m.epoch m.commit ∷ [])))
@@ -399,6 +414,9 @@ joined_moves old new w n next log producers group = accepted_moves old new (Join
         assignment_is = refl;
         committed_is = k.group_is.committed_is;
         late_is = k.group_is.late_is;
+        held_is = k.group_is.held_is;
+        held_count = k.group_is.held_count;
+        parked_is = k.group_is.parked_is;
       });
     })
     (omega (arith, ap length log))
@@ -431,6 +449,9 @@ assigned_moves old new w g a none empty log producers group = accepted_moves old
         assignment_is = refl;
         committed_is = k.group_is.committed_is;
         late_is = k.group_is.late_is;
+        held_is = k.group_is.held_is;
+        held_count = k.group_is.held_count;
+        parked_is = k.group_is.parked_is;
       });
     }))
     (omega (arith, ap length log))
@@ -451,6 +472,9 @@ kept_moves b w g a c none some = accepted_moves b b (Assign w g a) (Truth false)
     stands setup s k = sym k.group_is.assignment_is ∙ some
 
 -- ---- a new broker
+abbrev nothing_held : List (TaskId × ℕ)
+nothing_held = []
+
 pub new_at : (setup : Setup) (b : Broker) → IsNew setup.tasks b → IsAt setup start b
 new_at setup b new = record {
   log_is = λ p. ap (slots_in p) new.log;
@@ -464,6 +488,9 @@ new_at setup b new = record {
     assignment_is = new.assignment;
     committed_is = λ t topic. ap (λ l. offset_after 0 l t topic) new.commits;
     late_is = new.late;
+    held_is = λ w. ap (λ l. get_or l w []) new.held ∙ get_or-replicate 17 w [];
+    held_count = ap length new.held ∙ length-replicate 17 nothing_held;
+    parked_is = λ i t. ap (is_parked_in i t) new.parked;
   };
 }
 
@@ -471,7 +498,7 @@ pub committed_if : (old new : Broker) (w e : ℕ) (commit : Bool) (p p' q : Prod
     → p ≡ get_or old.producers.items w p → p' ≡ get_or old.producers.items w p' → None ≡ or_else (fenced p e) (none_undecided p)
     → waiting ≡ (closed p commit).waiting → q ≡ record p' { undecided = None; waiting = waiting; last = Some true } → pending ≡ pending_at p
     → new.log ≡ old.log → new.producers.items ≡ set old.producers.items w q
-    → new.group.tasks.items ≡ old.group.tasks.items → new.group.generation ≡ old.group.generation → new.group.members ≡ old.group.members → new.group.assignment ≡ old.group.assignment
+    → new.group.tasks.items ≡ old.group.tasks.items → new.group.generation ≡ old.group.generation → new.group.members ≡ old.group.members → new.group.assignment ≡ old.group.assignment → new.group.held.items ≡ old.group.held.items → new.group.parked ≡ old.group.parked
     → new.group.commits ≡ old.group.commits ++ pending ∷ [] → new.group.late ≡ with_late old.group.late pending
     → Moves old new (Decide w e commit) Done
 committed_if old new w e true p p' q waiting pending on = committed_moves old new w e p p' q waiting pending

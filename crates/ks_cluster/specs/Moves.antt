@@ -11,7 +11,7 @@ use Rattle.ks_cluster.specs.declared.group.Group.{Group}
 use Rattle.ks_cluster.specs.declared.broker.Broker.{Broker}
 use Rattle.ks_cluster.specs.Placed.{slots_in}
 use Rattle.ks_cluster.specs.Producers.{unstable_in, counts_for, offset_after}
-use Rattle.ks_cluster.specs.Group.{generation_fault, owner_at, owner_fault}
+use Rattle.ks_cluster.specs.Group.{generation_fault, owner_at, owner_fault, is_parked_in}
 use Rattle.ks_history.specs.Count.{records_by}
 
 pub record IsGroupAt (setup : Setup) (s : State) (g : Group) : Type 0 where
@@ -21,6 +21,9 @@ pub record IsGroupAt (setup : Setup) (s : State) (g : Group) : Type 0 where
   pub assignment_is : g.assignment ≡ s.assignment
   pub committed_is : (t : TaskId) (topic : ℕ) → offset_after 0 g.commits t topic ≡ s.committed t topic
   pub late_is : g.late ≡ s.late
+  pub held_is : (w : ℕ) → get_or g.held.items w [] ≡ s.held w
+  pub held_count : length g.held.items ≡ 17
+  pub parked_is : (i : ℕ) (t : TaskId) → is_parked_in i t g.parked ≡ s.parked i t
 
 pub record IsAt (setup : Setup) (s : State) (b : Broker) : Type 0 where
   pub log_is : (p : PartId) → slots_in p b.log ≡ s.partition p
@@ -44,6 +47,8 @@ pub record IsNew (tasks : List TaskId) (b : Broker) : Type 0 where
   pub assignment : b.group.assignment ≡ None
   pub commits : b.group.commits ≡ []
   pub late : b.group.late ≡ 0
+  pub held : b.group.held.items ≡ replicate 17 []
+  pub parked : b.group.parked ≡ []
 
 -- why offsets may not be sent
 abbrev pub sending_fault : Broker → ℕ → ℕ → ℕ → TaskId → Option Refused

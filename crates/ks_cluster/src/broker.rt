@@ -1,12 +1,12 @@
 //! The log, the producers and the group, without the journal: each call answers a request as the step does.
-ghost use Rattle.std.specs.Prelude.{◌≡◌, ℕ, ◌≤◌, IfOk, OnErr, length};
-ghost use Rattle.ks_history.specs.declared.journal.Request.TheVariants.{Produce, Init, Add, Append, SendOffsets, Decide, MarkNext, Join, Assign};
-ghost use Rattle.ks_history.specs.declared.journal.Reply.TheVariants.{Number, Mark as Marked};
+ghost use Rattle.std.specs.Prelude.{◌≡◌, ℕ, ◌≤◌, IfOk, OnOk, OnErr, length};
+ghost use Rattle.ks_history.specs.declared.journal.Request.TheVariants.{Produce, Init, Add, Append, SendOffsets, Decide, MarkNext, Join, Expire, Hold, Probe, Assign, Park, Unpark};
+ghost use Rattle.ks_history.specs.declared.journal.Reply.TheVariants.{Done, Number, Truth, Mark as Marked};
 ghost use Rattle.ks_cluster.specs.Moves.{Moves, IsNew, sending_fault, reading_fault};
 ghost use Rattle.ks_cluster.specs.Replies.{done_or, number_or, truth_or};
 
 use crate::append::{count_in, one_placed, sent};
-use crate::group::{Group, copy_assignment};
+use crate::group::{Group, copy_assignment, is_member, is_parked, without_member, without_parked};
 use crate::log::Log;
 use crate::producers::{
     add_refusal, append_refusal, but_first, close, decide_refusal, late_with, markers_refusal,
@@ -35,7 +35,7 @@ impl Broker {
         Ok(Broker {
             log: Log::new(alloc),
             producers: new_producers(alloc)?,
-            group: Group::new(alloc, tasks),
+            group: Group::new(alloc, tasks)?,
         })
     }
 
@@ -264,5 +264,84 @@ impl Broker {
         let copy = copy_assignment(alloc, a)?;
         self.group.assignment = Some(copy);
         Ok(Ok(true))
+    }
+
+    /// Removes a worker, whose undecided transaction is aborted and whose epoch rises: false where there is nothing to remove.
+    pub fn expire(&mut self, alloc: Global, w: u8) -> Result<bool, AllocError>
+        requires worker { w ≤ 16 }
+        requires count { length self.old.producers.items ≡ 17 }
+        requires held { length self.old.group.held.items ≡ 17 }
+        ensures ok { IfOk result (λ b. Moves self.old self.new (Expire w) (Truth b)) }
+        ensures err { OnErr result (self.new ≡ self.old) }
+    {
+        let p = &self.producers[w as usize];
+        let member = is_member(self.group.members.as_slice(), w);
+        let undecided = p.undecided.is_some();
+        if !(member || undecided) {
+            return Ok(false);
+        }
+        let waiting = waiting_with(alloc, p, false)?;
+        let members = without_member(alloc, self.group.members.as_slice(), w)?;
+        let (Some(epoch), Some(generation)) = (
+            p.epoch.checked_add(1),
+            self.group.generation.checked_add(1),
+        ) else {
+            return Err(AllocError);
+        };
+        self.group.members = Seq::of(members);
+        self.group.generation = generation;
+        self.group.assignment = None;
+        self.group.held[w as usize] = Seq::new(alloc);
+        let p = &mut self.producers[w as usize];
+        renew(p, epoch, waiting);
+        Ok(true)
+    }
+
+    /// Replaces the positions that a worker holds.
+    pub fn hold(&mut self, w: u8, held: Vec<(TaskId, u64)>)
+        requires worker { w ≤ 16 }
+        requires held { length self.old.group.held.items ≡ 17 }
+        ensures { Moves self.old self.new (Hold w held.items) Done }
+    {
+        self.group.held[w as usize] = Seq::of(held);
+    }
+
+    /// The request is that of any worker.
+    pub fn probe(&mut self, generation: u64) -> Result<Result<u64, Refused>, AllocError>
+        ensures ok { IfOk result (λ r. (w : ℕ) → Moves self.old self.new (Probe w generation) (number_or r)) }
+        ensures err { OnErr result (self.new ≡ self.old) }
+    {
+        if let Some(refused) = self.group.generation_refusal(generation) {
+            return Ok(Err(refused));
+        }
+        let Some(next) = self.group.generation.checked_add(1) else {
+            return Err(AllocError);
+        };
+        self.group.generation = next;
+        self.group.assignment = None;
+        Ok(Ok(next))
+    }
+
+    pub fn park(&mut self, instance: u8, task: TaskId) -> Result<(), AllocError>
+        ensures ok { OnOk result (Moves self.old self.new (Park instance task) Done) }
+        ensures err { OnErr result (self.new ≡ self.old) }
+    {
+        self.group.parked.push((instance, task))?;
+        Ok(())
+    }
+
+    /// False where the pair isn't parked.
+    pub fn unpark(&mut self, alloc: Global, instance: u8, task: TaskId) -> Result<bool, AllocError>
+        ensures ok { IfOk result (λ b. Moves self.old self.new (Unpark instance task) (Truth b)) }
+        ensures err { OnErr result (self.new ≡ self.old) }
+    {
+        let parked = self.group.parked.as_slice();
+        let there = is_parked(parked, instance, task);
+        if !there {
+            return Ok(false);
+        }
+        let left = without_parked(alloc, parked, instance, task)?;
+        self.group.parked = Seq::of(left);
+        Ok(true)
     }
 }

@@ -1,8 +1,8 @@
 //! The cluster: a broker under a journal that is legal and faithful.
-ghost use Rattle.std.specs.Prelude.{◌≡◌, ℕ, ◌≤◌, ◌<◌, ◌^◌, [], true, IfOk, OnErr, length};
+ghost use Rattle.std.specs.Prelude.{◌≡◌, ℕ, ◌≤◌, ◌<◌, ◌^◌, [], true, IfOk, OnOk, OnErr, length};
 ghost use Rattle.std.specs.List.{All};
-ghost use Rattle.ks_history.specs.declared.journal.Request.TheVariants.{Produce, Init, Add, Append, SendOffsets, Decide, MarkNext, Join, Assign};
-ghost use Rattle.ks_history.specs.declared.journal.Reply.TheVariants.{Number, Mark as Marked};
+ghost use Rattle.ks_history.specs.declared.journal.Request.TheVariants.{Produce, Init, Add, Append, SendOffsets, Decide, MarkNext, Join, Expire, Hold, Probe, Assign, Park, Unpark};
+ghost use Rattle.ks_history.specs.declared.journal.Reply.TheVariants.{Done, Number, Truth, Mark as Marked};
 ghost use Rattle.ks_history.specs.Machine.{has_topic};
 ghost use Rattle.ks_history.specs.State.{IsSetup, IsPart, has_task};
 ghost use Rattle.ks_history.specs.History.{Meets, CommitsFaithfully, IsHistory};
@@ -13,7 +13,7 @@ ghost use Rattle.ks_cluster.specs.Kept.{Kept, setup_of, setup_from, state_of, An
 
 use crate::append::{copies, copy};
 use crate::broker::Broker;
-use crate::group::copy_assignment;
+use crate::group::{copy_assignment, copy_held};
 use crate::producers::new_pending;
 use crate::reading::{
     cut_from, decided_in, ends_in, next_in, pending_count, readable_in, stable_in,
@@ -267,6 +267,93 @@ impl<W: Work> Cluster<W> {
             reply: told(&outcome),
         });
         Ok(outcome)
+    }
+
+    /// Removes a worker from the group: its undecided transaction is aborted, its epoch rises, its held positions go, and
+    /// the generation rises, without an assignment. False, and nothing changes, where it is no member and has nothing
+    /// undecided.
+    pub fn expire(&mut self, alloc: Global, w: u8) -> Result<bool, AllocError>
+        requires { Meets (setup_of W.plan self.old) (state_of W.plan self.old) (Expire w) }
+        ensures ok { IfOk result (λ b. Answers W.plan self.old self.new (Expire w) (Truth b)) }
+        ensures err { OnErr result (self.new ≡ self.old) }
+    {
+        self.journal.reserve(1)?;
+        let expired = self.broker.expire(alloc, w)?;
+        self.journal.push_reserved(Entry {
+            request: Request::Expire { w },
+            reply: Reply::Truth(expired),
+        });
+        Ok(expired)
+    }
+
+    /// Replaces the positions that a worker holds.
+    pub fn hold(&mut self, alloc: Global, w: u8, held: &[(TaskId, u64)]) -> Result<(), AllocError>
+        requires { Meets (setup_of W.plan self.old) (state_of W.plan self.old) (Hold w held.now) }
+        ensures ok { OnOk result (Answers W.plan self.old self.new (Hold w held.now) Done) }
+        ensures err { OnErr result (self.new ≡ self.old) }
+    {
+        let kept = copy_held(alloc, held)?;
+        let new = copy_held(alloc, held)?;
+        self.journal.reserve(1)?;
+        self.broker.hold(w, new);
+        self.journal.push_reserved(Entry {
+            request: Request::Hold {
+                w,
+                held: Seq::of(kept),
+            },
+            reply: Reply::Done,
+        });
+        Ok(())
+    }
+
+    /// Begins the next generation, without an assignment, and answers it. Refused: OldGeneration.
+    pub fn probe(
+        &mut self,
+        alloc: Global,
+        w: u8,
+        generation: u64,
+    ) -> Result<Result<u64, Refused>, AllocError>
+        requires { Meets (setup_of W.plan self.old) (state_of W.plan self.old) (Probe w generation) }
+        ensures ok { IfOk result (λ r. Answers W.plan self.old self.new (Probe w generation) (number_or r)) }
+        ensures err { OnErr result (self.new ≡ self.old) }
+    {
+        self.journal.reserve(1)?;
+        let outcome = self.broker.probe(generation)?;
+        self.journal.push_reserved(Entry {
+            request: Request::Probe { w, generation },
+            reply: numbered(&outcome),
+        });
+        Ok(outcome)
+    }
+
+    /// Parks a task at an instance.
+    pub fn park(&mut self, alloc: Global, instance: u8, task: TaskId) -> Result<(), AllocError>
+        requires { Meets (setup_of W.plan self.old) (state_of W.plan self.old) (Park instance task) }
+        ensures ok { OnOk result (Answers W.plan self.old self.new (Park instance task) Done) }
+        ensures err { OnErr result (self.new ≡ self.old) }
+    {
+        self.journal.reserve(1)?;
+        self.broker.park(instance, task)?;
+        self.journal.push_reserved(Entry {
+            request: Request::Park { instance, task },
+            reply: Reply::Done,
+        });
+        Ok(())
+    }
+
+    /// Takes a parked task from an instance: false where it isn't parked there.
+    pub fn unpark(&mut self, alloc: Global, instance: u8, task: TaskId) -> Result<bool, AllocError>
+        requires { Meets (setup_of W.plan self.old) (state_of W.plan self.old) (Unpark instance task) }
+        ensures ok { IfOk result (λ b. Answers W.plan self.old self.new (Unpark instance task) (Truth b)) }
+        ensures err { OnErr result (self.new ≡ self.old) }
+    {
+        self.journal.reserve(1)?;
+        let parked = self.broker.unpark(alloc, instance, task)?;
+        self.journal.push_reserved(Entry {
+            request: Request::Unpark { instance, task },
+            reply: Reply::Truth(parked),
+        });
+        Ok(parked)
     }
 
     /// The first `max` readable records of a partition at or past an offset, with their offsets, and where the next

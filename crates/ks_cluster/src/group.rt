@@ -1,9 +1,9 @@
 //! The group: its members, where the tasks stand, and what was committed.
-ghost use Rattle.std.specs.Prelude.{◌≡◌, ◌++◌, ◌+◌, ◌<◌, ◌≤◌, ◌∷◌, [], IfOk, OnErr, None, Some, length, map};
-ghost use Rattle.ks_history.specs.State.{has_number, insert_number};
+ghost use Rattle.std.specs.Prelude.{◌≡◌, ◌++◌, ◌+◌, ◌<◌, ◌≤◌, ◌∷◌, [], IfOk, OnErr, None, Some, length, map, replicate};
+ghost use Rattle.ks_history.specs.State.{has_number, insert_number, without_number};
 ghost use Rattle.ks_history.specs.Step.{or_else, is_place, place_in, places_of, badly_placed, bad_assignment};
 ghost use Rattle.ks_cluster.specs.Producers.{offset_after};
-ghost use Rattle.ks_cluster.specs.Group.{generation_fault, owner_at, owner_fault};
+ghost use Rattle.ks_cluster.specs.Group.{generation_fault, owner_at, owner_fault, is_parked_in, unparked_in};
 
 use crate::producers::offset_with;
 use ks_history::Pending;
@@ -22,9 +22,14 @@ pub struct Group {
     pub commits: Seq<Seq<Pending>>,
     /// The committed late total.
     pub late: u64,
+    /// Of each worker, 0 to 16, the positions that it holds.
+    pub held: Vec<Seq<(TaskId, u64)>>,
+    /// The parked pairs of an instance and a task; a pair may stand twice.
+    pub parked: Seq<(u8, TaskId)>,
 }
 
-fn is_member(members: &[u8], w: u8) -> bool
+/// Whether a worker is a member.
+pub fn is_member(members: &[u8], w: u8) -> bool
     ensures { result ≡ has_number w members.now }
 {
     for m in members {
@@ -53,6 +58,69 @@ fn with_member(alloc: Global, members: &[u8], w: u8) -> Result<Vec<u8>, AllocErr
         made.push(*m)?;
     }
     made.push(w)?;
+    Ok(made)
+}
+
+/// Members without one.
+pub fn without_member(alloc: Global, members: &[u8], w: u8) -> Result<Vec<u8>, AllocError>
+    ensures { IfOk result (λ made. made.items ≡ without_number w members.now) }
+{
+    let mut made = Vec::new(alloc);
+    for m in members {
+        if w != *m {
+            made.push(*m)?;
+        }
+    }
+    Ok(made)
+}
+
+/// Seventeen workers that hold nothing.
+fn none_held(alloc: Global) -> Result<Vec<Seq<(TaskId, u64)>>, AllocError>
+    ensures { IfOk result (λ made. made.items ≡ replicate 17 []) }
+{
+    let mut made = Vec::new(alloc);
+    for _ in 0..17usize {
+        made.push(Seq::new(alloc))?;
+    }
+    Ok(made)
+}
+
+/// Held positions again.
+pub fn copy_held(alloc: Global, held: &[(TaskId, u64)]) -> Result<Vec<(TaskId, u64)>, AllocError>
+    ensures { IfOk result (λ made. made.items ≡ held.now) }
+{
+    let mut made = Vec::new(alloc);
+    made.extend_from_slice(held)?;
+    Ok(made)
+}
+
+/// Whether a task is parked at an instance.
+pub fn is_parked(parked: &[(u8, TaskId)], instance: u8, task: TaskId) -> bool
+    ensures { result ≡ is_parked_in instance task parked.now }
+{
+    for pair in parked {
+        if instance == pair.0 && task.is(pair.1) {
+            return true;
+        }
+    }
+    false
+}
+
+/// Parked pairs without one.
+pub fn without_parked(
+    alloc: Global,
+    parked: &[(u8, TaskId)],
+    instance: u8,
+    task: TaskId,
+) -> Result<Vec<(u8, TaskId)>, AllocError>
+    ensures { IfOk result (λ made. made.items ≡ unparked_in instance task parked.now) }
+{
+    let mut made = Vec::new(alloc);
+    for pair in parked {
+        if !(instance == pair.0 && task.is(pair.1)) {
+            made.push(*pair)?;
+        }
+    }
     Ok(made)
 }
 
@@ -128,17 +196,21 @@ pub fn copy_assignment(alloc: Global, a: &Assignment) -> Result<Assignment, Allo
 
 impl Group {
     /// A group without members.
-    pub fn new(alloc: Global, tasks: Vec<TaskId>) -> Group
-        ensures { result ≡ record { tasks = tasks; generation = 0; members = []; assignment = None; commits = []; late = 0 } }
+    pub fn new(alloc: Global, tasks: Vec<TaskId>) -> Result<Group, AllocError>
+        ensures group { IfOk result (λ g. g ≡ record { tasks = tasks; generation = 0; members = []; assignment = None; commits = []; late = 0; held = g.held; parked = [] }) }
+        ensures held { IfOk result (λ g. g.held.items ≡ replicate 17 []) }
     {
-        Group {
+        let held = none_held(alloc)?;
+        Ok(Group {
             tasks,
             generation: 0,
             members: Seq::new(alloc),
             assignment: None,
             commits: Seq::new(alloc),
             late: 0,
-        }
+            held,
+            parked: Seq::new(alloc),
+        })
     }
 
     /// Why a request of a generation is refused.

@@ -1,0 +1,7 @@
+use Rattle.std.proofs.Common.{◌≡◌, List, [], ℕ}
+use Rattle.std.specs.Prelude.{replicate}
+use Rattle.ks_row.specs.declared.record.TaskId.{TaskId}
+use Rattle.ks_cluster.proofs.group.none_held.Given as goal
+
+abbrev pub invariant-loop : goal.invariant-loop
+invariant-loop l = l.made.items ≡ replicate l.counter []
