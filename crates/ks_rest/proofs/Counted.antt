@@ -59,6 +59,17 @@ pub or_nothing-counted : (x y : ℕ) → (x ≡ 0 → y ≡ 0) → or_nothing (c
 or_nothing-counted zero y f = ap (λ n. of_sums 0 (n % 2 ^ 64)) (sym (f refl))
 or_nothing-counted (suc x) y f = refl
 
+-- one more row of a group
+pub add_counted : (field : Option (List ℕ)) (x y : ℕ) (row : Row) → (x ≡ 0 → y ≡ 0) → Some (stream_add field (counted x y) row) ≡ counted (x + 1) (y + row_bits (amount_in field row))
+add_counted field x y row f =
+    let old = or_nothing-counted x y f in
+    let bits : row_bits (amount_in field row) ≡ bits_of (amount_in field row) = ap bits_of (amount_bits field row) in
+    let next : plus (of_sums (x % 2 ^ 64) (y % 2 ^ 64)) (amount_in field row) ≡ of_sums ((x % 2 ^ 64 + 1) % 2 ^ 64) ((y % 2 ^ 64 + bits_of (amount_in field row) % 2 ^ 64) % 2 ^ 64) =
+    moved_bits (x % 2 ^ 64) (y % 2 ^ 64) (record { add = true; amount = amount_in field row }) (below_mod x) (below_mod y) in
+    let sums : of_sums ((x % 2 ^ 64 + 1) % 2 ^ 64) ((y % 2 ^ 64 + bits_of (amount_in field row) % 2 ^ 64) % 2 ^ 64) ≡ of_sums (suc x % 2 ^ 64) ((y + row_bits (amount_in field row)) % 2 ^ 64) = ap₂ of_sums (omega arith) (omega arith) in
+    let number : suc x ≡ x + 1 = omega arith in
+    ap (λ a. Some (plus a (amount_in field row))) old ∙ ap (λ a. Some a) (next ∙ sums) ∙ ap (λ n. counted n (y + row_bits (amount_in field row))) number
+
 module _ (by : List ℕ) (field : Option (List ℕ)) (g : Key) where
   abbrev pub row_member : Row → ℕ
   row_member row = member by_bytes g (share_under by field (Some row))
@@ -67,7 +78,7 @@ module _ (by : List ℕ) (field : Option (List ℕ)) (g : Key) where
   row_amount row = amount by_bytes row_bits g (share_under by field (Some row))
 
   -- what a row adds to the group
-  one_added : (m : FinMap by_bytes Agg) (x y : ℕ) (row : Row) (k : Option Key) → (x ≡ 0 → y ≡ 0) → fin.get m g ≡ counted x y →
+  pub one_added : (m : FinMap by_bytes Agg) (x y : ℕ) (row : Row) (k : Option Key) → (x ≡ 0 → y ≡ 0) → fin.get m g ≡ counted x y →
       fin.get (fold (add_to {R = by_bytes} field) m (with_some (option_map (λ h. (h, row)) k) [])) g
       ≡ counted (x + member by_bytes g (with_amount (amount_in field row) k)) (y + amount by_bytes row_bits g (with_amount (amount_in field row) k))
   one_added m x y row None f e = e ∙ ap₂ counted (omega arith) (omega arith)
@@ -76,13 +87,7 @@ module _ (by : List ℕ) (field : Option (List ℕ)) (g : Key) where
       ∙ elim (eq_by_cmp by_bytes g h) as (λ b. eq_by_cmp by_bytes g h ≡ b → cond b (Some (stream_add field (fin.get m h) row)) (fin.get m g) ≡ counted (x + cond b 1 0) (y + cond b (row_bits (amount_in field row)) 0)) [
         | true ↦ λ b.
             let is : g ≡ h = slice_cmp-IsAntisymmetric nat_cmp-IsAntisymmetric g h (equal _ b) in
-            let old : or_nothing (fin.get m h) ≡ of_sums (x % 2 ^ 64) (y % 2 ^ 64) = ap (λ k. or_nothing (fin.get m k)) (sym is) ∙ ap or_nothing e ∙ or_nothing-counted x y f in
-            let bits : row_bits (amount_in field row) ≡ bits_of (amount_in field row) = ap bits_of (amount_bits field row) in
-            let next : plus (of_sums (x % 2 ^ 64) (y % 2 ^ 64)) (amount_in field row) ≡ of_sums ((x % 2 ^ 64 + 1) % 2 ^ 64) ((y % 2 ^ 64 + bits_of (amount_in field row) % 2 ^ 64) % 2 ^ 64) =
-            moved_bits (x % 2 ^ 64) (y % 2 ^ 64) (record { add = true; amount = amount_in field row }) (below_mod x) (below_mod y) in
-            let sums : of_sums ((x % 2 ^ 64 + 1) % 2 ^ 64) ((y % 2 ^ 64 + bits_of (amount_in field row) % 2 ^ 64) % 2 ^ 64) ≡ of_sums (suc x % 2 ^ 64) ((y + row_bits (amount_in field row)) % 2 ^ 64) = ap₂ of_sums (omega arith) (omega arith) in
-            let number : suc x ≡ x + 1 = omega arith in
-            ap (λ a. Some (plus a (amount_in field row))) old ∙ ap (λ a. Some a) (next ∙ sums) ∙ ap (λ n. counted n (y + row_bits (amount_in field row))) number
+            ap (λ k. Some (stream_add field (fin.get m k) row)) (sym is) ∙ ap (λ w. Some (stream_add field w row)) e ∙ add_counted field x y row f
         | false ↦ λ b. e ∙ ap₂ counted (omega arith) (omega arith)
       ] refl
 

@@ -1,6 +1,6 @@
 -- What the laws need of each node of a plan: its inputs stand before it, and those that share its tasks have its subtopology
 -- and its partitions.
-use Rattle.std.proofs.Common.{◌≡◌, ℕ, zero, suc, ◌+◌, ◌<◌, true, false, cond, ◌||◌, List, length, [], ◌∷◌, ◌++◌, map, slice_get, Some, fold, refl, sym, ap, subst, ◌∙◌, arith, append_assoc, length-append, nat_eq, inl, inr, ⊎_elim}
+use Rattle.std.proofs.Common.{get_or, Bool, Option, None, ◌≡◌, ℕ, zero, suc, ◌+◌, ◌<◌, true, false, cond, ◌||◌, List, length, [], ◌∷◌, ◌++◌, map, slice_get, Some, fold, refl, sym, ap, subst, ◌∙◌, arith, append_assoc, length-append, nat_eq, inl, inr, ⊎_elim}
 use Rattle.std.specs.Prelude.{min, max}
 use Rattle.std.proofs.lemmas.Bool.Decides.{Decides-eqb}
 use Rattle.std.proofs.lemmas.Bool.{eqb-false}
@@ -25,6 +25,20 @@ pub record Sourced (p : Plan) (t n : ℕ) : Type 0 where
   pub sub : sub_of p (source_of p t) ≡ sub_of p n
   pub parts : at p.counts t ≡ parts_of p n
 
+-- ---- streams whose items have the keys of their records
+abbrev pub own_next : List Bool → Kind → List Bool
+own_next bs (StreamSource t) = bs ++ true ∷ []
+own_next bs (StreamFilter f x) = bs ++ get_or bs f false ∷ []
+own_next bs (StreamMap f s) = bs ++ get_or bs f false ∷ []
+own_next bs k = bs ++ false ∷ []
+
+abbrev pub own_keys : List Kind → List Bool
+own_keys ks = fold own_next [] ks
+
+-- an aggregate without a repartition topic groups by the keys of its records
+abbrev pub GroupsByKey : List Bool → ℕ → Option (List ℕ) → Type 0
+GroupsByKey bs f by = (by ≡ None) × (get_or bs f false ≡ true)
+
 abbrev pub NodeFits : Plan → ℕ → Kind → Type 0
 NodeFits p n (StreamSource t) = Sourced p t n
 NodeFits p n (TableSource t) = Sourced p t n
@@ -33,9 +47,9 @@ NodeFits p n (TableFilter f x) = Beside p f n
 NodeFits p n (StreamMap f s) = Beside p f n
 NodeFits p n (TableMap f s) = Beside p f n
 NodeFits p n (KeySelected f k) = Beside p f n
-NodeFits p n (StreamAggregate f by field through) = (f < n) × (through ≡ false → Beside p f n)
+NodeFits p n (StreamAggregate f by field through) = (f < n) × (through ≡ false → Beside p f n) × (through ≡ false → GroupsByKey (own_keys p.kinds) f by)
 NodeFits p n (TableAggregate f by field) = f < n
-NodeFits p n (Windowed f by w through) = (f < n) × (through ≡ false → Beside p f n)
+NodeFits p n (Windowed f by w through) = (f < n) × (through ≡ false → Beside p f n) × (through ≡ false → GroupsByKey (own_keys p.kinds) f by)
 NodeFits p n (KeyJoin l r kind s) = Beside p l n × Beside p r n
 NodeFits p n (ForeignKeyJoin l r fk kind s) = Beside p l n × (r < n)
 
@@ -180,15 +194,51 @@ NodeShape p before (TableFilter f x) = Before before f
 NodeShape p before (StreamMap f s) = Before before f
 NodeShape p before (TableMap f s) = Before before f
 NodeShape p before (KeySelected f k) = Before before f
-NodeShape p before (StreamAggregate f by field through) = Before before f
+NodeShape p before (StreamAggregate f by field through) = Before before f × (through ≡ false → GroupsByKey (own_keys before) f by)
 NodeShape p before (TableAggregate f by field) = Before before f
-NodeShape p before (Windowed f by w through) = Before before f
+NodeShape p before (Windowed f by w through) = Before before f × (through ≡ false → GroupsByKey (own_keys before) f by)
 NodeShape p before (KeyJoin l r kind s) = Before before l × Before before r × (at (fold (parts_next p) [] before) l ≡ at (fold (parts_next p) [] before) r)
 NodeShape p before (ForeignKeyJoin l r fk kind s) = Before before l × Before before r
 
 abbrev pub EachShape : Plan → List Kind → List Kind → Type 0
 EachShape p before [] = Unit {0}
 EachShape p before (k ∷ ks) = NodeShape p before k × EachShape p (before ++ k ∷ []) ks
+
+pub flag_before : (xs ys : List Bool) (n : ℕ) → n < length xs → get_or (xs ++ ys) n false ≡ get_or xs n false
+flag_before [] ys n lt = absurd (omega arith)
+flag_before (x ∷ xs) ys zero lt = refl
+flag_before (x ∷ xs) ys (suc n) lt = flag_before xs ys n (omega arith)
+
+one_flag : (bs : List Bool) (b : Bool) → length (bs ++ b ∷ []) ≡ suc (length bs)
+one_flag bs b = omega (arith, length-append bs (b ∷ []))
+
+pub own_one : (bs : List Bool) (k : Kind) → length (own_next bs k) ≡ suc (length bs)
+own_one bs (StreamSource t) = one_flag bs _
+own_one bs (TableSource t) = one_flag bs _
+own_one bs (StreamFilter f x) = one_flag bs _
+own_one bs (TableFilter f x) = one_flag bs _
+own_one bs (StreamMap f s) = one_flag bs _
+own_one bs (TableMap f s) = one_flag bs _
+own_one bs (KeySelected f k) = one_flag bs _
+own_one bs (StreamAggregate f by field through) = one_flag bs _
+own_one bs (TableAggregate f by field) = one_flag bs _
+own_one bs (Windowed f by w through) = one_flag bs _
+own_one bs (KeyJoin l r kind s) = one_flag bs _
+own_one bs (ForeignKeyJoin l r fk kind s) = one_flag bs _
+
+pub own_same : (bs : List Bool) (k : Kind) (f : ℕ) → f < length bs → get_or (own_next bs k) f false ≡ get_or bs f false
+own_same bs (StreamSource t) f lt = flag_before bs _ f lt
+own_same bs (TableSource t) f lt = flag_before bs _ f lt
+own_same bs (StreamFilter g x) f lt = flag_before bs _ f lt
+own_same bs (TableFilter g x) f lt = flag_before bs _ f lt
+own_same bs (StreamMap g s) f lt = flag_before bs _ f lt
+own_same bs (TableMap g s) f lt = flag_before bs _ f lt
+own_same bs (KeySelected g k) f lt = flag_before bs _ f lt
+own_same bs (StreamAggregate g by field through) f lt = flag_before bs _ f lt
+own_same bs (TableAggregate g by field) f lt = flag_before bs _ f lt
+own_same bs (Windowed g by w through) f lt = flag_before bs _ f lt
+own_same bs (KeyJoin l r kind s) f lt = flag_before bs _ f lt
+own_same bs (ForeignKeyJoin l r fk kind s) f lt = flag_before bs _ f lt
 
 module _ (p : Plan) where
   parts_count : (cs : List ℕ) (k : Kind) → length (parts_next p cs k) ≡ suc (length cs)
@@ -296,6 +346,19 @@ module _ (p : Plan) where
     within : (f : ℕ) → f < length before → f < length ls
     within f lt = let e = count_is in omega arith
 
+  pub own_count : (bs : List Bool) (ks : List Kind) → length (fold own_next bs ks) ≡ length bs + length ks
+  own_count bs [] = omega arith
+  own_count bs (k ∷ ks) = omega (arith, own_count (own_next bs k) ks, own_one bs k)
+
+  own_stay : (bs : List Bool) (ks : List Kind) (f : ℕ) → f < length bs → get_or (fold own_next bs ks) f false ≡ get_or bs f false
+  own_stay bs [] f lt = refl
+  own_stay bs (k ∷ ks) f lt = own_stay (own_next bs k) ks f (omega (arith, own_one bs k)) ∙ own_same bs k f lt
+
+  keys_fit : (before : List Kind) (k : Kind) (rest : List Kind) → p.kinds ≡ before ++ k ∷ rest → (f : ℕ) (by : Option (List ℕ)) → f < length before → GroupsByKey (own_keys before) f by → GroupsByKey (own_keys p.kinds) f by
+  keys_fit before k rest all f by lt h =
+      let count : length (own_keys before) ≡ 0 + length before = own_count [] before in
+      (h.0, ap (λ l. get_or (own_keys l) f false) all ∙ ap (λ bs. get_or bs f false) (fold-append own_next [] before (k ∷ rest)) ∙ own_stay (own_keys before) (k ∷ rest) f (omega arith) ∙ h.1)
+
   node_fits : (before : List Kind) (k : Kind) (rest : List Kind) → p.kinds ≡ before ++ k ∷ rest → NodeShape p before k → NodeFits p (length before) k
   node_fits before (StreamSource t) rest all h = sourced before (StreamSource t) rest all t h ((Decides-eqb t t).1 refl) refl
   node_fits before (TableSource t) rest all h = sourced before (TableSource t) rest all t h ((Decides-eqb t t).1 refl) refl
@@ -304,11 +367,13 @@ module _ (p : Plan) where
   node_fits before (StreamMap f s) rest all h = beside before (StreamMap f s) rest all f h (linked_new _ f (within before (StreamMap f s) rest all f h)) refl
   node_fits before (TableMap f s) rest all h = beside before (TableMap f s) rest all f h (linked_new _ f (within before (TableMap f s) rest all f h)) refl
   node_fits before (KeySelected f k) rest all h = beside before (KeySelected f k) rest all f h (linked_new _ f (within before (KeySelected f k) rest all f h)) refl
-  node_fits before (StreamAggregate f by field true) rest all h = (h, λ e. cc)
-  node_fits before (StreamAggregate f by field false) rest all h = (h, λ e. beside before (StreamAggregate f by field false) rest all f h (linked_new _ f (within before (StreamAggregate f by field false) rest all f h)) refl)
+  node_fits before (StreamAggregate f by field true) rest all h = (h.0, λ e. cc, λ e. cc)
+  node_fits before (StreamAggregate f by field false) rest all h =
+      (h.0, λ e. beside before (StreamAggregate f by field false) rest all f h.0 (linked_new _ f (within before (StreamAggregate f by field false) rest all f h.0)) refl, λ e. keys_fit before (StreamAggregate f by field false) rest all f by h.0 (h.1 refl))
   node_fits before (TableAggregate f by field) rest all h = h
-  node_fits before (Windowed f by w true) rest all h = (h, λ e. cc)
-  node_fits before (Windowed f by w false) rest all h = (h, λ e. beside before (Windowed f by w false) rest all f h (linked_new _ f (within before (Windowed f by w false) rest all f h)) refl)
+  node_fits before (Windowed f by w true) rest all h = (h.0, λ e. cc, λ e. cc)
+  node_fits before (Windowed f by w false) rest all h =
+      (h.0, λ e. beside before (Windowed f by w false) rest all f h.0 (linked_new _ f (within before (Windowed f by w false) rest all f h.0)) refl, λ e. keys_fit before (Windowed f by w false) rest all f by h.0 (h.1 refl))
   node_fits before (KeyJoin l r kind s) rest all h =
       let k = KeyJoin l r kind s in
       let ls = fold label_next [] before in

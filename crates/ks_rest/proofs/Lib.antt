@@ -19,3 +19,6 @@ pub mod SentGroups
 pub mod AtRest
 pub mod GroupsRest
 pub mod PlainRest
+pub mod StreamGroups
+pub mod StreamsDirect
+pub mod StreamsWhole

@@ -102,7 +102,7 @@ field_itself : (f : Field) → same_field f f ≡ true
 field_itself (Int z) = ap is_eq (tied_itself int_cmp_total z)
 field_itself (Text t) = ap is_eq (tied_itself nat_list_cmp_total t)
 
-pub row_itself : (r : Row) → same_row r r ≡ true
+row_itself : (r : Row) → same_row r r ≡ true
 row_itself [] = refl
 row_itself (m ∷ ms) = and_from _ _ (and_from _ _ (ap is_eq (tied_itself nat_list_cmp_total m.0)) (field_itself m.1)) (row_itself ms)
 
@@ -255,7 +255,7 @@ module _ (rules : Rules) (p : Plan) where
           values_owned (with_number news n (value_at rules a items olds news n k)) (suc n) ks
           (numbered (λ c x. (x ≡ olds c) ⊎ Owned a.topic c) news n (value_at rules a items olds news n k) h (value_owned news n k h f.0)) f.1
 
-  fits_key : (q : Place) (m : Message) (c : Key) → step_key m ≡ Some c → FitsAt q m → FitsKey q c
+  pub fits_key : (q : Place) (m : Message) (c : Key) → step_key m ≡ Some c → FitsAt q m → FitsKey q c
   fits_key q (Given None v) c e f = cc
   fits_key q (Given (Some k) v) c e f = let is : k ≡ c = cc in subst (FitsKey q) is f
   fits_key q (Keyed g row) c e f = let is : g ≡ c = cc in subst (FitsKey q) is f
@@ -305,7 +305,7 @@ module _ (rules : Rules) (p : Plan) where
               | false ↦ λ b g. before n k y g
             ] refl (sym (get-write nat_list_cmp_total (st.tables n) c (news n) k) ∙ e)
 
-    placed_step : (st : RunState TaskId Place Store Item) (s : Option TaskId) (q : Place) (xs : List Item) → st.waiting s q ≡ xs → Placed st → Placed (take_first (machine rules p) st s q xs)
+    pub placed_step : (st : RunState TaskId Place Store Item) (s : Option TaskId) (q : Place) (xs : List Item) → st.waiting s q ≡ xs → Placed st → Placed (take_first (machine rules p) st s q xs)
     placed_step st s q [] e h = h
     placed_step st s q (x ∷ rest) e h = record { waiting = waiting; tables = tables }
       where

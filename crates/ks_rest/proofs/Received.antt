@@ -115,7 +115,7 @@ pub nothing_begins : {A : Type 0} (xs rest : List A) → [] ≡ xs ++ rest → x
 nothing_begins [] rest e = refl
 nothing_begins (x ∷ xs) rest e = cc
 
-either_same : {A : Type 0} (b : Bool) (x : A) → cond b x x ≡ x
+pub either_same : {A : Type 0} (b : Bool) (x : A) → cond b x x ≡ x
 either_same true x = refl
 either_same false x = refl
 

@@ -1,7 +1,8 @@
 -- The plan of a well-formed draft fits: inputs stand before their nodes, each topic has one source, sides that are joined on
 -- their keys have as many partitions.
-use Rattle.std.proofs.Common.{◌≡◌, ℕ, zero, suc, ◌<◌, ◌≤◌, Bool, true, false, cond, not, ◌||◌, List, length, [], ◌∷◌, ◌++◌, map, get_or, Option, Some, None, fold, refl, sym, ap, ap₂, subst, ◌∙◌, arith, append_assoc, append-nil, nat_eq, ne_eqb, ◌⊎◌, inl, inr, ⊎_elim}
-use Rattle.std.specs.Prelude.{ℤ}
+use Rattle.std.proofs.Common.{◌+◌, ◌≡◌, ℕ, zero, suc, ◌<◌, ◌≤◌, Bool, true, false, cond, not, ◌||◌, List, length, length-append, [], ◌∷◌, ◌++◌, map, get_or, Option, Some, None, fold, refl, sym, ap, ap₂, subst, ◌∙◌, arith, append_assoc, append-nil, nat_eq, ne_eqb, ◌⊎◌, inl, inr, ⊎_elim}
+use Rattle.std.specs.Prelude.{ℤ, is_some}
+use Rattle.std.proofs.lemmas.Bool.{cases_lt}
 use Rattle.std.specs.List.{flat_map}
 use Rattle.std.specs.Option.{option_or}
 use Rattle.std.proofs.lemmas.Bool.Decides.{Decides-eqb}
@@ -13,15 +14,24 @@ use Rattle.std.specs.Cmp.{tied_itself}
 use Rattle.std.specs.Cmp.Lexicographic.{nat_list_cmp_total, slice_cmp}
 use Rattle.std.specs.FinMap.{slice_cmp-IsAntisymmetric, nat_cmp-IsAntisymmetric}
 use Rattle.ks_expr.specs.Eval.{same_bytes}
-use Rattle.ks_topo.specs.declared.fault.TopoFault.TheVariants.{UnknownInput, DuplicateName, NotCopartitioned}
+use Rattle.ks_topo.specs.declared.fault.TopoFault.TheVariants.{UnknownInput, WrongKind, DuplicateName, NotCopartitioned}
 use Rattle.ks_topo.specs.Drafts.{Name, OpView, StreamOf, TableOf, FilterOf, MapOf, KeyOf, CountOf, SumOf, WindowedOf, JoinOf, FkJoinOf, NodeView, DraftView}
-use Rattle.ks_topo.specs.Plan.{Plan, Kind, Known, is_stream, known_of, learn, known_from, known_at, known_names, name_place, node_number, topic_number, plan_of}
+use Rattle.ks_topo.specs.Plan.{Plan, Kind, Known, is_stream, known_of, learn, known_from, known_at, known_names, name_place, node_number, topic_number, plan_of, nothing_known}
 use Rattle.ks_topo.specs.Plan.Kind.{StreamFilter, TableFilter, StreamMap, TableMap}
 use Rattle.ks_topo.specs.Layout.{is_source_of, any_source_of}
-use Rattle.ks_topo.specs.Faults.{Line, first_fitting, first_of, has_name, names_of, topic_names, unknown_lines, taken_lines, inputs_in, topics_in, sources_of, parts_in, node_table, nodes_fault, side_lines, size_lines, print_fault}
+use Rattle.ks_topo.specs.Faults.{Line, first_fitting, first_of, has_name, names_of, topic_names, unknown_lines, taken_lines, inputs_in, topics_in, sources_of, parts_in, node_table, nodes_fault, side_lines, size_lines, print_fault, wrong_kind, wiring_in}
 use Rattle.ks_map.proofs.Tables.{equal}
 use Rattle.ks_rest.specs.WellFormed.{IsWellFormed}
-use Rattle.ks_rest.proofs.Fits.{Fits, NodeShape, EachShape, fits_of_shape}
+use Rattle.ks_rest.proofs.Fits.{Fits, NodeShape, EachShape, fits_of_shape, own_next, own_keys, GroupsByKey, own_same, own_count}
+
+get_before : {A : Type 0} (xs ys : List A) (n : ℕ) (d : A) → n < length xs → get_or (xs ++ ys) n d ≡ get_or xs n d
+get_before [] ys n d lt = absurd (omega arith)
+get_before (x ∷ xs) ys zero d lt = refl
+get_before (x ∷ xs) ys (suc n) d lt = get_before xs ys n d (omega arith)
+
+get_end : {A : Type 0} (xs : List A) (x : A) (ys : List A) (d : A) → get_or (xs ++ x ∷ ys) (length xs) d ≡ x
+get_end [] x ys d = refl
+get_end (y ∷ xs) x ys d = get_end xs x ys d
 
 -- ---- no fault, line by line
 none_of : {A : Type 0} (x y : Option A) → option_or x y ≡ None → (x ≡ None) × (y ≡ None)
@@ -150,9 +160,13 @@ module _ (d : DraftView) where
       let k : Known = record { name = n.name; kind = (known_of ts ks n.op).0; rekeyed = (known_of ts ks n.op).1 } in
       known_names_are (ks ++ k ∷ []) ns ∙ ap (λ l. l ++ names_of ns) (map-append (λ k. k.name) ks (k ∷ [])) ∙ append_assoc (known_names ks) (n.name ∷ []) (names_of ns)
 
-  either_shape : (before : List Kind) (b : Bool) (x y : Kind) → NodeShape plan before x → NodeShape plan before y → NodeShape plan before (cond b x y)
-  either_shape before true x y p q = p
+  either_shape : (before : List Kind) (b : Bool) (x y : Kind) → (b ≡ true → NodeShape plan before x) → NodeShape plan before y → NodeShape plan before (cond b x y)
+  either_shape before true x y p q = p refl
   either_shape before false x y p q = q
+
+  -- streams that no select_key made have the keys of their records
+  abbrev Own : List Known → Type 0
+  Own ks = (i : ℕ) → i < length ks → is_stream (get_or ks i nothing_known).kind ≡ true → (get_or ks i nothing_known).rekeyed ≡ false → get_or (own_keys (kinds_of ks)) i false ≡ true
 
   -- the sources before a node: other topics than one that none of them names
   abbrev Apart : List NodeView → List Known → Type 0
@@ -195,26 +209,41 @@ module _ (d : DraftView) where
       topics : first_fitting (unknown_lines (topic_names d) (topics_in op)) ≡ None;
       inputs : first_fitting (unknown_lines (names_of before) (inputs_in op)) ≡ None;
       sources : first_fitting (taken_lines (sources_of before) (topics_in op)) ≡ None;
+      kinds : first_fitting (map (λ i. (wrong_kind op (wiring_in ks i), WrongKind n.name)) (inputs_in op)) ≡ None;
       sides : first_fitting (side_lines plan.counts ks op) ≡ None;
     }
 
-    shape_of : (op : OpView) → Lines op → Apart before ks → NodeShape plan (kinds_of ks) (known_of ts ks op).0
-    shape_of (StreamOf t) e apart = apart t (topic_known t e.topics) (source_free t e.sources)
-    shape_of (TableOf t) e apart = apart t (topic_known t e.topics) (source_free t e.sources)
-    shape_of (FilterOf f x) e apart = either_shape (kinds_of ks) (is_stream (known_at ks f).kind) _ _ (one_known f e.inputs) (one_known f e.inputs)
-    shape_of (MapOf f s) e apart = either_shape (kinds_of ks) (is_stream (known_at ks f).kind) _ _ (one_known f e.inputs) (one_known f e.inputs)
-    shape_of (KeyOf f k) e apart = one_known f e.inputs
-    shape_of (CountOf f by) e apart = either_shape (kinds_of ks) (is_stream (known_at ks f).kind) _ _ (one_known f e.inputs) (one_known f e.inputs)
-    shape_of (SumOf f by field) e apart = either_shape (kinds_of ks) (is_stream (known_at ks f).kind) _ _ (one_known f e.inputs) (one_known f e.inputs)
-    shape_of (WindowedOf f by size advance grace) e apart = one_known f e.inputs
-    shape_of (JoinOf l r kind s) e apart =
+    by_key : (f : Name) (by : Option Name) → node_number ks f < length (kinds_of ks) → Own ks → is_stream (known_at ks f).kind ≡ true → (is_some by || (known_at ks f).rekeyed) ≡ false → GroupsByKey (own_keys (kinds_of ks)) (node_number ks f) by
+    by_key f by lt own stream e =
+        let both = either_false (is_some by) (known_at ks f).rekeyed e in
+        let long : length (kinds_of ks) ≡ length ks = map_length (λ k. k.kind) ks in
+        (none_there by both.0, own (node_number ks f) (omega arith) stream both.1)
+      where
+        none_there : (w : Option Name) → is_some w ≡ false → w ≡ None
+        none_there None e = refl
+        none_there (Some x) e = cc
+
+    shape_of : (op : OpView) → Lines op → Apart before ks → Own ks → NodeShape plan (kinds_of ks) (known_of ts ks op).0
+    shape_of (StreamOf t) e apart own = apart t (topic_known t e.topics) (source_free t e.sources)
+    shape_of (TableOf t) e apart own = apart t (topic_known t e.topics) (source_free t e.sources)
+    shape_of (FilterOf f x) e apart own = either_shape (kinds_of ks) (is_stream (known_at ks f).kind) _ _ (λ b. one_known f e.inputs) (one_known f e.inputs)
+    shape_of (MapOf f s) e apart own = either_shape (kinds_of ks) (is_stream (known_at ks f).kind) _ _ (λ b. one_known f e.inputs) (one_known f e.inputs)
+    shape_of (KeyOf f k) e apart own = one_known f e.inputs
+    shape_of (CountOf f by) e apart own = either_shape (kinds_of ks) (is_stream (known_at ks f).kind) _ _ (λ b. (one_known f e.inputs, by_key f by (one_known f e.inputs) own b)) (one_known f e.inputs)
+    shape_of (SumOf f by field) e apart own = either_shape (kinds_of ks) (is_stream (known_at ks f).kind) _ _ (λ b. (one_known f e.inputs, by_key f by (one_known f e.inputs) own b)) (one_known f e.inputs)
+    shape_of (WindowedOf f by size advance grace) e apart own = (one_known f e.inputs, by_key f by (one_known f e.inputs) own (of_not _ (not_first (not (is_stream (known_at ks f).kind), WrongKind n.name) [] e.kinds).0))
+      where
+        of_not : (b : Bool) → not b ≡ false → b ≡ true
+        of_not true e = refl
+        of_not false e = cc
+    shape_of (JoinOf l r kind s) e apart own =
         let left = input_known l (r ∷ []) e.inputs in
         (left.0, one_known r left.1, (Decides-eqb _ _).0 (of_not _ (not_first (not (nat_eq (parts_in plan.counts ks l) (parts_in plan.counts ks r)), NotCopartitioned l r) [] e.sides).0))
       where
         of_not : (b : Bool) → not b ≡ false → b ≡ true
         of_not true e = refl
         of_not false e = cc
-    shape_of (FkJoinOf l r fk kind s) e apart =
+    shape_of (FkJoinOf l r fk kind s) e apart own =
         let left = input_known l (r ∷ []) e.inputs in
         (left.0, one_known r left.1)
 
@@ -239,23 +268,70 @@ module _ (d : DraftView) where
     apart_push (JoinOf l r kind s) e apart t kt ne = refl
     apart_push (FkJoinOf l r fk kind s) e apart t kt ne = refl
 
+    -- what passes a stream on keeps its keys
+    passes : (f : Name) (x y : Kind) → node_number ks f < length (kinds_of ks) → Own ks → is_stream y ≡ false →
+        own_next (own_keys (kinds_of ks)) x ≡ own_keys (kinds_of ks) ++ get_or (own_keys (kinds_of ks)) (node_number ks f) false ∷ [] →
+        is_stream (cond (is_stream (known_at ks f).kind) x y) ≡ true → (known_at ks f).rekeyed ≡ false →
+        get_or (own_next (own_keys (kinds_of ks)) (cond (is_stream (known_at ks f).kind) x y)) (length (own_keys (kinds_of ks))) false ≡ true
+    passes f x y lt own table next stream plain =
+        let long : length (kinds_of ks) ≡ length ks = map_length (λ k. k.kind) ks in
+        elim (is_stream (known_at ks f).kind) as (λ b. is_stream (known_at ks f).kind ≡ b → is_stream (cond b x y) ≡ true → get_or (own_next (own_keys (kinds_of ks)) (cond b x y)) (length (own_keys (kinds_of ks))) false ≡ true) [
+          | true ↦ λ b h. ap (λ l. get_or l (length (own_keys (kinds_of ks))) false) next ∙ get_end (own_keys (kinds_of ks)) _ [] false ∙ own (node_number ks f) (omega arith) b plain
+          | false ↦ λ b h. let other : false ≡ true = sym table ∙ h in cc
+        ] refl stream
+
+    no_stream : {A : Type 0} (b : Bool) (x y : Kind) → is_stream x ≡ false → is_stream y ≡ false → is_stream (cond b x y) ≡ true → A
+    no_stream true x y p q e = let other : false ≡ true = sym p ∙ e in cc
+    no_stream false x y p q e = let other : false ≡ true = sym q ∙ e in cc
+
+    -- one more node keeps the keys of streams
+    own_push : (op : OpView) → Lines op → Own ks → is_stream (known_of ts ks op).0 ≡ true → (known_of ts ks op).1 ≡ false → get_or (own_next (own_keys (kinds_of ks)) (known_of ts ks op).0) (length (own_keys (kinds_of ks))) false ≡ true
+    own_push (StreamOf t) e own stream plain = get_end (own_keys (kinds_of ks)) true [] false
+    own_push (TableOf t) e own stream plain = cc
+    own_push (FilterOf f x) e own stream plain = passes f (StreamFilter (node_number ks f) x) (TableFilter (node_number ks f) x) (one_known f e.inputs) own refl refl stream plain
+    own_push (MapOf f s) e own stream plain = passes f (StreamMap (node_number ks f) s) (TableMap (node_number ks f) s) (one_known f e.inputs) own refl refl stream plain
+    own_push (KeyOf f k) e own stream plain = cc
+    own_push (CountOf f by) e own stream plain = no_stream (is_stream (known_at ks f).kind) _ _ refl refl stream
+    own_push (SumOf f by field) e own stream plain = no_stream (is_stream (known_at ks f).kind) _ _ refl refl stream
+    own_push (WindowedOf f by size advance grace) e own stream plain = cc
+    own_push (JoinOf l r kind s) e own stream plain = cc
+    own_push (FkJoinOf l r fk kind s) e own stream plain = cc
+
   pub record Good (before : List NodeView) : Type 0 where
     pub shape : EachShape plan [] (kinds_of (known_from ts before))
     pub apart : Apart before (known_from ts before)
+    pub own : Own (known_from ts before)
+
+  own_more : (ks : List Known) (k : Known) → Own ks → (is_stream k.kind ≡ true → k.rekeyed ≡ false → get_or (own_next (own_keys (kinds_of ks)) k.kind) (length (own_keys (kinds_of ks))) false ≡ true) → Own (ks ++ k ∷ [])
+  own_more ks k own here i lt stream plain =
+      let flags : own_keys (kinds_of (ks ++ k ∷ [])) ≡ own_next (own_keys (kinds_of ks)) k.kind = ap own_keys (map-append (λ k. k.kind) ks (k ∷ [])) ∙ fold-append own_next [] (kinds_of ks) (k.kind ∷ []) in
+      let count : length (own_keys (kinds_of ks)) ≡ 0 + length (kinds_of ks) = own_count plan [] (kinds_of ks) in
+      let long : length (kinds_of ks) ≡ length ks = map_length (λ k. k.kind) ks in
+      ap (λ l. get_or l i false) flags ∙ ⊎_elim
+      (λ (less : i < length ks).
+      let same : get_or (ks ++ k ∷ []) i nothing_known ≡ get_or ks i nothing_known = get_before ks (k ∷ []) i nothing_known less in
+      own_same (own_keys (kinds_of ks)) k.kind i (omega arith) ∙ own i less (ap (λ (x : Known). is_stream x.kind) (sym same) ∙ stream) (ap (λ (x : Known). x.rekeyed) (sym same) ∙ plain))
+      (λ ge.
+      let is : i ≡ length ks = omega (arith, length-append ks (k ∷ [])) in
+      let same : get_or (ks ++ k ∷ []) i nothing_known ≡ k = ap (λ m. get_or (ks ++ k ∷ []) m nothing_known) is ∙ get_end ks k [] nothing_known in
+      let at : i ≡ length (own_keys (kinds_of ks)) = omega arith in
+      ap (λ m. get_or (own_next (own_keys (kinds_of ks)) k.kind) m false) at ∙ here (ap (λ (x : Known). is_stream x.kind) (sym same) ∙ stream) (ap (λ (x : Known). x.rekeyed) (sym same) ∙ plain))
+      (cases_lt i (length ks))
 
   good_push : (before : List NodeView) (n : NodeView) → first_of (node_table d before n) ≡ None → Good before → Good (before ++ n ∷ [])
   good_push before n fine h =
       let ks = known_from ts before in
-      let lines : Lines before n fine n.op = record { topics = group before n fine 2; inputs = group before n fine 3; sources = group before n fine 4; sides = group before n fine 7 } in
+      let lines : Lines before n fine n.op = record { topics = group before n fine 2; inputs = group before n fine 3; sources = group before n fine 4; kinds = group before n fine 6; sides = group before n fine 7 } in
       let k : Known = record { name = n.name; kind = (known_of ts ks n.op).0; rekeyed = (known_of ts ks n.op).1 } in
       let known : known_from ts (before ++ n ∷ []) ≡ ks ++ k ∷ [] = fold-append (learn ts) [] before (n ∷ []) in
       let kinds : kinds_of (known_from ts (before ++ n ∷ [])) ≡ kinds_of ks ++ k.kind ∷ [] = ap kinds_of known ∙ map-append (λ k. k.kind) ks (k ∷ []) in
       record {
-        shape = subst (EachShape plan []) (sym kinds) (shape_push plan [] (kinds_of ks) k.kind h.shape (shape_of before n fine n.op lines h.apart));
+        shape = subst (EachShape plan []) (sym kinds) (shape_push plan [] (kinds_of ks) k.kind h.shape (shape_of before n fine n.op lines h.apart h.own));
         apart = λ t kt free.
             let both = either_false _ _ (sym (has_name-append (sources_of before) (topics_in n.op) t) ∙ ap (λ l. has_name l t) (sym (flat-append (λ m. topics_in m.op) before n)) ∙ free) in
             ap (any_source_of (topic_number ts t)) kinds ∙ any-append (topic_number ts t) (kinds_of ks) (k.kind ∷ [])
             ∙ ap₂ (λ a b. a || (b || false)) (h.apart t kt both.0) (apart_push before n fine n.op lines h.apart t kt both.1);
+        own = subst Own (sym known) (own_more ks k h.own (own_push before n fine n.op lines h.own));
       }
 
   good_all : (before rest : List NodeView) → nodes_fault d before rest ≡ None → Good before → Good (before ++ rest)
@@ -268,4 +344,4 @@ module _ (d : DraftView) where
   well_formed_fits e =
       let rest = (none_of (first_fitting (size_lines d)) _ e).1 in
       let nodes = (none_of (nodes_fault d [] d.nodes) (print_fault d [] d.print) rest).0 in
-      fits_of_shape plan (good_all [] d.nodes nodes (record { shape = tt; apart = λ t kt free. refl })).shape
+      fits_of_shape plan (good_all [] d.nodes nodes (record { shape = tt; apart = λ t kt free. refl; own = λ i lt. absurd (omega arith) })).shape

@@ -4,3 +4,4 @@ pub mod States
 pub mod Tables
 pub mod Groups
 pub mod AtRest
+pub mod Streams

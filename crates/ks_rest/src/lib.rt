@@ -5,8 +5,10 @@
 
 mod groups;
 mod rest;
+mod streams;
 mod tables;
 
 pub use groups::table_groups_are_sums;
 pub use rest::plain_tables_rest;
+pub use streams::stream_groups_are_whole;
 pub use tables::{derived_tables_follow, source_tables_are_latest};
