@@ -2,4 +2,9 @@ pub mod Names
 pub mod Told
 pub mod Numbers
 pub mod Alone
+pub mod Pairs
+pub mod Picked
+pub mod Same
+pub mod Keys
+pub mod Agree
 pub mod Examples

@@ -1,17 +1,21 @@
 -- Laws over every run of the machine of every plan.
-use Rattle.std.specs.Prelude.{◌≡◌, ℕ, ◌≤◌, length, List, [], Option, true, false}
+use Rattle.std.specs.Prelude.{◌≡◌, ℕ, ◌≤◌, length, List, [], Option, Some, None, true, false, nat_eq, slice_get}
 use Rattle.ks_row.specs.declared.record.Rec.{Rec}
 use Rattle.ks_row.specs.declared.record.PartId.{PartId}
 use Rattle.ks_row.specs.Parts.{same_task}
 use Rattle.ks_topo.specs.Infos.{input_numbers}
-use Rattle.ks_machine.specs.Bytes.{ByteStores, byte_step, is_own_number, has_number, reader_number, keep_all, records_at}
+use Rattle.ks_machine.specs.Bytes.{ByteStores, byte_step, is_own_number, has_number, reader_number, keep_all, records_at, message_in, stored_from, stored_bytes, store_from, table_from}
 use Rattle.ks_row.specs.declared.record.TaskId.{TaskId}
-use Rattle.ks_topo.specs.Plan.{Plan}
+use Rattle.ks_topo.specs.Plan.{Plan, Kind, is_windowed}
+use Rattle.ks_topo.specs.declared.node.Topic.{Topic}
 use Rattle.ks_topo.specs.declared.node.Topic.TheVariants.{Changelog}
-use Rattle.ks_topo.specs.Layout.{sub_of}
+use Rattle.ks_topo.specs.Layout.{sub_of, topic_at, reads, number_of}
+use Rattle.ks_map.specs.FinMap as fin
+use Rattle.ks_query.specs.Streams.{Key}
+use Rattle.ks_machine.specs.Step.{step_key}
 use Rattle.ks_network.specs.Run.{HasNames, Follows, run, local, sent_to}
-use Rattle.ks_machine.specs.Messages.{Place, Item, Rules}
-use Rattle.ks_machine.specs.Tasks.{machine, empty_store}
+use Rattle.ks_machine.specs.Messages.{Place, Stored, Message, Item, Rules}
+use Rattle.ks_machine.specs.Tasks.{machine, empty_store, step}
 use Rattle.ks_machine.specs.Collision.{past}
 
 abbrev pub NamesAreDecided : Type 0
@@ -53,3 +57,23 @@ TopicsAreApart = (p : Plan) → IsApart p
 abbrev pub NoneForOthers : Type 0
 NoneForOthers = (rules : Rules) (p : Plan) (t u : TaskId) (stores : ByteStores) (q : PartId) (r : Rec) (n : ℕ) → same_task u t ≡ false →
     is_own_number p u.sub n ≡ true → records_at (record { topic = n; part = u.part }) (byte_step rules p t stores q r).made ≡ []
+
+-- ---- over bytes and decoded, one step
+-- the task reads the topic, and the record spells the message
+pub record IsTakenBy (p : Plan) (t : TaskId) (q : PartId) (r : Rec) (topic : Topic) (message : Message) : Type 0 where
+  pub topic_there : topic_at p q.topic ≡ Some topic
+  pub reader : nat_eq (reads p topic) t.sub ≡ true
+  pub spelled : message_in p topic r ≡ Some message
+
+-- a stored value is read again from its bytes
+abbrev pub IsReadAgain : Kind → Option Stored → Type 0
+IsReadAgain kind None = Unit {0}
+IsReadAgain kind (Some x) = stored_from kind (stored_bytes x) ≡ Some x
+
+-- a table that is read from the bytes after the step is the table after the decoded step; and the records are the decoded ones, spelled
+abbrev pub TablesAgree : Type 0
+TablesAgree = (rules : Rules) (p : Plan) (t : TaskId) (stores : ByteStores) (q : PartId) (r : Rec) (topic : Topic) (message : Message) → IsTakenBy p t q r topic message →
+    (n : ℕ) (kind : Kind) → slice_get p.kinds n ≡ Some kind → is_windowed kind ≡ false → is_own_number p t.sub (number_of p (Changelog n)) ≡ true →
+    let decoded = step rules p t (store_from p t.sub stores) (record { topic = topic; part = q.part }) (record { message = message; time = r.ts }) in
+    ((k : Key) → step_key message ≡ Some k → IsReadAgain kind (fin.get (decoded.store.tables n) k)) →
+    table_from p t.sub (byte_step rules p t stores q r).store n ≡ decoded.store.tables n
