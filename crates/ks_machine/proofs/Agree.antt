@@ -1,7 +1,7 @@
 -- A table that is read from the bytes after a step is the table after the decoded step.
-use Rattle.std.proofs.Common.{◌≡◌, ℕ, ◌+◌, Bool, true, false, cond, ◌&&◌, nat_eq, List, [], ◌∷◌, ◌++◌, map, fold, get_or, Option, Some, None, refl, sym, ap, ap₂, subst, ◌∙◌, arith, append-nil, zero, suc}
-use Rattle.std.specs.Prelude.{slice_get, option_map}
-use Rattle.std.proofs.lemmas.Bool.{and_parts, and_from}
+use Rattle.std.proofs.Common.{◌≡◌, ℕ, ◌+◌, true, false, cond, nat_eq, List, [], ◌∷◌, ◌++◌, map, get_or, Option, Some, None, refl, sym, ap, ap₂, subst, ◌∙◌, arith, append-nil, zero, suc}
+use Rattle.std.specs.Prelude.{slice_get}
+use Rattle.std.proofs.lemmas.Bool.{and_from}
 use Rattle.std.specs.List.{filter}
 use Rattle.std.specs.Cmp.Lexicographic.{nat_list_cmp_total}
 use Rattle.std.specs.FinMap.{slice_cmp-IsAntisymmetric, nat_cmp-IsAntisymmetric}
@@ -23,9 +23,9 @@ use Rattle.ks_network.specs.Run.{Outcome}
 use Rattle.ks_query.specs.Streams.{Key, StreamItem}
 use Rattle.ks_machine.specs.Messages.{Place, Stored, Message, Item, Store, Rules, same_option, same_stored}
 use Rattle.ks_machine.specs.Messages.Message.{Kept}
-use Rattle.ks_machine.specs.Step.{Arrival, Values, counted_at, value_changes, whole_step, step_key, items_from, olds_at, news_at, tables_after, sends_at, changes_at, over_nodes}
+use Rattle.ks_machine.specs.Step.{Arrival, Values, counted_at, value_changes, step_key, items_from, olds_at, news_at, tables_after, sends_at, changes_at, over_nodes}
 use Rattle.ks_machine.specs.Tasks.{step, sent_item, written_item, is_changelog}
-use Rattle.ks_machine.specs.Bytes.{ByteStores, byte_step, step_at, step_read, outcome_of, nothing_made, is_own, is_own_number, is_sent, spelled, part_id, rec_of, records_at, message_in, store_from, table_from, pairs_of, map_from, stored_from, stored_bytes, keep_all, stores_after}
+use Rattle.ks_machine.specs.Bytes.{ByteStores, byte_step, step_at, step_read, outcome_of, nothing_made, is_own, is_own_number, is_sent, spelled, rec_of, records_at, message_in, store_from, table_from, pairs_of, map_from, stored_from, stored_bytes, keep_all}
 use Rattle.ks_machine.specs.Laws.{IsTakenBy, IsReadAgain}
 use Rattle.ks_machine.proofs.Numbers.{place-is, kept_at}
 use Rattle.ks_machine.proofs.Pairs.{write-pair}

@@ -15,7 +15,7 @@ use Rattle.ks_query.specs.Streams.{Key}
 use Rattle.ks_machine.specs.Messages.{Message, subscription_of}
 use Rattle.ks_machine.specs.Messages.Message.{Given, Keyed, Moved, Asked, Answered}
 use Rattle.ks_machine.specs.Step.{step_key}
-use Rattle.ks_machine.specs.Bytes.{if_there, of_both, given_in, regrouped_in, message_in}
+use Rattle.ks_machine.specs.Bytes.{if_there, regrouped_in, message_in}
 use Rattle.ks_machine.proofs.Pairs.{key_from-is}
 
 -- what is read as a key is read as it again

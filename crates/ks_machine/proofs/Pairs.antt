@@ -1,5 +1,5 @@
 -- A table that is read from the pairs of a store of bytes: what it has at a key, and what one more record makes of it.
-use Rattle.std.proofs.Common.{◌≡◌, ℕ, Bool, true, false, cond, T, ◌&&◌, ◌==◌, List, [], ◌∷◌, length, Option, Some, None, fold, refl, sym, ap, subst, ◌∙◌, if◌then◌else◌}
+use Rattle.std.proofs.Common.{◌≡◌, ℕ, Bool, true, false, cond, T, ◌==◌, List, [], ◌∷◌, length, Option, Some, None, fold, refl, sym, ap, subst, ◌∙◌}
 use Rattle.std.specs.Prelude.{option_map, nat_le}
 use Rattle.std.specs.Ordering.{eq_by_cmp, is_eq}
 use Rattle.std.specs.Cmp.{tied_itself}

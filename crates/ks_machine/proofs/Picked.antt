@@ -1,5 +1,5 @@
 -- What a whole step writes for the changelog of one node.
-use Rattle.std.proofs.Common.{◌≡◌, ℕ, ◌+◌, ◌<◌, Bool, true, false, cond, ◌&&◌, ◌==◌, nat_eq, List, [], ◌∷◌, ◌++◌, map, Option, Some, None, refl, sym, ap, ap₂, subst, ◌∙◌, arith, zero, suc, append-nil, not}
+use Rattle.std.proofs.Common.{◌≡◌, ℕ, ◌+◌, ◌<◌, Bool, true, false, cond, ◌&&◌, ◌==◌, nat_eq, List, [], ◌∷◌, ◌++◌, map, Option, Some, None, refl, sym, ap, ap₂, subst, ◌∙◌, arith, zero, suc, append-nil}
 use Rattle.std.specs.Prelude.{slice_get, option_map}
 use Rattle.ks_map.specs.FinMap as fin
 use Rattle.std.specs.List.{filter}
@@ -11,20 +11,18 @@ use Rattle.ks_row.specs.declared.record.TaskId.{TaskId}
 use Rattle.ks_row.specs.Parts.{same_part}
 use Rattle.ks_wire.specs.declared.values.Delta.{Delta}
 use Rattle.ks_wire.specs.declared.values.Response.{Response}
-use Rattle.ks_topo.specs.Plan.{Plan, Kind, is_windowed}
+use Rattle.ks_topo.specs.Plan.{Plan, Kind}
 use Rattle.ks_topo.specs.Plan.Kind.{StreamSource, TableSource, StreamFilter, TableFilter, StreamMap, TableMap, KeySelected, StreamAggregate, TableAggregate, Windowed, KeyJoin, ForeignKeyJoin}
-use Rattle.ks_topo.specs.declared.node.Topic.{Topic}
 use Rattle.ks_topo.specs.declared.node.Topic.TheVariants.{Subscriptions, Changelog, HashChangelog}
-use Rattle.ks_topo.specs.Layout.{same_topic, topic_at, topics_of, number_of, reads}
+use Rattle.ks_topo.specs.Layout.{same_topic, topic_at, topics_of, number_of}
 use Rattle.ks_query.specs.Streams.{Key, StreamItem, group_key}
 use Rattle.ks_query.specs.Aggregates.{table_parts}
 use Rattle.ks_expr.specs.Eval.{Row}
-use Rattle.ks_machine.specs.Messages.{Place, Stored, shown, Subscription, Message, Item, Store, Rules}
+use Rattle.ks_machine.specs.Messages.{Place, shown, Subscription, Message, Item, Store, Rules}
 use Rattle.ks_machine.specs.Messages.Message.{Given, Keyed, Moved, Asked, Answered, Kept, KeptCount, KeptTime, KeptHash}
-use Rattle.ks_machine.specs.Windowed.{Counted}
 use Rattle.ks_machine.specs.Foreign.{subscriptions, answer_to, answer_all}
-use Rattle.ks_machine.specs.Step.{Arrival, Values, Sent, Written, keyed_to, regroup, send_deltas, regroup_rows, send_subscriptions, send_responses, answer_of, answer_one, join_sends, sends_at, write_all, value_changes, hash_changes, counted_at, changes_at, over_nodes, arrived, step_key, row_in, changed}
-use Rattle.ks_machine.specs.Tasks.{sent_item, written_item, is_changelog}
+use Rattle.ks_machine.specs.Step.{Arrival, Values, Sent, Written, keyed_to, regroup, send_deltas, send_subscriptions, send_responses, answer_of, answer_one, join_sends, sends_at, write_all, value_changes, hash_changes, counted_at, changes_at, over_nodes, arrived, step_key, row_in, changed}
+use Rattle.ks_machine.specs.Tasks.{sent_item, written_item}
 use Rattle.ks_machine.specs.Bytes.{is_own, is_sent, spelled, part_id, rec_of, records_at}
 use Rattle.ks_machine.proofs.Names.{topic-is, topic_itself}
 use Rattle.ks_machine.proofs.Numbers.{place-is}

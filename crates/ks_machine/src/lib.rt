@@ -22,5 +22,5 @@ pub fn changelogs_tell()
 /// Over bytes and decoded, one step: the tables that the bytes are afterwards are those of the decoded step, where what it stores is
 /// read again from its bytes.
 pub fn bytes_agree()
-    ensures tables { TablesAgree }
+    ensures { TablesAgree }
 {}
