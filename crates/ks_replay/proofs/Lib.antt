@@ -1,14 +1,14 @@
-mod Sound
-mod Slots
-mod Batches
-mod Order
-mod Stores
-mod Commits
-mod Quiet
-mod Inputs
-mod Refusals
-mod Replays
-mod Keeping
-mod Counts
-mod Appending
-mod Written
+pub mod Sound
+pub mod Slots
+pub mod Batches
+pub mod Order
+pub mod Stores
+pub mod Commits
+pub mod Quiet
+pub mod Inputs
+pub mod Refusals
+pub mod Replays
+pub mod Keeping
+pub mod Counts
+pub mod Appending
+pub mod Written

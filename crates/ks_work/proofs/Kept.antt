@@ -28,7 +28,7 @@ module _ (rules : Rules) (p : Plan) (t : TaskId) where
   sends_kept time [] h = refl
   sends_kept time (s ∷ xs) h =
       ap (λ b. cond b (sent_item rules p time s ∷ filter (is_sent p t) (map (sent_item rules p time) xs)) (filter (is_sent p t) (map (sent_item rules p time) xs)))
-      (ap (λ b. cond b (is_own p t.sub s.topic && ((sent_item rules p time s).0.part == t.part)) true) h.0)
+      (ap (λ b. cond b (is_own p t.sub s.topic && ((sent_item rules p time s).0.part == t.part)) true) h.0.0)
       ∙ ap (λ l. sent_item rules p time s ∷ l) (sends_kept time xs h.1)
 
   writes_kept : (time : ℕ) (ws : List Written) → OfSub rules p t.sub ws → filter (is_sent p t) (map (written_item t.part time) ws) ≡ map (written_item t.part time) ws

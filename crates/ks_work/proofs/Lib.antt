@@ -1,3 +1,4 @@
-mod Writes
-mod Networks
-mod Kept
+pub mod Writes
+pub mod Networks
+pub mod Kept
+pub mod Placing

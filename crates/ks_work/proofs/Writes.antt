@@ -18,6 +18,7 @@ use Rattle.ks_query.specs.Aggregates.{table_parts}
 use Rattle.ks_machine.specs.Messages.{Stored, Subscription, Message, Store, Rules, same_bool, same_option, same_agg, same_stored}
 use Rattle.ks_machine.specs.Messages.Stored.{OfRow, OfAgg}
 use Rattle.ks_machine.specs.Messages.Message.{Asked, Kept}
+use Rattle.ks_machine.specs.Bytes.{key_bytes}
 use Rattle.ks_machine.specs.Foreign.{subscriptions, answer_all}
 use Rattle.ks_machine.specs.Windowed.{count_item}
 use Rattle.ks_machine.specs.Step.{Arrival, Sent, Written, Values, row_in, changed, arrived, step_key, sends_at, join_sends, regroup, keyed_to, send_deltas, send_subscriptions, send_responses, answer_one, write_all, value_changes, counted_at, hash_changes, changes_at, over_nodes, items_from, item_keyed, olds_at, news_at}
@@ -41,14 +42,14 @@ option_itself : (w : Option Stored) → same_option same_stored w w ≡ true
 option_itself None = refl
 option_itself (Some w) = stored_itself w
 
-nothing_changes : (key : Option Key) (w : Option Stored) → value_changes key w w ≡ []
+pub nothing_changes : (key : Option Key) (w : Option Stored) → value_changes key w w ≡ []
 nothing_changes None w = refl
 nothing_changes (Some k) w = ap (λ b. cond b [] (Kept k w ∷ [])) (option_itself w)
 
--- ---- what is sent goes to no changelog
+-- ---- what is sent goes to no changelog, and by its key
 abbrev pub Through : List Sent → Type 0
 Through [] = Unit {0}
-Through (s ∷ xs) = (is_changelog s.topic ≡ false) × Through xs
+Through (s ∷ xs) = ((is_changelog s.topic ≡ false) × (key_bytes s.message ≡ Some s.key)) × Through xs
 
 Through-append : (xs ys : List Sent) → Through xs → Through ys → Through (xs ++ ys)
 Through-append [] ys a b = b
@@ -60,19 +61,19 @@ Through-cond false xs h = tt
 
 through_deltas : (n : ℕ) (ds : List (Key × Delta)) → Through (send_deltas n ds)
 through_deltas n [] = tt
-through_deltas n (d ∷ ds) = (refl, through_deltas n ds)
+through_deltas n (d ∷ ds) = ((refl, refl), through_deltas n ds)
 
 through_subscriptions : (n : ℕ) (k : Key) (ss : List (Key × Subscription)) → Through (send_subscriptions n k ss)
 through_subscriptions n k [] = tt
-through_subscriptions n k (s ∷ ss) = (refl, through_subscriptions n k ss)
+through_subscriptions n k (s ∷ ss) = ((refl, refl), through_subscriptions n k ss)
 
 through_responses : (n : ℕ) (rs : List (Key × Response)) → Through (send_responses n rs)
 through_responses n [] = tt
-through_responses n (r ∷ rs) = (refl, through_responses n rs)
+through_responses n (r ∷ rs) = ((refl, refl), through_responses n rs)
 
 through_keyed : (n : ℕ) (row : Row) (g : Option Key) → Through (keyed_to n row g)
 through_keyed n row None = tt
-through_keyed n row (Some g) = (refl, tt)
+through_keyed n row (Some g) = ((refl, refl), tt)
 
 through_regroup : (by : Option (List ℕ)) (n : ℕ) (x : Option StreamItem) → Through (regroup by n x)
 through_regroup by n None = tt
@@ -128,7 +129,7 @@ module _ (rules : Rules) (p : Plan) where
     abbrev items : ℕ → Option StreamItem
     items = items_from a (λ n. None) 0 p.kinds
 
-    owned : ItemsOwned rules p a (items_from a (λ n. None) 0 p.kinds)
+    pub owned : ItemsOwned rules p a (items_from a (λ n. None) 0 p.kinds)
     owned = items_owned rules p a (λ n. None) 0 p.kinds (λ c. inl refl) fits
 
     abbrev olds : Values
@@ -137,27 +138,27 @@ module _ (rules : Rules) (p : Plan) where
     abbrev news : Values
     news = news_at rules p a items olds (step_key a.item.message)
 
-    kept : (key : Option Key) (c : ℕ) → (news_at rules p a items (olds_at st key) key c ≡ olds_at st key c) ⊎ Owned rules p a.topic c
+    pub kept : (key : Option Key) (c : ℕ) → (news_at rules p a items (olds_at st key) key c ≡ olds_at st key c) ⊎ Owned rules p a.topic c
     kept None c = inl refl
     kept (Some k) c = values_owned rules p a items owned (olds_at st (Some k)) (olds_at st (Some k)) 0 p.kinds (λ c. inl refl) fits c
 
     of_sub : (n : ℕ) → Owned rules p a.topic n → sub_of p n ≡ sub
     of_sub n o = sym o.sub ∙ takes
 
-    values : (n : ℕ) → (value_changes (step_key a.item.message) (olds n) (news n) ≡ []) ⊎ (sub_of p n ≡ sub)
+    pub values : (n : ℕ) → (value_changes (step_key a.item.message) (olds n) (news n) ≡ []) ⊎ (sub_of p n ≡ sub)
     values n = ⊎_elim
         (λ (e : news n ≡ olds n). inl (ap (value_changes (step_key a.item.message) (olds n)) e ∙ nothing_changes (step_key a.item.message) (olds n)))
         (λ (o : Owned rules p a.topic n). inr (of_sub n o))
         (kept (step_key a.item.message) n)
 
     -- what comes at a topic that the subtopology takes, or doesn't
-    comes : {A : Type 0} (t : Topic) (f : Option Message → A) → (f (arrived a t) ≡ f None) ⊎ (taker p t ≡ sub)
+    pub comes : {A : Type 0} (t : Topic) (f : Option Message → A) → (f (arrived a t) ≡ f None) ⊎ (taker p t ≡ sub)
     comes t f = elim (same_topic a.topic t) as (λ b. same_topic a.topic t ≡ b → (f (cond b (Some a.item.message) None) ≡ f None) ⊎ (taker p t ≡ sub)) [
       | true ↦ λ b. inr (ap (taker p) (sym (topic-is a.topic t b)) ∙ takes)
       | false ↦ λ b. inl refl
     ] refl
 
-    counts : (n : ℕ) (k : Kind) → NodeFits p n k → ((counted_at a items st n k).changes ≡ []) ⊎ (sub_of p n ≡ sub)
+    pub counts : (n : ℕ) (k : Kind) → NodeFits p n k → ((counted_at a items st n k).changes ≡ []) ⊎ (sub_of p n ≡ sub)
     counts n (Windowed f by w true) fit = comes (Repartition n) (λ m. (count_item w (st.times n) (st.counts n) (item_keyed a.item.time m)).changes)
     counts n (Windowed f by w false) fit = ⊎_elim
         (λ (e : items f ≡ None). inl (ap (λ x. (count_item w (st.times n) (st.counts n) x).changes) e))

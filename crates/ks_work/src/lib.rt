@@ -3,6 +3,7 @@
 #![tactic(auto)]
 
 ghost use Rattle.ks_work.specs.Work.{WorksAreNetworks, NothingIsHeldBack};
+ghost use Rattle.ks_work.specs.Placing.{DecidedStand};
 
 /// The tasks of every topology make a network: each topic has one reader, no changelog is an input or belongs to two
 /// subtopologies, nobody writes into another task's changelog, and a changelog tells each change of its store.
@@ -14,4 +15,10 @@ pub fn works_are_networks()
 /// changelog would be held back changes nothing.
 pub fn nothing_is_held_back()
     ensures { NothingIsHeldBack }
+{}
+
+/// In every journal of a well-formed topology that is legal and faithful, and whose produced records stand at the partitions of
+/// their keys, each decided internal record has a key, and each table's key stands only in the task of its partition.
+pub fn decided_stand()
+    ensures { DecidedStand }
 {}
