@@ -409,3 +409,14 @@ stands m (suc i) (y ∷ ys) k e = inr (omega arith, subst (λ n. Stands_at n k (
 
 pub node_stands : (p : Plan) (n : ℕ) (k : Kind) → slice_get p.kinds n ≡ Some k → Stands_at n k 0 p.kinds
 node_stands p n k e = subst (λ m. Stands_at m k 0 p.kinds) (omega arith) (stands 0 n p.kinds k e)
+
+pub stands_after : (m : ℕ) (xs : List Kind) (k : Kind) (ys : List Kind) → Stands_at (m + length xs) k m (xs ++ k ∷ ys)
+stands_after m [] k ys = inl (omega arith, refl)
+stands_after m (x ∷ xs) k ys = inr (omega arith, subst (λ n. Stands_at n k (suc m) (xs ++ k ∷ ys)) (omega arith) (stands_after (suc m) xs k ys))
+
+-- a node's inputs are nodes of the plan
+pub stands_within : (m : ℕ) (ks : List Kind) (a : ℕ) (k : Kind) → Stands_at a k m ks → {c : ℕ} → c < a → c < m + length ks
+stands_within m [] a k s lt = absurd s
+stands_within m (x ∷ xs) a k s lt = ⊎_elim
+    (λ (e : (m ≡ a) × (x ≡ k)). let is : m ≡ a = e.0 in omega arith)
+    (λ (e : (m < a) × Stands_at a k (suc m) xs). let rest = stands_within (suc m) xs a k e.1 lt in omega arith) s

@@ -18,7 +18,9 @@ pub mod Received
 pub mod SentGroups
 pub mod AtRest
 pub mod GroupsRest
-pub mod PlainRest
 pub mod StreamGroups
 pub mod StreamsDirect
 pub mod StreamsWhole
+pub mod ItemsRest
+pub mod StreamsRest
+pub mod PlainRest

@@ -11,7 +11,8 @@ use Rattle.ks_machine.specs.Rest.{IsDrained}
 use Rattle.ks_rest.specs.AtRest.{IsQuery, made_plainly, plain_nodes, IsPlain}
 use Rattle.ks_rest.specs.States.{state_of}
 use Rattle.ks_rest.proofs.AtRest.{everywhere, source_is_query, filter_is_query, map_is_query, join_is_query}
-use Rattle.ks_rest.proofs.Fits.{Fits, NodeFits, EachFits, each_at}
+use Rattle.ks_rest.proofs.Fits.{Fits, NodeFits, EachFits, each_at, stands_after, stands_within}
+use Rattle.ks_rest.proofs.StreamsRest.{stream_rests}
 use Rattle.ks_rest.proofs.GroupsRest.{group_rests}
 use Rattle.ks_rest.proofs.Mixed.{Stands_at}
 
@@ -35,10 +36,6 @@ grown_length bs (k ∷ ks) = omega (arith, grown_length (grow bs k) ks, length-a
 flag_stays : (bs : List Bool) (ks : List Kind) (n : ℕ) → n < length bs → get_or (fold grow bs ks) n false ≡ get_or bs n false
 flag_stays bs [] n lt = refl
 flag_stays bs (k ∷ ks) n lt = flag_stays (grow bs k) ks n (omega (arith, length-append bs (made_plainly bs k ∷ []))) ∙ flag_before bs _ n lt
-
-stands_after : (m : ℕ) (xs : List Kind) (k : Kind) (ys : List Kind) → Stands_at (m + length xs) k m (xs ++ k ∷ ys)
-stands_after m [] k ys = inl (omega arith, refl)
-stands_after m (x ∷ xs) k ys = inr (omega arith, subst (λ n. Stands_at n k (suc m) (xs ++ k ∷ ys)) (omega arith) (stands_after (suc m) xs k ys))
 
 present : (bs : List Bool) (n : ℕ) → get_or bs n false ≡ true → n < length bs
 present [] n e = cc
@@ -65,7 +62,10 @@ module _ (rules : Rules) (p : Plan) (fits : Fits p) (records : List Input) (sche
   node_rests bs (StreamFilter g test) s f h e = cc
   node_rests bs (StreamMap g set) s f h e = cc
   node_rests bs (KeySelected g k) s f h e = cc
-  node_rests bs (StreamAggregate g by field through) s f h e = cc
+  node_rests bs (StreamAggregate g by field through) s f h e =
+      let before : g < length bs = f.0 in
+      let within : g < 0 + length p.kinds = stands_within 0 p.kinds (length bs) (StreamAggregate g by field through) s before in
+      everywhere rules p fits records schedule (length bs) (λ k. stream_rests rules p fits records schedule (length bs) g by field through s (omega arith) before drained k)
   node_rests bs (Windowed g by w through) s f h e = cc
   node_rests bs (ForeignKeyJoin l r fk kind set) s f h e = cc
 

@@ -64,7 +64,7 @@ module _ (g : Key) (w : Row → ℕ) where
   item_share by None = 0
   item_share by (Some x) = group_share x.row (group_key by x)
 
-  items_share : (by : Option (List ℕ)) (xs : List StreamItem) → sum_map pair_share (item_rows (grouped by xs)) ≡ sum_map (λ x. item_share by (Some x)) xs
+  pub items_share : (by : Option (List ℕ)) (xs : List StreamItem) → sum_map pair_share (item_rows (grouped by xs)) ≡ sum_map (λ x. item_share by (Some x)) xs
   items_share by [] = refl
   items_share by (x ∷ xs) = one (group_key by x) (items_share by xs)
     where

@@ -46,7 +46,7 @@ module _ (rules : Rules) (p : Plan) (fits : Fits p) (records : List Input) (sche
   follows = Follows-run (machine rules p) (names rules p) (inputs_of rules p records) schedule
 
   -- the query's group over what was passed on
-  passed_counted : (by field : Option (List ℕ)) → fin.get (fold (add_to {R = by_bytes} field) fin.empty (item_rows (grouped by (passed_on p f st.taken)))) g
+  pub passed_counted : (by field : Option (List ℕ)) → fin.get (fold (add_to {R = by_bytes} field) fin.empty (item_rows (grouped by (passed_on p f st.taken)))) g
       ≡ counted (sum_map (λ t. item_share g one_each by (item_of_step p f t)) st.taken) (sum_map (λ t. item_share g (amount_each field) by (item_of_step p f t)) st.taken)
   passed_counted by field =
       let a = passed_share g one_each p by f st.taken in

@@ -4,7 +4,7 @@ use Rattle.ks_row.specs.declared.record.TaskId.{TaskId}
 use Rattle.ks_row.specs.Parts.{same_task}
 use Rattle.ks_topo.specs.Drafts.{DraftView}
 use Rattle.ks_topo.specs.Plan.{Plan, Kind, plan_of}
-use Rattle.ks_topo.specs.Plan.Kind.{TableSource, TableFilter, TableMap, KeyJoin, TableAggregate}
+use Rattle.ks_topo.specs.Plan.Kind.{TableSource, TableFilter, TableMap, KeyJoin, TableAggregate, StreamAggregate}
 use Rattle.ks_map.specs.FinMap as map
 use Rattle.ks_query.specs.Streams.{Key, Input}
 use Rattle.ks_query.specs.Query.{query}
@@ -17,13 +17,15 @@ use Rattle.ks_rest.specs.States.{State, state_of, row_at, home_task}
 abbrev pub IsQuery : Rules → Plan → List Input → State → ℕ → Type 0
 IsQuery rules p records st n = (u : TaskId) (k : Key) → row_at st u n k ≡ cond (same_task u (home_task rules p n k)) (map.get ((query p records).tables n) k) None
 
--- ---- tables that are made of source tables by filters, maps, joins on keys, counts and sums of tables alone
+-- ---- tables that are made of source tables, and of counts and sums of streams, by filters, maps, joins on keys, counts and sums
+-- of tables alone: all tables but those below a join on a foreign key
 abbrev pub made_plainly : List Bool → Kind → Bool
 made_plainly bs (TableSource t) = true
 made_plainly bs (TableFilter f test) = get_or bs f false
 made_plainly bs (TableMap f set) = get_or bs f false
 made_plainly bs (KeyJoin l r kind set) = get_or bs l false && get_or bs r false
 made_plainly bs (TableAggregate f by field) = get_or bs f false
+made_plainly bs (StreamAggregate f by field through) = true
 made_plainly bs k = false
 
 abbrev pub plain_nodes : List Kind → List Bool
