@@ -1,0 +1,158 @@
+//! What an item changes in the store of a windowed count.
+ghost use Rattle.std.specs.Prelude.{◌≡◌, ◌≤◌, ◌++◌, ◌∷◌, [], Some, None, IfOk, OnOk, option_map, nat_eq};
+ghost use Rattle.ks_map.specs.FinMap as fin;
+ghost use Rattle.ks_wire.specs.Spelling.{agg_bytes, window_key, time_key, time_bytes};
+ghost use Rattle.ks_query.specs.Grace.{is_open};
+ghost use Rattle.ks_query.specs.Aggregates.{stream_add};
+ghost use Rattle.ks_machine.specs.Messages.{same_option};
+ghost use Rattle.ks_machine.specs.Windowed.{greater};
+ghost use Rattle.ks_window.specs.Counting.{shape, time_in, count_in, kept_rec, counted};
+
+use crate::windows::starts;
+use ks_row::{Blob, Key, Rec};
+use ks_store::KvStore;
+use ks_wire::{Agg, read_agg, read_time, write_agg, write_window_key};
+use std::alloc::{AllocError, Global};
+
+/// Windows of a size, one at each multiple of the advance, that take items until the grace period is over. All in milliseconds.
+#[derive(Clone, Copy, PartialEq, Eq, Debug)]
+pub struct Window {
+    pub size: u64,
+    pub advance: u64,
+    pub grace: u64,
+}
+
+// Where the store keeps the greatest timestamp.
+const TIME_KEY: [u8; 1] = [0x54];
+
+fn time_of<S: KvStore>(store: &S) -> Option<u64>
+    ensures { result ≡ time_in (S.contents store.now) }
+{
+    match store.get(&TIME_KEY) {
+        Some(bytes) => read_time(bytes),
+        None => None,
+    }
+}
+
+fn later_of(before: Option<u64>, t: u64) -> u64
+    ensures { result ≡ greater before t }
+{
+    match before {
+        Some(greatest) => greatest.max(t),
+        None => t,
+    }
+}
+
+fn is_kept(before: Option<u64>, now: u64) -> bool
+    ensures { result ≡ same_option nat_eq before (Some now) }
+{
+    match before {
+        Some(greatest) => greatest == now,
+        None => false,
+    }
+}
+
+fn is_taken(window: &Window, now: u64, start: u64) -> bool
+    ensures { result ≡ is_open (shape window.now) now start }
+{
+    u128::from(now) < u128::from(start) + u128::from(window.size) + u128::from(window.grace)
+}
+
+fn one_more(old: Option<Agg>) -> Agg
+    ensures { result ≡ stream_add None old [] }
+{
+    let agg = old.unwrap_or(Agg {
+        members: 0,
+        total: 0,
+    });
+    Agg {
+        members: agg.members.wrapping_add(1),
+        total: agg.total.wrapping_add(0),
+    }
+}
+
+/// Sets a value and tells the changelog.
+fn keep<S: KvStore>(
+    alloc: Global,
+    store: &mut S,
+    recs: &mut Vec<Rec>,
+    t: u64,
+    key: &[u8],
+    value: &[u8],
+) -> Result<(), AllocError>
+    ensures store { OnOk result (S.contents store.new ≡ fin.insert (S.contents store.old) key.now value.now) }
+    ensures recs { OnOk result (recs.new.items ≡ recs.old.items ++ kept_rec t key.now value.now ∷ []) }
+{
+    store.put(key, value)?;
+    recs.push(Rec {
+        key: Some(Blob::from_slice(alloc, key)?),
+        value: Some(Blob::from_slice(alloc, value)?),
+        ts: t,
+    })?;
+    Ok(())
+}
+
+fn keep_greatest<S: KvStore>(
+    alloc: Global,
+    store: &mut S,
+    recs: &mut Vec<Rec>,
+    t: u64,
+    now: u64,
+) -> Result<(), AllocError>
+    ensures store { OnOk result (S.contents store.new ≡ fin.insert (S.contents store.old) time_key (time_bytes now)) }
+    ensures recs { OnOk result (recs.new.items ≡ recs.old.items ++ kept_rec t time_key (time_bytes now) ∷ []) }
+{
+    keep(alloc, store, recs, t, &TIME_KEY, &now.to_be_bytes())
+}
+
+fn count_window<S: KvStore>(
+    alloc: Global,
+    store: &mut S,
+    recs: &mut Vec<Rec>,
+    t: u64,
+    key: &Key,
+    start: u64,
+) -> Result<(), AllocError>
+    ensures store { OnOk result (S.contents store.new ≡ fin.insert (S.contents store.old) (window_key key.now start) (agg_bytes (stream_add None (count_in (S.contents store.old) key.now start) []))) }
+    ensures recs { OnOk result (recs.new.items ≡ recs.old.items ++ kept_rec t (window_key key.now start) (agg_bytes (stream_add None (count_in (S.contents store.old) key.now start) [])) ∷ []) }
+{
+    let place = write_window_key(alloc, key, start)?;
+    let old = match store.get(place.as_slice()) {
+        Some(bytes) => read_agg(bytes),
+        None => None,
+    };
+    let value = write_agg(alloc, &one_more(old))?;
+    keep(alloc, store, recs, t, place.as_slice(), value.as_slice())
+}
+
+/// Takes an item with a key and a timestamp: how many of its windows were over and dropped it, and the changelog records, the
+/// greatest timestamp first where it changed, then the windows that count it, rising. After want of memory the store may hold a
+/// part of this.
+pub fn apply<S: KvStore>(
+    alloc: Global,
+    store: &mut S,
+    key: &Key,
+    t: u64,
+    window: &Window,
+) -> Result<(u64, Vec<Rec>), AllocError>
+    requires some { 1 ≤ window.now.advance }
+    requires most { window.now.advance ≤ window.now.size }
+    ensures { IfOk result (λ r. record { store = S.contents store.new; late = r.0; recs = r.1.items } ≡ counted (shape window.now) (S.contents store.old) key.now t) }
+{
+    let before = time_of(store);
+    let now = later_of(before, t);
+    let mut recs = Vec::new(alloc);
+    if !is_kept(before, now) {
+        keep_greatest(alloc, store, &mut recs, t, now)?;
+    }
+    let all = starts(alloc, t, window.size, window.advance)?;
+    let mut late = 0;
+    for start in &all {
+        if is_taken(window, now, *start) {
+            count_window(alloc, store, &mut recs, t, key, *start)?;
+        } else {
+            late += 1;
+        }
+    }
+    Ok((late, recs))
+}

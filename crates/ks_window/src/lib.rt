@@ -1,0 +1,9 @@
+//! Windowed counts: the windows of a timestamp, and what an item changes in the store (Kafka Streams developer guide,
+//! "Windowing": hopping windows with a grace period).
+#![tactic(auto)]
+
+mod counting;
+mod windows;
+
+pub use counting::{Window, apply};
+pub use windows::{first_start, starts};
