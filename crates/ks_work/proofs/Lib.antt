@@ -2,3 +2,4 @@ pub mod Writes
 pub mod Networks
 pub mod Kept
 pub mod Placing
+pub mod Labels

@@ -2,7 +2,10 @@
 use Rattle.std.proofs.Common.{◌≡◌, ℕ, suc, Bool, true, false, cond, List, [], ◌∷◌, ◌++◌, Option, Some, None, refl, sym, ap, ap₂, subst, ◌∙◌, ◌⊎◌, inl, inr, ⊎_elim}
 use Rattle.std.specs.Ordering.{is_eq}
 use Rattle.std.specs.Cmp.{tied_itself, int_cmp_total}
+use Rattle.std.specs.Cmp.Lexicographic.{nat_list_cmp_total}
 use Rattle.std.proofs.lemmas.Bool.{and_from}
+use Rattle.ks_row.specs.declared.row.Field.{Field}
+use Rattle.ks_row.specs.declared.row.Field.TheVariants.{Int, Text}
 use Rattle.ks_wire.specs.declared.values.Agg.{Agg}
 use Rattle.ks_wire.specs.declared.values.Delta.{Delta}
 use Rattle.ks_wire.specs.declared.values.Response.{Response}
@@ -11,11 +14,11 @@ use Rattle.ks_topo.specs.declared.node.Topic.TheVariants.{Repartition, Subscript
 use Rattle.ks_topo.specs.Plan.{Plan, Kind}
 use Rattle.ks_topo.specs.Plan.Kind.{StreamSource, TableSource, StreamFilter, TableFilter, StreamMap, TableMap, KeySelected, StreamAggregate, TableAggregate, Windowed, KeyJoin, ForeignKeyJoin}
 use Rattle.ks_topo.specs.Layout.{same_topic, reads, sub_of}
-use Rattle.ks_expr.specs.Eval.{Row}
+use Rattle.ks_expr.specs.Eval.{Row, same_field}
 use Rattle.ks_map.specs.FinMap as fin
 use Rattle.ks_query.specs.Streams.{Key, StreamItem, group_key}
 use Rattle.ks_query.specs.Aggregates.{table_parts}
-use Rattle.ks_machine.specs.Messages.{Stored, Subscription, Message, Store, Rules, same_bool, same_option, same_agg, same_stored}
+use Rattle.ks_machine.specs.Messages.{same_row, Stored, Subscription, Message, Store, Rules, same_bool, same_option, same_agg, same_stored}
 use Rattle.ks_machine.specs.Messages.Stored.{OfRow, OfAgg}
 use Rattle.ks_machine.specs.Messages.Message.{Asked, Kept}
 use Rattle.ks_machine.specs.Bytes.{key_bytes}
@@ -24,9 +27,17 @@ use Rattle.ks_machine.specs.Windowed.{count_item}
 use Rattle.ks_machine.specs.Step.{Arrival, Sent, Written, Values, row_in, changed, arrived, step_key, sends_at, join_sends, regroup, keyed_to, send_deltas, send_subscriptions, send_responses, answer_one, write_all, value_changes, counted_at, hash_changes, changes_at, over_nodes, items_from, item_keyed, olds_at, news_at}
 use Rattle.ks_machine.specs.Tasks.{taker, is_changelog}
 use Rattle.ks_rest.proofs.Fits.{Fits, NodeFits, EachFits}
-use Rattle.ks_rest.proofs.Placed.{topic-is, row_itself, Owned, ItemsOwned, items_owned, values_owned}
+use Rattle.ks_rest.proofs.Placed.{topic-is, Owned, ItemsOwned, items_owned, values_owned}
 
 -- ---- what stays writes nothing
+field_itself : (f : Field) → same_field f f ≡ true
+field_itself (Int z) = ap is_eq (tied_itself int_cmp_total z)
+field_itself (Text t) = ap is_eq (tied_itself nat_list_cmp_total t)
+
+row_itself : (r : Row) → same_row r r ≡ true
+row_itself [] = refl
+row_itself (m ∷ ms) = and_from _ _ (and_from _ _ (ap is_eq (tied_itself nat_list_cmp_total m.0)) (field_itself m.1)) (row_itself ms)
+
 agg_itself : (a : Agg) → same_agg a a ≡ true
 agg_itself a = and_from _ _ (ap is_eq (tied_itself int_cmp_total a.members)) (ap is_eq (tied_itself int_cmp_total a.total))
 
