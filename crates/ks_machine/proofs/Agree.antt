@@ -1,5 +1,5 @@
 -- A table that is read from the bytes after a step is the table after the decoded step.
-use Rattle.std.proofs.Common.{◌≡◌, ℕ, ◌+◌, true, false, cond, nat_eq, List, [], ◌∷◌, ◌++◌, map, get_or, Option, Some, None, refl, sym, ap, ap₂, subst, ◌∙◌, arith, append-nil, zero, suc}
+use Rattle.std.proofs.Common.{◌≡◌, ℕ, true, false, cond, nat_eq, List, [], ◌∷◌, ◌++◌, map, get_or, Option, Some, None, refl, sym, ap, subst, ◌∙◌, append-nil, zero, suc}
 use Rattle.std.specs.Prelude.{slice_get}
 use Rattle.std.proofs.lemmas.Bool.{and_from}
 use Rattle.std.specs.List.{filter}
@@ -29,7 +29,7 @@ use Rattle.ks_machine.specs.Bytes.{ByteStores, byte_step, step_at, step_read, ou
 use Rattle.ks_machine.specs.Laws.{IsTakenBy, IsReadAgain}
 use Rattle.ks_machine.proofs.Numbers.{place-is, kept_at}
 use Rattle.ks_machine.proofs.Pairs.{write-pair}
-use Rattle.ks_machine.proofs.Picked.{items_at, items_at-append, records_here, none_sent, nodes_logged, timed}
+use Rattle.ks_machine.proofs.Picked.{items_at, items_at-append, records_here, none_sent, own_logged, timed}
 use Rattle.ks_machine.proofs.Keys.{key_read}
 use Rattle.ks_machine.proofs.Same.{stored-is, option-is}
 
@@ -69,13 +69,13 @@ module _ (kind : Kind) (m : ByteStore) where
       ] refl
 
 module _ (rules : Rules) (p : Plan) (t : TaskId) (stores : ByteStores) (q : PartId) (r : Rec) (topic : Topic) (message : Message) (taken : IsTakenBy p t q r topic message) where
-  abbrev st : Store
+  abbrev pub st : Store
   st = store_from p t.sub stores
 
-  abbrev a : Arrival
+  abbrev pub a : Arrival
   a = record { topic = topic; item = record { message = message; time = r.ts } }
 
-  abbrev decoded : Outcome Place Store Item
+  abbrev pub decoded : Outcome Place Store Item
   decoded = step rules p t st (record { topic = topic; part = q.part }) (record { message = message; time = r.ts })
 
   pub is_decoded : byte_step rules p t stores q r ≡ outcome_of p t stores decoded
@@ -83,41 +83,48 @@ module _ (rules : Rules) (p : Plan) (t : TaskId) (stores : ByteStores) (q : Part
       ∙ ap (λ b. cond b (step_read rules p t stores q topic r.ts (message_in p topic r)) (nothing_made stores)) taken.reader
       ∙ ap (step_read rules p t stores q topic r.ts) taken.spelled
 
+  abbrev pub items : ℕ → Option StreamItem
+  items = items_from a (λ m. None) 0 p.kinds
+
+  abbrev pub key : Option Key
+  key = step_key message
+
+  abbrev pub olds : Values
+  olds = olds_at st key
+
+  abbrev pub news : Values
+  news = news_at rules p a items olds key
+
+  -- of a changelog of the task's own: its number is its alone
+  pub at_own : (l : Topic) → is_own_number p t.sub (number_of p l) ≡ true → is_changelog l ≡ true → (topic_at p (number_of p l) ≡ Some l) × (is_own p t.sub l ≡ true)
+  at_own l owned log =
+      let k = kept_at p t.sub (number_of p l) owned in
+      let found : topic_at p (number_of p l) ≡ Some k.topic = ap (topic_at p) k.is ∙ k.holds.0.0 in
+      let same : k.topic ≡ l = place-is (topics_of p) l k.topic found in
+      (found ∙ ap Some same, and_from (is_changelog l) (nat_eq (reads p l) t.sub) log (subst (λ x. nat_eq (reads p x) t.sub ≡ true) same k.holds.1))
+
+  abbrev pub changes : List (Place × Item)
+  changes = map (written_item t.part r.ts) (over_nodes (changes_at a items st olds news) 0 p.kinds)
+
+  -- its store becomes what the step writes for it
+  pub store_is : (l : Topic) → is_own_number p t.sub (number_of p l) ≡ true → is_changelog l ≡ true →
+      (byte_step rules p t stores q r).store (number_of p l) ≡ keep_all (stores (number_of p l)) (map rec_of (items_at l t.part changes))
+  store_is l owned log =
+      let sends = map (sent_item rules p r.ts) (over_nodes (sends_at rules a items st olds news) 0 p.kinds) in
+      let at = at_own l owned log in
+      ap (λ (o : Outcome PartId ByteStores Rec). o.store (number_of p l)) is_decoded
+      ∙ ap (λ c. cond c (keep_all (stores (number_of p l)) (records_at (record { topic = number_of p l; part = t.part }) (spelled p (filter (is_sent p t) decoded.made)))) (stores (number_of p l))) owned
+      ∙ ap (keep_all (stores (number_of p l))) (records_here p t l at.1 at.0 (sends ++ changes)
+      ∙ ap (map rec_of) (items_at-append l t.part sends changes ∙ ap (λ x. x ++ items_at l t.part changes) (none_sent rules a items st olds news l t.part r.ts p p.kinds log)))
+
   module _ (n : ℕ) (kind : Kind) (node : slice_get p.kinds n ≡ Some kind) (plain : is_windowed kind ≡ false) (owned : is_own_number p t.sub (number_of p (Changelog n)) ≡ true) where
     abbrev number : ℕ
     number = number_of p (Changelog n)
 
-    at_number : (topic_at p number ≡ Some (Changelog n)) × (is_own p t.sub (Changelog n) ≡ true)
-    at_number =
-        let k = kept_at p t.sub number owned in
-        let found : topic_at p number ≡ Some k.topic = ap (topic_at p) k.is ∙ k.holds.0.0 in
-        let same : k.topic ≡ Changelog n = place-is (topics_of p) (Changelog n) k.topic found in
-        (found ∙ ap Some same, and_from (is_changelog (Changelog n)) (nat_eq (reads p (Changelog n)) t.sub) refl (subst (λ x. nat_eq (reads p x) t.sub ≡ true) same k.holds.1))
-
-    abbrev items : ℕ → Option StreamItem
-    items = items_from a (λ m. None) 0 p.kinds
-
-    abbrev key : Option Key
-    key = step_key message
-
-    abbrev olds : Values
-    olds = olds_at st key
-
-    abbrev news : Values
-    news = news_at rules p a items olds key
-
-    written : records_at (record { topic = number; part = t.part }) (spelled p (filter (is_sent p t) decoded.made)) ≡ map rec_of (map (λ x. record { message = x; time = r.ts }) (value_changes key (olds n) (news n)))
-    written =
-        let sends = map (sent_item rules p r.ts) (over_nodes (sends_at rules a items st olds news) 0 p.kinds) in
-        let changes = map (written_item t.part r.ts) (over_nodes (changes_at a items st olds news) 0 p.kinds) in
-        let logged = nodes_logged rules a items st olds news 0 n t.part p.kinds kind node in
-        let same : 0 + n ≡ n = omega arith in
-        let own = subst (λ i. items_at i t.part changes ≡ map (timed rules a items st olds news r.ts) (value_changes key (olds i) (news i) ++ (counted_at a items st i kind).changes)) same logged in
-        let none = none_counted a items st n kind plain in
-        records_here p t n at_number.1 at_number.0 (sends ++ changes)
-        ∙ ap (map rec_of) (items_at-append n t.part sends changes ∙ ap₂ (λ x y. x ++ y) (none_sent rules a items st olds news n t.part r.ts p p.kinds) own
-        ∙ ap (λ l. map (timed rules a items st olds news r.ts) (value_changes key (olds n) (news n) ++ l)) none
-        ∙ ap (map (timed rules a items st olds news r.ts)) (append-nil (value_changes key (olds n) (news n))))
+    own_items : items_at (Changelog n) t.part changes ≡ map (λ x. record { message = x; time = r.ts }) (value_changes key (olds n) (news n))
+    own_items = own_logged rules a items st olds news n t.part p.kinds kind node
+        ∙ ap (λ l. map (timed rules a items st olds news r.ts) (value_changes key (olds n) (news n) ++ l)) (none_counted a items st n kind plain)
+        ∙ ap (map (timed rules a items st olds news r.ts)) (append-nil (value_changes key (olds n) (news n)))
 
     kind_here : kind_at p n ≡ kind
     kind_here = kind-is p.kinds n kind node
@@ -126,12 +133,7 @@ module _ (rules : Rules) (p : Plan) (t : TaskId) (stores : ByteStores) (q : Part
     table_is : (b : ByteStores) → table_from p t.sub b n ≡ map_from by_bytes key_from (stored_from kind) (fin.entries (b number))
     table_is b = ap (λ k. cond (is_windowed k) fin.empty (map_from by_bytes key_from (stored_from k) (pairs_of p t.sub b (Changelog n)))) kind_here
         ∙ ap (λ c. cond c fin.empty (map_from by_bytes key_from (stored_from kind) (pairs_of p t.sub b (Changelog n)))) plain
-        ∙ ap (λ c. map_from by_bytes key_from (stored_from kind) (cond c (fin.entries (b number)) [])) at_number.1
-
-    store_is : (byte_step rules p t stores q r).store number ≡ keep_all (stores number) (map rec_of (map (λ x. record { message = x; time = r.ts }) (value_changes key (olds n) (news n))))
-    store_is = ap (λ (o : Outcome PartId ByteStores Rec). o.store number) is_decoded
-        ∙ ap (λ c. cond c (keep_all (stores number) (records_at (record { topic = number; part = t.part }) (spelled p (filter (is_sent p t) decoded.made)))) (stores number)) owned
-        ∙ ap (keep_all (stores number)) written
+        ∙ ap (λ c. map_from by_bytes key_from (stored_from kind) (cond c (fin.entries (b number)) [])) (at_own (Changelog n) owned refl).1
 
     -- by the step's key
     by_key : (k : Option Key) → key ≡ k → ((c : Key) → k ≡ Some c → (key_from c ≡ Some c) × IsReadAgain kind (news n)) →
@@ -147,7 +149,7 @@ module _ (rules : Rules) (p : Plan) (t : TaskId) (stores : ByteStores) (q : Part
 
     pub tables_agree : ((c : Key) → key ≡ Some c → (key_from c ≡ Some c) × IsReadAgain kind (news n)) → table_from p t.sub (byte_step rules p t stores q r).store n ≡ decoded.store.tables n
     tables_agree fits = table_is (byte_step rules p t stores q r).store
-        ∙ ap (λ (b : ByteStore). map_from by_bytes key_from (stored_from kind) (fin.entries b)) store_is
+        ∙ ap (λ (b : ByteStore). map_from by_bytes key_from (stored_from kind) (fin.entries b)) (store_is (Changelog n) owned refl ∙ ap (λ xs. keep_all (stores number) (map rec_of xs)) own_items)
         ∙ by_key key refl fits
 
     after_key : (k : Option Key) → key ≡ k → (c : Key) → k ≡ Some c → fin.get (tables_after st news k n) c ≡ news n

@@ -5,6 +5,8 @@ pub mod Alone
 pub mod Pairs
 pub mod Picked
 pub mod Same
+pub mod Shown
 pub mod Keys
 pub mod Agree
+pub mod Hashes
 pub mod Examples

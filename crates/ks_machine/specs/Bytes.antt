@@ -122,7 +122,7 @@ stored_from _ bytes = option_map OfRow (row_from bytes)
 -- the hashes at a foreign key: of the pairs with that key, by left key
 abbrev pub left_at : Key → Option (Key × Key) → Option Key
 left_at b None = None
-left_at b (Some k) = cond (same_bytes k.0 b) (Some k.1) None
+left_at b (Some k) = cond (same_bytes b k.0) (Some k.1) None
 
 -- a task's stores as bytes, by the numbers of its changelogs
 abbrev pub ByteStores : Type 0

@@ -1,14 +1,17 @@
 -- Laws over every run of the machine of every plan.
-use Rattle.std.specs.Prelude.{◌≡◌, ℕ, ◌≤◌, length, List, [], Option, Some, None, true, false, nat_eq, slice_get}
+use Rattle.std.specs.Prelude.{◌≡◌, ℕ, ◌≤◌, length, List, [], Option, Some, None, true, false, nat_eq, slice_get, ◌∷◌, ◌<◌, ◌^◌, IfSome}
+use Rattle.ks_row.specs.Spelling.{IsBytes}
+use Rattle.ks_wire.specs.Spelling.{FitsKeys}
+use Rattle.ks_machine.specs.Messages.Message.{Asked}
 use Rattle.ks_row.specs.declared.record.Rec.{Rec}
 use Rattle.ks_row.specs.declared.record.PartId.{PartId}
 use Rattle.ks_row.specs.Parts.{same_task}
 use Rattle.ks_topo.specs.Infos.{input_numbers}
-use Rattle.ks_machine.specs.Bytes.{ByteStores, byte_step, is_own_number, has_number, reader_number, keep_all, records_at, message_in, stored_from, stored_bytes, store_from, table_from}
+use Rattle.ks_machine.specs.Bytes.{ByteStores, byte_step, is_own_number, has_number, reader_number, keep_all, records_at, message_in, stored_from, stored_bytes, store_from, table_from, hashes_from}
 use Rattle.ks_row.specs.declared.record.TaskId.{TaskId}
 use Rattle.ks_topo.specs.Plan.{Plan, Kind, is_windowed}
 use Rattle.ks_topo.specs.declared.node.Topic.{Topic}
-use Rattle.ks_topo.specs.declared.node.Topic.TheVariants.{Changelog}
+use Rattle.ks_topo.specs.declared.node.Topic.TheVariants.{Changelog, HashChangelog}
 use Rattle.ks_topo.specs.Layout.{sub_of, topic_at, reads, number_of}
 use Rattle.ks_map.specs.FinMap as fin
 use Rattle.ks_query.specs.Streams.{Key}
@@ -77,3 +80,21 @@ TablesAgree = (rules : Rules) (p : Plan) (t : TaskId) (stores : ByteStores) (q :
     let decoded = step rules p t (store_from p t.sub stores) (record { topic = topic; part = q.part }) (record { message = message; time = r.ts }) in
     ((k : Key) → step_key message ≡ Some k → IsReadAgain kind (fin.get (decoded.store.tables n) k)) →
     table_from p t.sub (byte_step rules p t stores q r).store n ≡ decoded.store.tables n
+
+-- the keys of a store are bytes
+abbrev pub AreBytes : List (List ℕ × List ℕ) → Type 0
+AreBytes [] = Unit {0}
+AreBytes (e ∷ es) = IsBytes e.0 × AreBytes es
+
+-- keys and hash of a subscription are within their bounds
+abbrev pub FitsAsked : Message → Type 0
+FitsAsked (Asked b p s) = FitsKeys (b, p) × IfSome s.hash (λ h. h < 2 ^ 128)
+FitsAsked _ = Unit {0}
+
+-- and so with subscription stores
+abbrev pub HashesAgree : Type 0
+HashesAgree = (rules : Rules) (p : Plan) (t : TaskId) (stores : ByteStores) (q : PartId) (r : Rec) (topic : Topic) (message : Message) → IsTakenBy p t q r topic message →
+    (n : ℕ) (kind : Kind) → slice_get p.kinds n ≡ Some kind → is_own_number p t.sub (number_of p (HashChangelog n)) ≡ true →
+    AreBytes (fin.entries (stores (number_of p (HashChangelog n)))) → FitsAsked message → (b : Key) →
+    hashes_from p t.sub (byte_step rules p t stores q r).store n b
+    ≡ (step rules p t (store_from p t.sub stores) (record { topic = topic; part = q.part }) (record { message = message; time = r.ts })).store.hashes n b
