@@ -18,9 +18,12 @@ pub mod Received
 pub mod SentGroups
 pub mod AtRest
 pub mod GroupsRest
+pub mod Passing
 pub mod StreamGroups
 pub mod StreamsDirect
 pub mod StreamsWhole
 pub mod ItemsRest
 pub mod StreamsRest
+pub mod WindowGroups
+pub mod WindowsRest
 pub mod PlainRest

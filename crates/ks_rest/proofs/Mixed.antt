@@ -183,7 +183,7 @@ module _ (rules : Rules) (p : Plan) where
   map-append f [] ys = refl
   map-append f (x ∷ xs) ys = ap (λ l. f x ∷ l) (map-append f xs ys)
 
-  unwritten : (q : Place) → is_changelog q.topic ≡ false → (part time : ℕ) (x : Arrival) (items : ℕ → Option StreamItem) (st : Store) (olds news : Values) (n : ℕ) (ks : List Kind) →
+  pub unwritten : (q : Place) → is_changelog q.topic ≡ false → (part time : ℕ) (x : Arrival) (items : ℕ → Option StreamItem) (st : Store) (olds news : Values) (n : ℕ) (ks : List Kind) →
       sent_to (machine rules p) q (map (written_item part time) (over_nodes (changes_at x items st olds news) n ks)) ≡ []
   unwritten q free part time x items st olds news n [] = refl
   unwritten q free part time x items st olds news n (k ∷ ks) =

@@ -5,3 +5,4 @@ pub mod Tables
 pub mod Groups
 pub mod AtRest
 pub mod Streams
+pub mod Windows
