@@ -3,3 +3,4 @@ pub mod Networks
 pub mod Kept
 pub mod Placing
 pub mod Labels
+pub mod Setups

@@ -222,7 +222,7 @@ module _ (rules : Rules) (p : Plan) where
   of_hashes part n st (Some _) = tt
 
   -- the kinds of the nodes from one on
-  abbrev AtPlace : ℕ → List Kind → Type 0
+  abbrev pub AtPlace : ℕ → List Kind → Type 0
   AtPlace n [] = Unit {0}
   AtPlace n (k ∷ ks) = (kind_at p n ≡ k) × AtPlace (suc n) ks
 
@@ -271,7 +271,7 @@ module _ (rules : Rules) (p : Plan) where
         (of_hashes part n st (arrived a (Subscriptions n))))
         (all_written (suc n) ks at.1)
 
-  at_places : (before ks : List Kind) → p.kinds ≡ before ++ ks → (n : ℕ) → n ≡ length before → AtPlace n ks
+  pub at_places : (before ks : List Kind) → p.kinds ≡ before ++ ks → (n : ℕ) → n ≡ length before → AtPlace n ks
   at_places before [] is n e = tt
   at_places before (k ∷ ks) is n e = (
     ap₂ (λ (l : List Kind) (i : ℕ). get_or l i no_kind) is e ∙ there before,

@@ -10,7 +10,7 @@ use Rattle.ks_machine.specs.Messages.{Place, Item, Store, Rules}
 use Rattle.ks_machine.specs.Tasks.{step, taker}
 use Rattle.ks_machine.specs.Bytes.{byte_step, reader_number, is_sent}
 use Rattle.ks_history.specs.Machine.{Plan as Work, IsNetwork}
-use Rattle.ks_history.specs.State.{Setup}
+use Rattle.ks_history.specs.State.{Setup, IsSetup}
 use Rattle.ks_rest.specs.WellFormed.{IsWellFormed}
 
 abbrev pub work_of : Rules → Plan → Work
@@ -34,3 +34,8 @@ WorksAreNetworks = (rules : Rules) (p : Plan) → IsNetwork (work_of rules p)
 abbrev pub NothingIsHeldBack : Type 0
 NothingIsHeldBack = (rules : Rules) (d : DraftView) → IsWellFormed d → let p = plan_of d in (t : TaskId) (st : Store) (q : Place) (x : Item) → taker p q.topic ≡ t.sub →
     filter (is_sent p t) (step rules p t st q x).made ≡ (step rules p t st q x).made
+
+-- a cluster of a well-formed topology can be made: no task stands twice, and each input and each changelog of a task has the task's
+-- partition
+abbrev pub SetupsAreMade : Type 0
+SetupsAreMade = (rules : Rules) (d : DraftView) → IsWellFormed d → IsSetup (setup_of rules (plan_of d))

@@ -2,7 +2,7 @@
 //! law.
 #![tactic(auto)]
 
-ghost use Rattle.ks_work.specs.Work.{WorksAreNetworks, NothingIsHeldBack};
+ghost use Rattle.ks_work.specs.Work.{WorksAreNetworks, NothingIsHeldBack, SetupsAreMade};
 ghost use Rattle.ks_work.specs.Placing.{DecidedStand};
 
 /// The tasks of every topology make a network: each topic has one reader, no changelog is an input or belongs to two
@@ -21,4 +21,10 @@ pub fn nothing_is_held_back()
 /// their keys, each decided internal record has a key, and each table's key stands only in the task of its partition.
 pub fn decided_stand()
     ensures { DecidedStand }
+{}
+
+/// A cluster of every well-formed topology can be made: no task stands twice, and each input and each changelog of a task has the
+/// task's partition.
+pub fn setups_are_made()
+    ensures { SetupsAreMade }
 {}
