@@ -34,8 +34,11 @@ has_name (m ∷ ms) n = same_bytes m n || has_name ms n
 abbrev pub names_of : List NodeView → List Name
 names_of ns = map (λ n. n.name) ns
 
+abbrev pub names_of_topics : List (Name × ℤ) → List Name
+names_of_topics ts = map (λ (x : Name × ℤ). x.0) ts
+
 abbrev pub topic_names : DraftView → List Name
-topic_names d = map (λ (x : Name × ℤ). x.0) d.topics
+topic_names d = names_of_topics d.topics
 
 -- a line for each name that is not known
 abbrev pub unknown_lines : List Name → List Name → List Line
@@ -88,23 +91,38 @@ wrong_kind _ i = false
 abbrev pub wiring_in : List Known → Name → Wiring
 wiring_in ks n = wiring_of (known_at ks n).kind
 
+abbrev pub sinks_among : List Known → Name → List Name → List Line
+sinks_among ks n is = map (λ i. (gives_windows (wiring_in ks i), SinkOnly n)) is
+
 abbrev pub sink_lines : List Known → NodeView → List Line
-sink_lines ks n = map (λ i. (gives_windows (wiring_in ks i), SinkOnly n.name)) (inputs_in n.op)
+sink_lines ks n = sinks_among ks n.name (inputs_in n.op)
+
+abbrev pub kinds_among : List Known → NodeView → List Name → List Line
+kinds_among ks n is = map (λ i. (wrong_kind n.op (wiring_in ks i), WrongKind n.name)) is
 
 abbrev pub kind_lines : List Known → NodeView → List Line
-kind_lines ks n = map (λ i. (wrong_kind n.op (wiring_in ks i), WrongKind n.name)) (inputs_in n.op)
+kind_lines ks n = kinds_among ks n (inputs_in n.op)
 
 -- ---- partitions
+-- the partition counts of the nodes are given
+abbrev pub sides_among : List ℕ → List Known → OpView → List Line
+sides_among parts ks (JoinOf l r kind s) = one_line (not (nat_eq (at parts (node_number ks l)) (at parts (node_number ks r)))) (NotCopartitioned l r)
+sides_among parts ks _ = []
+
+-- the partition count of these nodes' namesake
 abbrev pub parts_in : List ℕ → List Known → Name → ℕ
 parts_in counts ks n = at (node_parts counts (map (λ k. k.kind) ks)) (node_number ks n)
 
 abbrev pub side_lines : List ℕ → List Known → OpView → List Line
-side_lines counts ks (JoinOf l r kind s) = one_line (not (nat_eq (parts_in counts ks l) (parts_in counts ks r))) (NotCopartitioned l r)
-side_lines counts ks _ = []
+side_lines counts ks op = sides_among (node_parts counts (map (λ k. k.kind) ks)) ks op
 
 -- ---- windows
-abbrev pub most_time : ℤ
-most_time = pos 9007199254740992
+-- from 0 to the greatest time
+unfoldable pub is_time : ℤ → Bool
+is_time span = int_le (pos 0) span && int_le span (pos 9007199254740992)
+
+abbrev pub is_advance : ℤ → ℤ → Bool
+is_advance size advance = int_le (pos 1) advance && int_le advance size && int_le size (pos 1000 *ℤ advance)
 
 abbrev pub int_or : Option ℤ → ℤ → ℤ
 int_or None z = z
@@ -112,8 +130,7 @@ int_or (Some y) z = y
 
 -- 1 <= advance <= size <= 1000 * advance, grace >= 0, and none of them past the greatest time
 abbrev pub is_window : ℤ → ℤ → ℤ → Bool
-is_window size advance grace =
-    int_le (pos 1) advance && int_le advance size && int_le size most_time && int_le size (pos 1000 *ℤ advance) && int_le (pos 0) grace && int_le grace most_time
+is_window size advance grace = is_time size && is_time grace && is_advance size advance
 
 -- without an advance it is the size, without a grace a day
 abbrev pub window_lines : Name → OpView → List Line
@@ -121,36 +138,47 @@ window_lines n (WindowedOf f by size advance grace) = one_line (not (is_window s
 window_lines n _ = []
 
 -- ---- the table of a node after those before it
-abbrev pub node_table : DraftView → List NodeView → NodeView → List (List Line)
-node_table d before n =
-    let ks = known_from d.topics before in
+-- of an application, topics, and partition counts of the nodes before
+abbrev pub node_lines : Name → List (Name × ℤ) → List ℕ → List NodeView → NodeView → List (List Line)
+node_lines app ts parts before n =
+    let ks = known_from ts before in
     one_line (has_name (names_of before) n.name) (DuplicateName n.name)
     ∷ one_line (nat_lt 64 (set_length n.op)) (TooMany (codes "fields") 64)
-    ∷ unknown_lines (topic_names d) (topics_in n.op)
+    ∷ unknown_lines (names_of_topics ts) (topics_in n.op)
     ∷ unknown_lines (names_of before) (inputs_in n.op)
     ∷ taken_lines (sources_of before) (topics_in n.op)
     ∷ sink_lines ks n
     ∷ kind_lines ks n
-    ∷ side_lines (plan_of d).counts ks n.op
+    ∷ sides_among parts ks n.op
     ∷ window_lines n.name n.op
-    ∷ taken_lines (topic_names d) (internal_names d.app n.name (wiring_of (known_of d.topics ks n.op).0))
+    ∷ taken_lines (names_of_topics ts) (internal_names app n.name (wiring_of (known_of ts ks n.op).0))
     ∷ []
+
+-- the partition counts of these nodes
+abbrev pub parts_before : DraftView → List NodeView → List ℕ
+parts_before d before = node_parts (plan_of d).counts (map (λ k. k.kind) (known_from d.topics before))
+
+abbrev pub node_table : DraftView → List NodeView → NodeView → List (List Line)
+node_table d before n = node_lines d.app d.topics (parts_before d before) before n
 
 abbrev pub nodes_fault : DraftView → List NodeView → List NodeView → Option TopoFault
 nodes_fault d before [] = None
 nodes_fault d before (n ∷ ns) = option_or (first_of (node_table d before n)) (nodes_fault d (before ++ n ∷ []) ns)
 
 -- ---- the table of a printed name after those before it
-abbrev pub print_lines : DraftView → List Name → Name → List Line
-print_lines d before n =
-    (not (has_name (names_of d.nodes) n), UnknownInput n)
+abbrev pub print_lines : List (Name × ℤ) → List NodeView → List Name → Name → List Line
+print_lines ts ns before n =
+    (not (has_name (names_of ns) n), UnknownInput n)
     ∷ (has_name before n, DuplicateName n)
-    ∷ (gives_stream (wiring_in (known_from d.topics d.nodes) n), WrongKind n)
+    ∷ (gives_stream (wiring_in (known_from ts ns) n), WrongKind n)
     ∷ []
 
+abbrev pub printed_fault : List (Name × ℤ) → List NodeView → List Name → List Name → Option TopoFault
+printed_fault ts ns before [] = None
+printed_fault ts ns before (n ∷ ps) = option_or (first_fitting (print_lines ts ns before n)) (printed_fault ts ns (before ++ n ∷ []) ps)
+
 abbrev pub print_fault : DraftView → List Name → List Name → Option TopoFault
-print_fault d before [] = None
-print_fault d before (n ∷ ns) = option_or (first_fitting (print_lines d before n)) (print_fault d (before ++ n ∷ []) ns)
+print_fault d before ps = printed_fault d.topics d.nodes before ps
 
 -- ---- the whole
 abbrev pub is_past : ℤ → Bool
@@ -167,6 +195,9 @@ size_lines d =
     ∷ (nat_lt 64 (length d.nodes), TooMany (codes "nodes") 64)
     ∷ []
 
+abbrev pub parts_fault : DraftView → Option TopoFault
+parts_fault d = option_or (nodes_fault d [] d.nodes) (print_fault d [] d.print)
+
 -- the first fault: of sizes, of the nodes one by one, of the printed names one by one; a draft without one is well formed
 abbrev pub fault_of : DraftView → Option TopoFault
-fault_of d = option_or (first_fitting (size_lines d)) (option_or (nodes_fault d [] d.nodes) (print_fault d [] d.print))
+fault_of d = option_or (first_fitting (size_lines d)) (parts_fault d)

@@ -9,7 +9,7 @@ use Rattle.ks_topo.specs.declared.node.Wiring.{Wiring}
 use Rattle.ks_topo.specs.declared.node.Node.{Node}
 use Rattle.ks_topo.specs.Drafts.{Name, OpView, op_view, NodeView, DraftView}
 use Rattle.ks_topo.specs.Plan.{Plan, wiring_of, is_stream, sorted_topics, plan_of}
-use Rattle.ks_topo.specs.Layout.{topics_of, number_of, parts_of_topic, sub_of, parts_of, kind_at, inputs, changelogs, drain_order, wired_through, wired_changelogs}
+use Rattle.ks_topo.specs.Layout.{up_to, sub_count, topics_of, number_of, parts_of_topic, sub_of, parts_of, kind_at, inputs, changelogs, drain_order, wired_through, wired_changelogs}
 
 -- ---- names and roles of topics
 abbrev pub role_of : Topic → Role
@@ -36,8 +36,11 @@ internal_name app node t = app ++ codes "-" ++ node ++ codes "-" ++ suffix_of t
 abbrev pub internal_names : Name → Name → Wiring → List Name
 internal_names app node w = map (internal_name app node) (wired_through 0 w ++ wired_changelogs 0 w)
 
+abbrev pub name_in : List NodeView → ℕ → Name
+name_in ns n = get_or (map (λ x. x.name) ns) n []
+
 abbrev pub name_at : DraftView → ℕ → Name
-name_at d n = get_or (map (λ x. x.name) d.nodes) n []
+name_at d n = name_in d.nodes n
 
 abbrev pub topic_name : DraftView → Topic → Name
 topic_name d (Input t) = get_or (map (λ (x : Name × ℤ). x.0) (sorted_topics d)) t []
@@ -55,30 +58,34 @@ abbrev pub topic_infos : DraftView → List TopicInfo
 topic_infos d = map (info_of d) (topics_of (plan_of d))
 
 -- ---- nodes
-pub record NodeInfo : Type 0 where
-  pub name : Name
-  pub op : OpView
+-- what a node is, where it lies, the number of its tasks and of its changelog
+pub record NodePlace : Type 0 where
   pub wiring : Wiring
   pub sub : ℕ
   pub parts : ℕ
   pub store : Option ℕ
 
-abbrev pub node_info : Node → NodeInfo
-node_info n = record { name = n.name; op = op_view n.op; wiring = n.wiring; sub = n.sub; parts = n.parts; store = n.store }
+abbrev pub node_place : Node → NodePlace
+node_place n = record { wiring = n.wiring; sub = n.sub; parts = n.parts; store = n.store }
+
+-- a node that was built, as the draft had it
+abbrev pub built_view : Node → NodeView
+built_view n = record { name = n.name; op = op_view n.op }
 
 -- the number of a node's changelog
 abbrev pub store_of : Plan → ℕ → Option ℕ
 store_of p n = cond (is_stream (kind_at p n)) None (Some (number_of p (Changelog n)))
 
-abbrev pub info_at : Plan → ℕ → NodeView → NodeInfo
-info_at p n x = record { name = x.name; op = x.op; wiring = wiring_of (kind_at p n); sub = sub_of p n; parts = parts_of p n; store = store_of p n }
+abbrev pub place_in : Plan → ℕ → NodePlace
+place_in p n = record { wiring = wiring_of (kind_at p n); sub = sub_of p n; parts = parts_of p n; store = store_of p n }
 
-abbrev pub infos_from : Plan → ℕ → List NodeView → List NodeInfo
-infos_from p n [] = []
-infos_from p n (x ∷ xs) = info_at p n x ∷ infos_from p (suc n) xs
+-- one for each of these, which are numbered from this one
+abbrev pub places_from : {A : Type 0} → (ℕ → NodePlace) → ℕ → List A → List NodePlace
+places_from f n [] = []
+places_from f n (x ∷ xs) = f n ∷ places_from f (suc n) xs
 
-abbrev pub node_infos : DraftView → List NodeInfo
-node_infos d = infos_from (plan_of d) 0 d.nodes
+abbrev pub node_places : DraftView → List NodePlace
+node_places d = places_from (place_in (plan_of d)) 0 d.nodes
 
 -- ---- topics by number
 abbrev pub input_numbers : Plan → ℕ → List ℕ
@@ -89,3 +96,10 @@ changelog_numbers p sub = map (number_of p) (changelogs p sub)
 
 abbrev pub drain_numbers : Plan → List ℕ
 drain_numbers p = map (number_of p) (drain_order p)
+
+-- one list for each subtopology
+abbrev pub inputs_by_sub : Plan → List (List ℕ)
+inputs_by_sub p = map (input_numbers p) (up_to (sub_count p))
+
+abbrev pub changelogs_by_sub : Plan → List (List ℕ)
+changelogs_by_sub p = map (changelog_numbers p) (up_to (sub_count p))

@@ -1,10 +1,23 @@
 //! Topologies: drafts as job lines give them, their faults, and the plan that a well-formed draft is.
 #![tactic(auto)]
 
+mod built;
+mod check;
 mod draft;
 mod fault;
+mod infos;
+mod internal;
+mod judge;
+mod layout;
+mod names;
 mod node;
+mod resolve;
+mod shape;
+mod stop;
+mod topics;
+mod topology;
 
+pub use built::Topology;
 pub use draft::{Draft, NodeDraft, Op};
 pub use fault::TopoFault;
 pub use node::{Node, Role, Topic, TopicInfo, Wiring};

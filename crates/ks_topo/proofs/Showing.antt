@@ -1,0 +1,18 @@
+-- What is shown of nodes.
+use Rattle.std.proofs.Common.{◌≡◌, ℕ, zero, suc, ◌<◌, List, [], ◌∷◌, ◌++◌, length, map, get_or, refl, sym, ap, arith}
+use Rattle.std.proofs.lemmas.List.{map-append}
+use Rattle.ks_topo.specs.declared.draft.NodeDraft.{NodeDraft}
+use Rattle.ks_topo.specs.declared.node.Node.{Node}
+use Rattle.ks_topo.specs.Drafts.{Name, nodes_view}
+use Rattle.ks_topo.specs.Infos.{name_in, node_place, built_view}
+
+pub name_there : (ns : List NodeDraft) (i : ℕ) (x : NodeDraft) → i < length ns → x ≡ get_or ns i x → name_in (nodes_view ns) i ≡ x.name
+name_there [] i x h e = absurd (omega (arith, h))
+name_there (n ∷ ns) zero x h e = ap (λ (y : NodeDraft). y.name) (sym e)
+name_there (n ∷ ns) (suc i) x h e = name_there ns i x (omega (arith, h)) e
+
+pub places_push : (ns : List Node) (n : Node) → map node_place (ns ++ n ∷ []) ≡ map node_place ns ++ node_place n ∷ []
+places_push ns n = map-append node_place ns (n ∷ [])
+
+pub views_push : (ns : List Node) (n : Node) → map built_view (ns ++ n ∷ []) ≡ map built_view ns ++ built_view n ∷ []
+views_push ns n = map-append built_view ns (n ∷ [])

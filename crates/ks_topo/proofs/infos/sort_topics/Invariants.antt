@@ -1,0 +1,10 @@
+use Rattle.std.proofs.Common.{◌≡◌, ◌≤◌, ◌+◌, ◌++◌, [], map, fold, drop, length, false}
+use Rattle.ks_topo.specs.Drafts.{draft_view, nodes_view}
+use Rattle.ks_topo.specs.Plan.{with_topic}
+use Rattle.ks_topo.specs.Faults.{any_past}
+use Rattle.ks_topo.specs.Built.{topic_place, naturals, wired_topic_info}
+use Rattle.ks_topo.proofs.infos.sort_topics.Given as goal
+
+-- the rest onto what was found
+abbrev pub invariant-loop-name : goal.invariant-loop-name
+invariant-loop-name l = record { found : fold with_topic l.sorted.items (drop l.name-index l.topics) ≡ fold with_topic [] l.topics; count : length l.sorted.items ≡ l.name-index }

@@ -1,0 +1,23 @@
+//! A topology as it is kept.
+ghost use Rattle.std.specs.Prelude.{map};
+ghost use Rattle.ks_topo.specs.Infos.{node_place};
+ghost use Rattle.ks_topo.specs.Built.{IsBuilt, kept_draft};
+
+use crate::node::{Node, Topic, TopicInfo};
+use ks_row::{Blob, Name, Seq, TaskId};
+
+/// A well-formed draft with its subtopologies, topics and tasks.
+#[derive(Drop)]
+pub struct Topology {
+    pub(crate) app: Name,
+    pub(crate) counts: Seq<(Name, i64)>,
+    pub(crate) print: Seq<Blob>,
+    pub(crate) nodes: Vec<Node>,
+    pub(crate) topics: Vec<TopicInfo>,
+    pub(crate) purposes: Vec<Topic>,
+    pub(crate) tasks: Vec<TaskId>,
+    pub(crate) inputs: Vec<Seq<u16>>,
+    pub(crate) changelogs: Vec<Seq<u16>>,
+    pub(crate) drained: Vec<u16>,
+    ghost built: { IsBuilt (kept_draft app counts nodes.items print) (map node_place nodes.items) topics.items purposes.items tasks.items inputs.items changelogs.items drained.items },
+}

@@ -1,0 +1,14 @@
+//! What a layout is made of.
+use crate::node::Wiring;
+
+/// The nodes by number, without names and expressions, and what follows of where they lie.
+#[derive(Drop)]
+pub struct Shape {
+    /// The partition counts of the input topics.
+    pub counts: Vec<u8>,
+    pub wirings: Vec<Wiring>,
+    /// Of each node the number of the first node that it is connected with.
+    pub labels: Vec<u8>,
+    /// The partition counts of the nodes.
+    pub parts: Vec<u8>,
+}
