@@ -26,4 +26,5 @@ pub mod ItemsRest
 pub mod StreamsRest
 pub mod WindowGroups
 pub mod WindowsRest
+pub mod WindowsWhole
 pub mod PlainRest

@@ -26,7 +26,8 @@ use Rattle.ks_rest.specs.Taken.{messages, taken_at}
 use Rattle.ks_rest.proofs.Counted.{counted}
 use Rattle.ks_rest.proofs.Fits.{Fits, NodeFits, each_at}
 use Rattle.ks_rest.proofs.Inputs.{no_messages}
-use Rattle.ks_rest.proofs.Mixed.{messages-append, made_is, step_sends_own, apart, Stands_at}
+use Rattle.ks_machine.specs.Step.{Arrival, Values, sends_at, items_from, olds_at, news_at, step_key}
+use Rattle.ks_rest.proofs.Mixed.{messages-append, picked, made_is, step_sends_own, apart, Stands_at}
 use Rattle.ks_rest.proofs.StreamGroups.{pair_share, keyed_share, item_share, one_each, amount_each, passed_share, pairs_added, joined_counted, none_of_all, taken_and_waiting, stored_run}
 use Rattle.ks_rest.proofs.StreamsDirect.{both_run}
 
@@ -67,22 +68,27 @@ module _ (rules : Rules) (p : Plan) (fits : Fits p) (records : List Input) (sche
       ∙ joined_counted field g (sum_map (keyed_share g one_each) ms) (sum_map (keyed_share g (amount_each field)) ms) ws (none_of_all field g ms)
       ∙ ap₂ counted a b ∙ sym (passed_counted by field)
 
-  -- without a repartition topic nothing waits there
-  none_sent : (by field : Option (List ℕ)) → Stands_at n (StreamAggregate f by field false) 0 p.kinds → (u : TaskId) → st.waiting (Some u) (place_of rules p n g) ≡ []
-  none_sent by field stands u =
-      let q = place_of rules p n g in
-      no_end (received (machine rules p) (Some u) q st.taken) (st.waiting (Some u) q) (sym (no_messages _ (kept_from_start (machine rules p) u (λ k o. messages (sent_to (machine rules p) q o.made) ≡ []) one refl st.taken)) ∙ follows.flow (Some u) q)
-    where
-      one : (k : ℕ) (o : Outcome Place Store Item) (t : Taken TaskId Place Item) → same_task u ((machine rules p).reader t.place) ≡ true → messages (sent_to (machine rules p) (place_of rules p n g) o.made) ≡ [] →
-          messages (sent_to (machine rules p) (place_of rules p n g) (after (machine rules p) o (step rules p u o.store t.place t.item)).made) ≡ []
-      one k o t b h =
-          let q = place_of rules p n g in
-          ap messages (sent_to-append (machine rules p) q o.made _) ∙ messages-append (sent_to (machine rules p) q o.made) _
-          ∙ ap₂ (λ xs ys. xs ++ ys) h (made_is rules p u o.store t.place q t.item refl ∙ step_sends_own rules p (Repartition n) n (apart n) (StreamAggregate f by field false) stands o.store (record { topic = t.place.topic; item = t.item }) q.part)
+  -- where the node sends nothing, nothing waits there
+  module _ (k : Kind) (stands : Stands_at n k 0 p.kinds) (silent : (x : Arrival) (items : ℕ → Option StreamItem) (store : Store) (olds news : Values) → sends_at rules x items store olds news n k ≡ []) where
+    one_silent : (u : TaskId) (m : ℕ) (o : Outcome Place Store Item) (t : Taken TaskId Place Item) → same_task u ((machine rules p).reader t.place) ≡ true → messages (sent_to (machine rules p) (place_of rules p n g) o.made) ≡ [] →
+        messages (sent_to (machine rules p) (place_of rules p n g) (after (machine rules p) o (step rules p u o.store t.place t.item)).made) ≡ []
+    one_silent u m o t b h =
+        let q = place_of rules p n g in
+        let a : Arrival = record { topic = t.place.topic; item = t.item } in
+        let items = items_from a (λ m. None) 0 p.kinds in
+        let olds = olds_at o.store (step_key t.item.message) in
+        ap messages (sent_to-append (machine rules p) q o.made _) ∙ messages-append (sent_to (machine rules p) q o.made) _
+        ∙ ap₂ (λ xs ys. xs ++ ys) h (made_is rules p u o.store t.place q t.item refl ∙ step_sends_own rules p (Repartition n) n (apart n) k stands o.store a q.part
+        ∙ ap (picked rules p q) (silent a items o.store olds (news_at rules p a items olds (step_key t.item.message))))
 
-  none_waits : (by field : Option (List ℕ)) → Stands_at n (StreamAggregate f by field false) 0 p.kinds → (us : List TaskId) → messages (flat_map (λ u. st.waiting (Some u) (place_of rules p n g)) us) ≡ []
-  none_waits by field stands [] = refl
-  none_waits by field stands (u ∷ us) = messages-append (st.waiting (Some u) (place_of rules p n g)) _ ∙ ap₂ (λ xs ys. xs ++ ys) (ap messages (none_sent by field stands u)) (none_waits by field stands us)
+    none_sent : (u : TaskId) → st.waiting (Some u) (place_of rules p n g) ≡ []
+    none_sent u =
+        let q = place_of rules p n g in
+        no_end (received (machine rules p) (Some u) q st.taken) (st.waiting (Some u) q) (sym (no_messages _ (kept_from_start (machine rules p) u (λ m o. messages (sent_to (machine rules p) q o.made) ≡ []) (one_silent u) refl st.taken)) ∙ follows.flow (Some u) q)
+
+    pub none_waits : (us : List TaskId) → flat_map (λ u. st.waiting (Some u) (place_of rules p n g)) us ≡ []
+    none_waits [] = refl
+    none_waits (u ∷ us) = ap₂ (λ xs ys. xs ++ ys) (none_sent u) (none_waits us)
 
   direct_whole : (field : Option (List ℕ)) → Stands_at n (StreamAggregate f None field false) 0 p.kinds →
       fold (one_joined field g) (agg_of (fin.get ((st.stores (home_task rules p n g)).tables n) g)) (messages (all_waiting rules p st (place_of rules p n g)))
@@ -90,7 +96,7 @@ module _ (rules : Rules) (p : Plan) (fits : Fits p) (records : List Input) (sche
   direct_whole field stands =
       let h = each_at p 0 p.kinds n (StreamAggregate f None field false) fits stands in
       let both = both_run rules p fits n f field stands (h.1 refl) (h.2 refl).1 g records schedule in
-      ap (λ ms. fold (one_joined field g) (agg_of (fin.get ((st.stores (home_task rules p n g)).tables n) g)) ms) (none_waits None field stands (takers rules p st.taken))
+      ap (λ ms. fold (one_joined field g) (agg_of (fin.get ((st.stores (home_task rules p n g)).tables n) g)) ms) (ap messages (none_waits (StreamAggregate f None field false) stands (λ x items store olds news. refl) (takers rules p st.taken)))
       ∙ ap agg_of both.stored ∙ agg_back (is_none field) _ ∙ sym (passed_counted None field)
 
   pub stream_whole : (by field : Option (List ℕ)) (through : Bool) → Stands_at n (StreamAggregate f by field through) 0 p.kinds →

@@ -42,6 +42,7 @@ use Rattle.ks_rest.specs.Groups.{place_of}
 use Rattle.ks_rest.specs.States.{home_task}
 use Rattle.ks_rest.specs.Streams.{item_of_step}
 use Rattle.ks_rest.specs.Taken.{messages}
+use Rattle.ks_rest.specs.Windows.{starts_of, pairs_of_group}
 use Rattle.ks_rest.proofs.Counted.{counted, add_counted}
 use Rattle.ks_rest.proofs.Each.{Each, each_parts}
 use Rattle.ks_rest.proofs.Fits.{Fits, NodeFits, Beside, GroupsByKey, own_keys, each_at}
@@ -58,11 +59,10 @@ window_same = exact_pairs by_bytes nat_cmp (slice_cmp-IsAntisymmetric nat_cmp-Is
 -- ---- how often a window is one of an item's
 module _ (k : WindowKey) (w : Window) where
   abbrev pub starts_at : Key → List ℕ → ℕ
-  starts_at h ss = sum_map (λ s. cond (eq_by_cmp by_window k (h, s)) 1 0) ss
+  starts_at h ss = starts_of k h ss
 
   abbrev pub group_windows : Option Key → ℕ → ℕ
-  group_windows None time = 0
-  group_windows (Some h) time = starts_at h (windows w time)
+  group_windows h time = pairs_of_group k w h time
 
   abbrev pub own_windows : Option StreamItem → ℕ
   own_windows None = 0
@@ -179,7 +179,7 @@ module _ (rules : Rules) (p : Plan) (fits : Fits p) (n f : ℕ) (by : Option (Li
   abbrev pub share_of_step : Taken TaskId Place Item → ℕ
   share_of_step t = own_windows k w (brought t)
 
-  kind_is : kind_at p n ≡ Windowed f by w through
+  pub kind_is : kind_at p n ≡ Windowed f by w through
   kind_is = kind_here 0 p.kinds n (Windowed f by w through) (subst (λ c. Stands_at c (Windowed f by w through) 0 p.kinds) (omega arith) stands)
 
   counts_step : (st : Store) (t : Taken TaskId Place Item) (x : ℕ) → fin.get (st.counts n) k ≡ counted x 0 → (whole_step rules p st (record { topic = t.place.topic; item = t.item })).late ≡ 0 →

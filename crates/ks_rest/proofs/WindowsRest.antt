@@ -141,7 +141,7 @@ module _ (rules : Rules) (p : Plan) (fits : Fits p) (n f : ℕ) (by : Option (Li
   abbrev place : Place
   place = place_of rules p n k.0
 
-  abbrev share_in : Item → ℕ
+  abbrev pub share_in : Item → ℕ
   share_in x = own_windows k w (item_keyed x.time (Some x.message))
 
   -- what a step sends of the group
@@ -172,7 +172,7 @@ module _ (rules : Rules) (p : Plan) (fits : Fits p) (n f : ℕ) (by : Option (Li
     item_sent t None h = refl
     item_sent t (Some y) h = one_sent t.item.time y.row (group_key by y) ∙ ap (group_windows k w (group_key by y)) (sym (h y refl))
 
-    step_sent : (u : TaskId) (st : Store) (t : Taken TaskId Place Item) → sum_map share_in (sent_to (machine rules p) place (step rules p u st t.place t.item).made) ≡ item_windows k w by (item_of_step p f t)
+    pub step_sent : (u : TaskId) (st : Store) (t : Taken TaskId Place Item) → sum_map share_in (sent_to (machine rules p) place (step rules p u st t.place t.item).made) ≡ item_windows k w by (item_of_step p f t)
     step_sent u st t =
         let a : Arrival = record { topic = t.place.topic; item = t.item } in
         ap (sum_map share_in) (made_items rules p u st t.place place t.item refl) ∙ stamped_sum share_in t.item.time _
