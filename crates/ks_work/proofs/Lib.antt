@@ -4,3 +4,4 @@ pub mod Kept
 pub mod Placing
 pub mod Labels
 pub mod Setups
+pub mod Rows

@@ -1,2 +1,3 @@
 pub mod Work
 pub mod Placing
+pub mod Spelled

@@ -4,6 +4,7 @@
 
 ghost use Rattle.ks_work.specs.Work.{WorksAreNetworks, NothingIsHeldBack, SetupsAreMade};
 ghost use Rattle.ks_work.specs.Placing.{DecidedStand};
+ghost use Rattle.ks_work.specs.Spelled.{ProjectionsFit, JoinsFit, KeysFit, ItemsFit, DeltasFit};
 
 /// The tasks of every topology make a network: each topic has one reader, no changelog is an input or belongs to two
 /// subtopologies, nobody writes into another task's changelog, and a changelog tells each change of its store.
@@ -27,4 +28,13 @@ pub fn decided_stand()
 /// task's partition.
 pub fn setups_are_made()
     ensures { SetupsAreMade }
+{}
+
+/// What nodes make of values that have a spelling has one: projections and joins of rows, keys of fields, aggregates.
+pub fn made_values_fit()
+    ensures projections { ProjectionsFit }
+    ensures joins { JoinsFit }
+    ensures keys { KeysFit }
+    ensures items { ItemsFit }
+    ensures deltas { DeltasFit }
 {}
