@@ -33,7 +33,7 @@ use Rattle.ks_machine.proofs.Picked.{items_at, items_at-append, records_here, no
 use Rattle.ks_machine.proofs.Keys.{key_read}
 use Rattle.ks_machine.proofs.Same.{stored-is, option-is}
 
-kind-is : (ks : List Kind) (n : ℕ) (k : Kind) → slice_get ks n ≡ Some k → get_or ks n no_kind ≡ k
+pub kind-is : (ks : List Kind) (n : ℕ) (k : Kind) → slice_get ks n ≡ Some k → get_or ks n no_kind ≡ k
 kind-is [] n k e = absurd (cc)
 kind-is (x ∷ ks) zero k e = cc
 kind-is (x ∷ ks) (suc n) k e = kind-is ks n k e
@@ -126,7 +126,7 @@ module _ (rules : Rules) (p : Plan) (t : TaskId) (stores : ByteStores) (q : Part
         ∙ ap (λ l. map (timed rules a items st olds news r.ts) (value_changes key (olds n) (news n) ++ l)) (none_counted a items st n kind plain)
         ∙ ap (map (timed rules a items st olds news r.ts)) (append-nil (value_changes key (olds n) (news n)))
 
-    kind_here : kind_at p n ≡ kind
+    pub kind_here : kind_at p n ≡ kind
     kind_here = kind-is p.kinds n kind node
 
     -- a table, once the node and its owner are known

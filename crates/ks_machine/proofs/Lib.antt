@@ -9,4 +9,6 @@ pub mod Shown
 pub mod Keys
 pub mod Agree
 pub mod Hashes
+pub mod Counts
+pub mod Windowed
 pub mod Examples

@@ -1,5 +1,6 @@
 -- Laws over every run of the machine of every plan.
-use Rattle.std.specs.Prelude.{◌≡◌, ℕ, ◌≤◌, length, List, [], Option, Some, None, true, false, nat_eq, slice_get, ◌∷◌, ◌<◌, ◌^◌, IfSome}
+use Rattle.std.specs.Prelude.{◌≡◌, ℕ, ◌≤◌, length, List, [], Option, Some, None, true, false, nat_eq, slice_get, ◌∷◌, ◌<◌, ◌^◌, IfSome, Bool}
+use Rattle.std.specs.List.{filter}
 use Rattle.ks_row.specs.Spelling.{IsBytes}
 use Rattle.ks_wire.specs.Spelling.{FitsKeys}
 use Rattle.ks_machine.specs.Messages.Message.{Asked}
@@ -7,15 +8,20 @@ use Rattle.ks_row.specs.declared.record.Rec.{Rec}
 use Rattle.ks_row.specs.declared.record.PartId.{PartId}
 use Rattle.ks_row.specs.Parts.{same_task}
 use Rattle.ks_topo.specs.Infos.{input_numbers}
-use Rattle.ks_machine.specs.Bytes.{ByteStores, byte_step, is_own_number, has_number, reader_number, keep_all, records_at, message_in, stored_from, stored_bytes, store_from, table_from, hashes_from}
+use Rattle.ks_machine.specs.Bytes.{ByteStores, byte_step, is_own_number, has_number, reader_number, keep_all, records_at, message_in, stored_from, stored_bytes, store_from, table_from, hashes_from, counts_from, time_of, spelled, is_sent}
 use Rattle.ks_row.specs.declared.record.TaskId.{TaskId}
-use Rattle.ks_topo.specs.Plan.{Plan, Kind, is_windowed}
+use Rattle.ks_topo.specs.Plan.{Plan, Kind, Window, is_windowed}
 use Rattle.ks_topo.specs.declared.node.Topic.{Topic}
 use Rattle.ks_topo.specs.declared.node.Topic.TheVariants.{Changelog, HashChangelog}
 use Rattle.ks_topo.specs.Layout.{sub_of, topic_at, reads, number_of}
 use Rattle.ks_map.specs.FinMap as fin
-use Rattle.ks_query.specs.Streams.{Key}
-use Rattle.ks_machine.specs.Step.{step_key}
+use Rattle.ks_query.specs.Streams.{Key, StreamItem}
+use Rattle.ks_query.specs.Windows.{windows}
+use Rattle.ks_row.specs.Texts.{IsKey}
+use Rattle.ks_topo.specs.Drafts.{Name}
+use Rattle.ks_topo.specs.Plan.Kind.{Windowed}
+use Rattle.ks_machine.specs.Windowed.{greater}
+use Rattle.ks_machine.specs.Step.{Arrival, step_key, item_into, items_from}
 use Rattle.ks_network.specs.Run.{HasNames, Follows, run, local, sent_to}
 use Rattle.ks_machine.specs.Messages.{Place, Stored, Message, Item, Rules}
 use Rattle.ks_machine.specs.Tasks.{machine, empty_store, step}
@@ -98,3 +104,39 @@ HashesAgree = (rules : Rules) (p : Plan) (t : TaskId) (stores : ByteStores) (q :
     AreBytes (fin.entries (stores (number_of p (HashChangelog n)))) → FitsAsked message → (b : Key) →
     hashes_from p t.sub (byte_step rules p t stores q r).store n b
     ≡ (step rules p t (store_from p t.sub stores) (record { topic = topic; part = q.part }) (record { message = message; time = r.ts })).store.hashes n b
+
+-- each of these is a number of 64 bits
+abbrev pub AllBelow : List ℕ → Type 0
+AllBelow [] = Unit {0}
+AllBelow (s ∷ ss) = (s < 2 ^ 64) × AllBelow ss
+
+-- an item's key, its windows and the greatest time are within their bounds
+pub record FitsCount (w : Window) (old : Option ℕ) (x : StreamItem) : Type 0 where
+  pub key : (g : Key) → x.key ≡ Some g → IsKey g
+  pub time : greater old x.time < 2 ^ 64
+  pub starts : AllBelow (windows w x.time)
+
+-- and so with windowed counts and their greatest times
+pub record WindowsAgreeAt (rules : Rules) (p : Plan) (t : TaskId) (stores : ByteStores) (q : PartId) (r : Rec) (topic : Topic) (message : Message) (n : ℕ) : Type 0 where
+  pub counts : counts_from p t.sub (byte_step rules p t stores q r).store n
+      ≡ (step rules p t (store_from p t.sub stores) (record { topic = topic; part = q.part }) (record { message = message; time = r.ts })).store.counts n
+  pub times : time_of p t.sub (byte_step rules p t stores q r).store n
+      ≡ (step rules p t (store_from p t.sub stores) (record { topic = topic; part = q.part }) (record { message = message; time = r.ts })).store.times n
+
+abbrev pub WindowsAgree : Type 0
+WindowsAgree = (rules : Rules) (p : Plan) (t : TaskId) (stores : ByteStores) (q : PartId) (r : Rec) (topic : Topic) (message : Message) → IsTakenBy p t q r topic message →
+    (n f : ℕ) (by : Option Name) (w : Window) (through : Bool) → slice_get p.kinds n ≡ Some (Windowed f by w through) → is_own_number p t.sub (number_of p (Changelog n)) ≡ true →
+    AreBytes (fin.entries (stores (number_of p (Changelog n)))) →
+    let a : Arrival = record { topic = topic; item = record { message = message; time = r.ts } } in
+    ((x : StreamItem) → item_into a (items_from a (λ m. None) 0 p.kinds) n f through ≡ Some x → FitsCount w (time_of p t.sub stores n) x) →
+    WindowsAgreeAt rules p t stores q r topic message n
+
+-- the records are the decoded ones, spelled, and as many pairs are late
+pub record SameRecords (rules : Rules) (p : Plan) (t : TaskId) (stores : ByteStores) (q : PartId) (r : Rec) (topic : Topic) (message : Message) : Type 0 where
+  pub made : (byte_step rules p t stores q r).made
+      ≡ spelled p (filter (is_sent p t) (step rules p t (store_from p t.sub stores) (record { topic = topic; part = q.part }) (record { message = message; time = r.ts })).made)
+  pub late : (byte_step rules p t stores q r).late ≡ (step rules p t (store_from p t.sub stores) (record { topic = topic; part = q.part }) (record { message = message; time = r.ts })).late
+
+abbrev pub RecordsAgree : Type 0
+RecordsAgree = (rules : Rules) (p : Plan) (t : TaskId) (stores : ByteStores) (q : PartId) (r : Rec) (topic : Topic) (message : Message) → IsTakenBy p t q r topic message →
+    SameRecords rules p t stores q r topic message

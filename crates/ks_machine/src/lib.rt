@@ -1,7 +1,7 @@
 //! The task machine of a topology: what a task makes of one record, and the runs of all tasks.
 #![tactic(auto)]
 
-ghost use Rattle.ks_machine.specs.Laws.{NamesAreDecided, FollowsTaken, PastsAreWritten, ChangelogsTell, TopicsAreApart, NoneForOthers, TablesAgree, HashesAgree};
+ghost use Rattle.ks_machine.specs.Laws.{NamesAreDecided, FollowsTaken, PastsAreWritten, ChangelogsTell, TopicsAreApart, NoneForOthers, TablesAgree, HashesAgree, WindowsAgree, RecordsAgree};
 
 /// In each state of each run of each topology, in whatever order records are taken: a task's stores are what its own steps made of
 /// what it took, what was sent is what was received and then what waits, and a changelog's past is what its owner's own steps wrote.
@@ -19,10 +19,12 @@ pub fn changelogs_tell()
     ensures alone { NoneForOthers }
 {}
 
-/// Over bytes and decoded, one step of a record that the task reads: the tables that the bytes are afterwards are those of the decoded
-/// step, where what it stores is read again from its bytes; and so are the subscription stores, where keys are bytes and a hash has
-/// 128 bits.
+/// Over bytes and decoded, one step of a record that the task reads: the records are the decoded ones, spelled. The stores that the
+/// bytes are afterwards are those of the decoded step: tables, where what is stored is read again from its bytes; subscription stores,
+/// where keys are bytes and a hash has 128 bits; windowed counts with their greatest time, where keys are bytes and times have 64 bits.
 pub fn bytes_agree()
+    ensures records { RecordsAgree }
     ensures tables { TablesAgree }
     ensures hashes { HashesAgree }
+    ensures windows { WindowsAgree }
 {}

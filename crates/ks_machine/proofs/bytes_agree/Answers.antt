@@ -1,4 +1,10 @@
-use Rattle.ks_machine.proofs.Agree.{agree}
+use Rattle.std.proofs.Common.{ap}
+use Rattle.ks_row.specs.declared.record.Rec.{Rec}
+use Rattle.ks_row.specs.declared.record.PartId.{PartId}
+use Rattle.ks_network.specs.Run.{Outcome}
+use Rattle.ks_machine.specs.Bytes.{ByteStores}
+use Rattle.ks_machine.proofs.Agree.{agree, is_decoded}
+use Rattle.ks_machine.proofs.Windowed.{counts_agree, times_agree}
 use Rattle.ks_machine.proofs.Hashes.{hashes_agree}
 use Rattle.ks_machine.proofs.bytes_agree.Goals as goal
 
@@ -7,3 +13,15 @@ returns-clause-tables c rules p t stores q r topic message taken n kind node pla
 
 pub returns-clause-hashes : goal.returns-clause-hashes
 returns-clause-hashes c rules p t stores q r topic message taken n kind node owned bytes fits k = hashes_agree rules p t stores q r topic message taken n kind node owned bytes fits k
+
+pub returns-clause-records : goal.returns-clause-records
+returns-clause-records c rules p t stores q r topic message taken = record {
+  made = ap (λ (o : Outcome PartId ByteStores Rec). o.made) (is_decoded rules p t stores q r topic message taken);
+  late = ap (λ (o : Outcome PartId ByteStores Rec). o.late) (is_decoded rules p t stores q r topic message taken);
+}
+
+pub returns-clause-windows : goal.returns-clause-windows
+returns-clause-windows c rules p t stores q r topic message taken n f by w through node owned bytes fits = record {
+  counts = counts_agree rules p t stores q r topic message taken n f by w through node owned bytes fits;
+  times = times_agree rules p t stores q r topic message taken n f by w through node owned bytes fits;
+}
