@@ -230,10 +230,10 @@ module _ (rules : Rules) (p : Plan) (fits : Fits p) (records : List Input) (sche
   same_share by None = refl
   same_share by (Some y) = refl
 
-  passed_sum : (by : Option (List ℕ)) → sum_map (λ t. item_windows k w by (item_of_step p f t)) st.taken ≡ sum_map (λ y. item_windows k w by (Some y)) ((query p records).items f)
+  pub passed_sum : (by : Option (List ℕ)) → sum_map (λ t. item_windows k w by (item_of_step p f t)) st.taken ≡ sum_map (λ y. item_windows k w by (Some y)) ((query p records).items f)
   passed_sum by = sum_map-same _ _ st.taken (λ t. sym (same_share by (item_of_step p f t))) ∙ items_rest rules p fits records schedule drained f within (λ y. item_windows k w by (Some y))
 
-  nothing_waits : (us : List TaskId) → flat_map (λ u. st.waiting (Some u) (place_of rules p n k.0)) us ≡ []
+  pub nothing_waits : (us : List TaskId) → flat_map (λ u. st.waiting (Some u) (place_of rules p n k.0)) us ≡ []
   nothing_waits [] = refl
   nothing_waits (u ∷ us) = ap₂ (λ xs ys. xs ++ ys) (drained (Some u) (place_of rules p n k.0) refl) (nothing_waits us)
 
@@ -262,20 +262,24 @@ module _ (rules : Rules) (p : Plan) (fits : Fits p) (records : List Input) (sche
       let none : Some name ≡ None = (h.2 refl).0 in
       cc
 
-  pub window_rests : (by : Option (List ℕ)) (through : Bool) → Stands_at n (Windowed f by w through) 0 p.kinds → st.late ≡ 0 → (u : TaskId) →
-      option_map (agg_row true) (fin.get ((st.stores u).counts n) k) ≡ cond (same_task u (home_task rules p n k.0)) (fin.get ((query p records).windows n) k) None
-  window_rests by through stands late u =
+  -- the query's count of the window
+  pub query_is : (by : Option (List ℕ)) (through : Bool) → Stands_at n (Windowed f by w through) 0 p.kinds →
+      fin.get ((query p records).windows n) k ≡ option_map (agg_row true) (counted (sum_map (λ y. item_windows k w by (Some y)) ((query p records).items f)) 0)
+  query_is by through stands =
       let answer = query_at records p n (Windowed f by w through) stands in
-      let own = (windows_run rules p fits n f by w through stands k records schedule).counts late u in
-      let total = sum_map (λ y. item_windows k w by (Some y)) ((query p records).items f) in
-      let query_is : fin.get ((query p records).windows n) k ≡ option_map (agg_row true) (counted total 0) =
       ap (λ t. fin.get t k) (answer.windows ∙ given_here records answer.then.windows n _)
       ∙ get-map_values window_total window_same (λ x. Some (agg_row true x)) (fold (add_to {R = by_window} None) fin.empty (in_windows w (grouped by (answer.then.items f)))) k
       ∙ ap (λ xs. option_and_then (λ x. Some (agg_row true x)) (fin.get (fold (add_to {R = by_window} None) fin.empty (in_windows w (grouped by xs))) k)) (answer.before.items f before)
-      ∙ ap (option_and_then (λ x. Some (agg_row true x))) (query_counted k w by ((query p records).items f)) ∙ as_row (counted total 0) in
-      ap (option_map (agg_row true)) own ∙ ap (λ m. option_map (agg_row true) (counted (cond (same_task u (home_task rules p n k.0)) m 0) 0)) (shares_are by through stands)
-      ∙ elim (same_task u (home_task rules p n k.0)) as (λ b. option_map (agg_row true) (counted (cond b total 0) 0) ≡ cond b (fin.get ((query p records).windows n) k) None) [ true ↦ sym query_is | false ↦ refl ]
+      ∙ ap (option_and_then (λ x. Some (agg_row true x))) (query_counted k w by ((query p records).items f)) ∙ as_row _
     where
       as_row : (x : Option Agg) → option_and_then (λ x. Some (agg_row true x)) x ≡ option_map (agg_row true) x
       as_row None = refl
       as_row (Some x) = refl
+
+  pub window_rests : (by : Option (List ℕ)) (through : Bool) → Stands_at n (Windowed f by w through) 0 p.kinds → st.late ≡ 0 → (u : TaskId) →
+      option_map (agg_row true) (fin.get ((st.stores u).counts n) k) ≡ cond (same_task u (home_task rules p n k.0)) (fin.get ((query p records).windows n) k) None
+  window_rests by through stands late u =
+      let own = (windows_run rules p fits n f by w through stands k records schedule).counts late u in
+      let total = sum_map (λ y. item_windows k w by (Some y)) ((query p records).items f) in
+      ap (option_map (agg_row true)) own ∙ ap (λ m. option_map (agg_row true) (counted (cond (same_task u (home_task rules p n k.0)) m 0) 0)) (shares_are by through stands)
+      ∙ elim (same_task u (home_task rules p n k.0)) as (λ b. option_map (agg_row true) (counted (cond b total 0) 0) ≡ cond b (fin.get ((query p records).windows n) k) None) [ true ↦ sym (query_is by through stands) | false ↦ refl ]

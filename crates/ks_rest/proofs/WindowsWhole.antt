@@ -1,6 +1,10 @@
 -- A windowed count: of each window, what is stored, what waits and what was late are together what was passed on.
 use Rattle.std.proofs.Common.{◌≡◌, ◌≢◌, ℕ, zero, suc, ◌+◌, ◌<◌, ◌≤◌, Bool, true, false, cond, List, length, [], ◌∷◌, ◌++◌, get_or, Option, Some, None, fold, refl, sym, ap, ap₂, subst, ◌∙◌, arith}
+use Rattle.std.specs.Prelude.{option_map}
 use Rattle.std.specs.List.{flat_map}
+use Rattle.ks_query.specs.Aggregates.{agg_row}
+use Rattle.ks_query.specs.Query.{query}
+use Rattle.ks_machine.specs.Rest.{IsDrained}
 use Rattle.std.specs.Ordering.{eq_by_cmp}
 use Rattle.ks_row.specs.declared.record.TaskId.{TaskId}
 use Rattle.ks_row.specs.Parts.{same_task}
@@ -38,7 +42,7 @@ use Rattle.ks_rest.proofs.Placed.{Placed, FitsAt, placed_step, placed_run}
 use Rattle.ks_rest.proofs.Received.{no_inputs}
 use Rattle.ks_rest.proofs.StreamsWhole as streams
 use Rattle.ks_rest.proofs.WindowGroups.{window_total, window_same, starts_at, group_windows, own_windows, item_windows, brought, share_of_step, all_shares, kind_is, elsewhere}
-use Rattle.ks_rest.proofs.WindowsRest.{share_in, step_sent, at_place_run}
+use Rattle.ks_rest.proofs.WindowsRest.{share_in, step_sent, at_place_run, passed_sum, nothing_waits, query_is}
 
 module _ (k : WindowKey) (w : Window) where
   abbrev open_starts : ℕ → Key → List ℕ → ℕ
@@ -284,3 +288,27 @@ module _ (rules : Rules) (p : Plan) (fits : Fits p) (records : List Input) (sche
       let h = each_at p 0 p.kinds n (Windowed f (Some name) w false) fits stands in
       let none : Some name ≡ None = (h.2 refl).0 in
       cc
+
+-- ---- at rest
+module _ (rules : Rules) (p : Plan) (fits : Fits p) (records : List Input) (schedule : List (Option TaskId × Place)) (n f : ℕ) (w : Window) (within : f < length p.kinds) (before : f < n) (drained : IsDrained (state_of rules p records schedule)) (k : WindowKey) where
+  abbrev end : State
+  end = state_of rules p records schedule
+
+  pub record IsExceeded : Type 0 where
+    pub count : ℕ
+    pub stored : fin.get ((end.stores (home_task rules p n k.0)).counts n) k ≡ count_of count
+    pub query_is : fin.get ((query p records).windows n) k ≡ option_map (agg_row true) (count_of (count + late_pairs rules p n k end.taken))
+
+  pub window_exceeded : (by : Option (List ℕ)) (through : Bool) → Stands_at n (Windowed f by w through) 0 p.kinds → IsExceeded
+  window_exceeded by through stands =
+      let h = window_whole rules p fits records schedule n f w k by through stands in
+      let none : pairs_among k w (all_waiting rules p end (place_of rules p n k.0)) ≡ 0 = ap (pairs_among k w) (nothing_waits rules p fits records schedule n f w within before drained k (takers rules p end.taken)) in
+      let passed = passed-is k w p f by end.taken in
+      let rest = passed_sum rules p fits records schedule n f w within before drained k by in
+      let whole = h.whole in
+      let total : sum_map (λ y. item_windows k w by (Some y)) ((query p records).items f) ≡ h.count + late_pairs rules p n k end.taken = omega arith in
+      record {
+        count = h.count;
+        stored = h.stored;
+        query_is = query_is rules p fits records schedule n f w within before drained k by through stands ∙ ap (λ m. option_map (agg_row true) (counted m 0)) total ∙ ap (option_map (agg_row true)) (counted-is _);
+      }

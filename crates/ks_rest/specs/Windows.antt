@@ -105,3 +105,16 @@ WindowsAreWhole = (rules : Rules) (d : DraftView) (records : List Input) (schedu
       stored : map.get ((st.stores (home_task rules p n k.0)).counts n) k ≡ count_of count;
       whole : count + pairs_among k w (all_waiting rules p st (place_of rules p n k.0)) + late_pairs rules p n k st.taken ≡ pairs_in k w by (passed_on p f st.taken);
     }
+
+-- once nothing waits, the query's count of each window exceeds the stored one by the window's late pairs; so it is no less
+abbrev pub WindowsAreAtMost : Type 0
+WindowsAreAtMost = (rules : Rules) (d : DraftView) (records : List Input) (schedule : List (Option TaskId × Place)) → IsWellFormed d →
+    let p = plan_of d in
+    let st = state_of rules p records schedule in
+    IsDrained st →
+    (n f : ℕ) (by : Option Name) (w : Window) (through : Bool) → IsNode p n (Windowed f by w through) → (k : WindowKey) →
+    record {
+      count : ℕ;
+      stored : map.get ((st.stores (home_task rules p n k.0)).counts n) k ≡ count_of count;
+      asked : map.get ((query p records).windows n) k ≡ option_map (agg_row true) (count_of (count + late_pairs rules p n k st.taken));
+    }

@@ -1,4 +1,4 @@
-ghost use Rattle.ks_rest.specs.Windows.{WindowsAreWhole, WindowsRest};
+ghost use Rattle.ks_rest.specs.Windows.{WindowsAreWhole, WindowsAreAtMost, WindowsRest};
 
 /// Windowed counts, in every state of every uncrashed run of every well-formed topology: of each window, what is stored, the pairs
 /// of the repartition records that wait and the late pairs are together the pairs of the items that were passed on.
@@ -10,4 +10,10 @@ pub fn windows_are_whole()
 /// every well-formed topology.
 pub fn windows_rest()
     ensures { WindowsRest }
+{}
+
+/// Once nothing waits, the query's count of each window exceeds the stored one by the window's late pairs, and so is no less, in
+/// every uncrashed run of every well-formed topology.
+pub fn windows_are_at_most_the_query()
+    ensures { WindowsAreAtMost }
 {}
