@@ -6,3 +6,4 @@ pub mod Sorting
 pub mod Showing
 pub mod Layouts
 pub mod Shaping
+pub mod Lines

@@ -9,3 +9,4 @@ pub mod Earlier
 pub mod Wired
 pub mod Built
 pub mod Topologies
+pub mod WellFormed
