@@ -27,4 +27,5 @@ pub mod StreamsRest
 pub mod WindowGroups
 pub mod WindowsRest
 pub mod WindowsWhole
+pub mod LateTotals
 pub mod PlainRest

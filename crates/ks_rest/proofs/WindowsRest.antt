@@ -254,7 +254,7 @@ module _ (rules : Rules) (p : Plan) (fits : Fits p) (records : List Input) (sche
       own None = refl
       own (Some y) = refl
 
-  shares_are : (by : Option (List ℕ)) (through : Bool) (stands : Stands_at n (Windowed f by w through) 0 p.kinds) → all_shares rules p fits n f by w through stands k st.taken ≡ sum_map (λ y. item_windows k w by (Some y)) ((query p records).items f)
+  pub shares_are : (by : Option (List ℕ)) (through : Bool) (stands : Stands_at n (Windowed f by w through) 0 p.kinds) → all_shares rules p fits n f by w through stands k st.taken ≡ sum_map (λ y. item_windows k w by (Some y)) ((query p records).items f)
   shares_are by true stands = through_sum by stands
   shares_are None false stands = direct_sum stands
   shares_are (Some name) false stands =

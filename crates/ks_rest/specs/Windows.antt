@@ -16,7 +16,7 @@ use Rattle.ks_rest.specs.Streams.{passed_on, all_waiting}
 use Rattle.ks_row.specs.declared.record.TaskId.{TaskId}
 use Rattle.ks_row.specs.Parts.{same_task}
 use Rattle.ks_topo.specs.Drafts.{DraftView, Name}
-use Rattle.ks_topo.specs.Plan.{Plan, Kind, Window, plan_of}
+use Rattle.ks_topo.specs.Plan.{Plan, Kind, Window, plan_of, is_windowed}
 use Rattle.ks_topo.specs.Plan.Kind.{Windowed}
 use Rattle.ks_map.specs.FinMap as map
 use Rattle.ks_query.specs.Streams.{Key, Input, StreamItem, group_key}
@@ -118,3 +118,19 @@ WindowsAreAtMost = (rules : Rules) (d : DraftView) (records : List Input) (sched
       stored : map.get ((st.stores (home_task rules p n k.0)).counts n) k ≡ count_of count;
       asked : map.get ((query p records).windows n) k ≡ option_map (agg_row true) (count_of (count + late_pairs rules p n k st.taken));
     }
+
+-- ---- the late pairs of all windows that the query has: of these of one node, and of the windowed counts among these nodes
+abbrev pub late_of_windows : Rules → Plan → ℕ → List (Taken TaskId Place Item) → List WindowKey → ℕ
+late_of_windows rules p n ts [] = 0
+late_of_windows rules p n ts (k ∷ ks) = late_pairs rules p n k ts + late_of_windows rules p n ts ks
+
+abbrev pub late_of_nodes : Rules → Plan → List Input → List (Taken TaskId Place Item) → ℕ → List Kind → ℕ
+late_of_nodes rules p records ts n [] = 0
+late_of_nodes rules p records ts n (k ∷ ks) = cond (is_windowed k) (late_of_windows rules p n ts (map.keys ((query p records).windows n))) 0 + late_of_nodes rules p records ts (suc n) ks
+
+-- once nothing waits, they are the late count
+abbrev pub LateIsAll : Type 0
+LateIsAll = (rules : Rules) (d : DraftView) (records : List Input) (schedule : List (Option TaskId × Place)) → IsWellFormed d →
+    let p = plan_of d in
+    let st = state_of rules p records schedule in
+    IsDrained st → late_of_nodes rules p records st.taken 0 p.kinds ≡ st.late
