@@ -1,50 +1,36 @@
 -- Once nothing waits: each kind of table is the query's where its inputs are.
-use Rattle.std.proofs.Common.{◌≡◌, ◌≢◌, ℕ, zero, suc, ◌+◌, ◌*◌, ◌%◌, ◌^◌, ◌<◌, ◌≤◌, Bool, true, false, cond, ◌&&◌, T, List, length, [], ◌∷◌, ◌++◌, map, Option, Some, None, fold, refl, sym, ap, ap₂, subst, ◌∙◌, arith, append-nil, nat_eq}
-use Rattle.std.specs.Prelude.{ℤ, pos, option_map, option_and_then, is_none}
-use Rattle.std.specs.Ordering.{eq_by_cmp, is_lt, int_cmp}
-use Rattle.std.specs.Cmp.{IsTotalOrder, tied_itself, int_cmp_total}
+use Rattle.std.proofs.Common.{◌≡◌, ℕ, ◌+◌, Bool, true, false, cond, ◌&&◌, List, [], ◌∷◌, map, Option, Some, None, refl, sym, ap, ap₂, ◌∙◌, arith}
+use Rattle.std.specs.Prelude.{option_map, option_and_then}
+use Rattle.std.specs.Ordering.{eq_by_cmp, is_lt}
 use Rattle.std.specs.Cmp.Lexicographic.{nat_list_cmp_total}
-use Rattle.std.specs.FinMap.{slice_cmp-IsAntisymmetric, nat_cmp-IsAntisymmetric, int_cmp-IsAntisymmetric}
-use Rattle.std.specs.FinMap.Entries.{find, below_all, is_sorted, where_key, is_sorted-where_key, find-where_key, same_entries}
+use Rattle.std.specs.FinMap.{slice_cmp-IsAntisymmetric, nat_cmp-IsAntisymmetric}
+use Rattle.std.specs.FinMap.Entries.{find, below_all, is_sorted, where_key}
 use Rattle.ks_row.specs.declared.record.TaskId.{TaskId}
 use Rattle.ks_row.specs.Parts.{same_task}
 use Rattle.ks_expr.specs.declared.terms.JoinKind.{JoinKind}
 use Rattle.ks_expr.specs.Terms.{Set, Test}
 use Rattle.ks_expr.specs.Eval.{Row, holds, project, joined}
-use Rattle.ks_wire.specs.declared.values.Agg.{Agg}
-use Rattle.ks_topo.specs.Plan.{Plan, Kind}
-use Rattle.ks_topo.specs.Plan.Kind.{TableSource, TableFilter, TableMap, KeyJoin, TableAggregate}
+use Rattle.ks_topo.specs.Plan.{Plan}
+use Rattle.ks_topo.specs.Plan.Kind.{TableSource, TableFilter, TableMap, KeyJoin}
 use Rattle.ks_map.specs.FinMap as fin
 use Rattle.ks_map.specs.Bytes.{by_bytes}
-use Rattle.ks_map.proofs.Tables.{equal}
 use Rattle.ks_query.specs.Streams.{Key, Input}
-use Rattle.ks_query.specs.Query.{Table, query, aggregate, grouped_rows, add_to}
-use Rattle.ks_query.specs.Aggregates.{agg_row, with_members, is_zero}
-use Rattle.ks_network.specs.Run.{RunState, Follows, received, run, is_from, same_sender}
-use Rattle.ks_network.proofs.Runs.{Follows-run, received_all}
-use Rattle.ks_network.proofs.Sums.{sum_map, sum_map-append, sum_map-add, sum_map-same, sum_map-zero, times, steps, by_senders}
-use Rattle.ks_machine.specs.Messages.{Place, Stored, shown, Message, Item, Store, Rules}
-use Rattle.ks_machine.specs.Messages.Stored.{OfRow, OfAgg}
+use Rattle.ks_query.specs.Query.{query}
+use Rattle.ks_network.specs.Run.{Follows}
+use Rattle.ks_network.proofs.Runs.{Follows-run}
+use Rattle.ks_network.proofs.Sums.{sum_map, sum_map-add, sum_map-zero}
+use Rattle.ks_machine.specs.Messages.{Place, Stored, shown, Rules}
 use Rattle.ks_machine.specs.Tasks.{machine, inputs_of}
 use Rattle.ks_machine.specs.Rest.{IsDrained}
 use Rattle.ks_machine.proofs.Names.{names, same_task-is}
 use Rattle.ks_rest.specs.AtRest.{IsQuery}
-use Rattle.ks_rest.specs.Groups.{sum_of_deltas, rows_of}
 use Rattle.ks_rest.specs.States.{State, state_of, row_at, home_task}
-use Rattle.ks_rest.specs.Taken.{messages, taken_at}
-use Rattle.ks_rest.proofs.Bits.{of_bits, of_sums, bits_of, bits_back}
-use Rattle.ks_rest.proofs.Counted.{counted, group_counted, no_rows_no_amount, row_member, row_amount, sum_of_deltas-is}
 use Rattle.ks_rest.proofs.Derived.{filter_follows, map_follows, join_follows, shown_row}
-use Rattle.ks_rest.proofs.Each.{Each, each_nothing, each_first, each_parts}
 use Rattle.ks_rest.proofs.Fits.{Fits, Beside, Sourced}
-use Rattle.ks_rest.proofs.SentGroups.{sent_members, sent_amounts, few_rows}
 use Rattle.ks_rest.proofs.Inputs.{source_rests}
 use Rattle.ks_rest.proofs.Mixed.{Stands_at}
-use Rattle.ks_rest.proofs.Placed.{Placed, placed_run}
+use Rattle.ks_rest.proofs.Placed.{placed_run}
 use Rattle.ks_rest.proofs.Queries.{get-map_values, get-key_join, query_at, given_here}
-use Rattle.ks_rest.proofs.Received.{group_place, group_task, grouped_run, no_inputs, nothing_begins, messages_sum, taken_sum, stored_sum}
-use Rattle.ks_rest.proofs.Regrouped.{members_in, total_in}
-use Rattle.ks_rest.proofs.Senders.{distinct, senders_of, steps_of, steps_of-is, just_once, members_or_none, one_gives, steps_together}
 
 module _ (rules : Rules) (p : Plan) (fits : Fits p) (records : List Input) (schedule : List (Option TaskId × Place)) where
   abbrev st : State

@@ -1,13 +1,13 @@
 -- Numbers of 64 bits: what wraps is determined by its bits.
-use Rattle.std.proofs.Common.{◌≡◌, ℕ, suc, ◌+◌, ◌-◌, ◌%◌, ◌^◌, ◌<◌, ◌≤◌, Bool, true, false, cond, refl, sym, ap, ap₂, subst, ◌∙◌, arith, ⊎_elim, ◌⊎◌, inl, inr}
+use Rattle.std.proofs.Common.{◌≡◌, ℕ, suc, ◌+◌, ◌-◌, ◌%◌, ◌^◌, ◌<◌, ◌≤◌, Bool, true, false, cond, refl, sym, ap, ap₂, subst, ◌∙◌, arith, ⊎_elim}
 use Rattle.std.specs.Prelude.{ℤ, pos, negsuc}
-use Rattle.std.specs.Int.{w64, cast_signed, cast_unsigned, int_wrapping_add, int_wrapping_sub}
+use Rattle.std.specs.Int.{w64, cast_signed, cast_unsigned}
 use Rattle.std.proofs.lemmas.Int.{of_z-to_z}
 use Rattle.std.proofs.lemmas.Bool.{cases_lt, ltb-true}
 use Rattle.std.specs.Prelude.{nat_lt}
 use Rattle.ks_wire.specs.declared.values.Agg.{Agg}
 use Rattle.ks_wire.specs.declared.values.Delta.{Delta}
-use Rattle.ks_query.specs.Aggregates.{as_i64, plus, minus, moved, nothing_yet}
+use Rattle.ks_query.specs.Aggregates.{as_i64, moved}
 
 abbrev pub bits_of : ℤ → ℕ
 bits_of z = cast_unsigned w64 z

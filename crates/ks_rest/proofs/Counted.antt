@@ -1,5 +1,5 @@
 -- Groups counted: what deltas sum to, and what the query counts, both as bits.
-use Rattle.std.proofs.Common.{◌≡◌, ℕ, zero, suc, ◌+◌, ◌-◌, ◌%◌, ◌^◌, ◌<◌, ◌≤◌, Bool, true, false, cond, List, length, [], ◌∷◌, ◌++◌, map, Option, Some, None, fold, refl, sym, ap, ap₂, subst, ◌∙◌, arith, nat_eq}
+use Rattle.std.proofs.Common.{◌≡◌, ℕ, zero, suc, ◌+◌, ◌%◌, ◌^◌, ◌<◌, Bool, true, false, cond, List, [], ◌∷◌, Option, Some, None, fold, refl, sym, ap, ap₂, ◌∙◌, arith}
 use Rattle.std.specs.Prelude.{ℤ, option_map}
 use Rattle.std.specs.Ordering.{eq_by_cmp}
 use Rattle.std.specs.Cmp.Lexicographic.{nat_list_cmp_total}
@@ -7,14 +7,13 @@ use Rattle.std.specs.FinMap.{slice_cmp-IsAntisymmetric, nat_cmp-IsAntisymmetric}
 use Rattle.ks_row.specs.FieldKeys.{field_key}
 use Rattle.ks_expr.specs.Eval.{Row, same_bytes}
 use Rattle.ks_wire.specs.declared.values.Agg.{Agg}
-use Rattle.ks_wire.specs.declared.values.Delta.{Delta}
 use Rattle.ks_map.specs.FinMap as fin
 use Rattle.ks_map.specs.FinMap.{FinMap}
 use Rattle.ks_map.specs.Bytes.{by_bytes}
 use Rattle.ks_map.proofs.Tables.{equal, get-write}
-use Rattle.ks_query.specs.Streams.{Key, some_of, with_some}
+use Rattle.ks_query.specs.Streams.{Key, with_some}
 use Rattle.ks_query.specs.Query.{add_to, grouped_rows}
-use Rattle.ks_query.specs.Aggregates.{as_i64, amount_in, with_amount, nothing_yet, or_nothing, plus, moved, stream_add, share_under}
+use Rattle.ks_query.specs.Aggregates.{amount_in, with_amount, or_nothing, plus, moved, stream_add, share_under}
 use Rattle.ks_machine.specs.Messages.{Message}
 use Rattle.ks_machine.specs.Messages.Message.{Given, Keyed, Moved, Asked, Answered, Kept, KeptCount, KeptTime, KeptHash}
 use Rattle.ks_network.proofs.Sums.{sum_map}

@@ -1,16 +1,14 @@
 -- A table aggregate is the query's where its input is, once nothing waits.
-use Rattle.std.proofs.Common.{◌≡◌, ◌≢◌, ℕ, zero, suc, ◌+◌, ◌*◌, ◌%◌, ◌^◌, ◌<◌, ◌≤◌, Bool, true, false, cond, ◌&&◌, T, List, length, [], ◌∷◌, ◌++◌, map, Option, Some, None, fold, refl, sym, ap, ap₂, subst, ◌∙◌, arith, append-nil, nat_eq, ◌⊎◌}
-use Rattle.std.specs.Prelude.{ℤ, pos, option_map, option_and_then, is_none}
-use Rattle.std.specs.Ordering.{eq_by_cmp, is_eq, int_cmp}
-use Rattle.std.specs.Cmp.{tied_itself, int_cmp_total}
-use Rattle.std.specs.Cmp.Lexicographic.{nat_list_cmp_total, slice_cmp}
+use Rattle.std.proofs.Common.{◌≡◌, ℕ, zero, suc, ◌+◌, ◌%◌, ◌^◌, ◌<◌, ◌≤◌, Bool, true, false, cond, T, List, length, [], ◌∷◌, ◌++◌, map, Option, Some, None, fold, refl, sym, ap, ap₂, subst, ◌∙◌, arith, append-nil}
+use Rattle.std.specs.Prelude.{pos, option_map, option_and_then, is_none}
+use Rattle.std.specs.Cmp.Lexicographic.{nat_list_cmp_total}
 use Rattle.std.specs.FinMap.{slice_cmp-IsAntisymmetric, nat_cmp-IsAntisymmetric, int_cmp-IsAntisymmetric}
-use Rattle.std.specs.FinMap.Entries.{find, is_sorted, where_key, is_sorted-where_key, find-where_key, same_entries}
+use Rattle.std.specs.FinMap.Entries.{where_key, is_sorted-where_key, find-where_key, same_entries}
 use Rattle.ks_row.specs.declared.record.TaskId.{TaskId}
 use Rattle.ks_row.specs.Parts.{same_task}
 use Rattle.ks_expr.specs.Eval.{Row}
 use Rattle.ks_wire.specs.declared.values.Agg.{Agg}
-use Rattle.ks_topo.specs.Plan.{Plan, Kind}
+use Rattle.ks_topo.specs.Plan.{Plan}
 use Rattle.ks_topo.specs.Plan.Kind.{TableAggregate}
 use Rattle.ks_map.specs.FinMap as fin
 use Rattle.ks_map.specs.Bytes.{by_bytes}
@@ -18,10 +16,10 @@ use Rattle.ks_map.proofs.Tables.{equal}
 use Rattle.ks_query.specs.Streams.{Key, Input}
 use Rattle.ks_query.specs.Query.{query, grouped_rows, add_to}
 use Rattle.ks_query.specs.Aggregates.{agg_row, with_members, is_zero}
-use Rattle.ks_network.specs.Run.{RunState, Follows, received, is_from, same_sender}
-use Rattle.ks_network.proofs.Sums.{sum_map, sum_map-append, sum_map-same, times, steps, by_senders}
-use Rattle.ks_machine.specs.Messages.{Place, Stored, shown, Message, Item, Rules}
-use Rattle.ks_machine.specs.Messages.Stored.{OfRow, OfAgg}
+use Rattle.ks_network.specs.Run.{Follows, received, is_from, same_sender}
+use Rattle.ks_network.proofs.Sums.{sum_map, sum_map-append, times, by_senders}
+use Rattle.ks_machine.specs.Messages.{Place, shown, Message, Rules}
+use Rattle.ks_machine.specs.Messages.Stored.{OfAgg}
 use Rattle.ks_machine.specs.Tasks.{machine, inputs_of}
 use Rattle.ks_machine.specs.Rest.{IsDrained}
 use Rattle.ks_machine.proofs.Names.{names}
@@ -29,7 +27,7 @@ use Rattle.ks_rest.specs.AtRest.{IsQuery}
 use Rattle.ks_rest.specs.Groups.{sum_of_deltas, rows_of}
 use Rattle.ks_rest.specs.States.{State, state_of, row_at, home_task}
 use Rattle.ks_rest.specs.Taken.{messages, taken_at}
-use Rattle.ks_rest.proofs.AtRest.{everywhere, follows, shown_sorted, shown_found, where_sum, swap_sums}
+use Rattle.ks_rest.proofs.AtRest.{follows, shown_sorted, shown_found, where_sum, swap_sums}
 use Rattle.ks_rest.proofs.Bits.{of_bits, of_sums, bits_of, bits_back}
 use Rattle.ks_rest.proofs.Counted.{counted, group_counted, no_rows_no_amount, row_member, row_amount, sum_of_deltas-is}
 use Rattle.ks_rest.proofs.Each.{Each, each_nothing, each_first, each_parts}

@@ -1,5 +1,5 @@
 -- Once nothing waits, each stream's items were all passed on.
-use Rattle.std.proofs.Common.{◌≡◌, ◌≢◌, ℕ, zero, suc, ◌+◌, ◌<◌, ◌≤◌, Bool, true, false, cond, ◌&&◌, List, [], ◌∷◌, ◌++◌, map, Option, Some, None, refl, sym, ap, ap₂, subst, ◌∙◌, arith, nat_eq, ne_eqb, ⊎_elim, ◌⊎◌, inl, inr, length, length-append, append-nil, append_assoc}
+use Rattle.std.proofs.Common.{◌≡◌, ◌≢◌, ℕ, zero, suc, ◌+◌, ◌<◌, ◌≤◌, true, false, cond, ◌&&◌, List, [], ◌∷◌, ◌++◌, map, Option, Some, None, refl, sym, ap, ap₂, subst, ◌∙◌, arith, nat_eq, ne_eqb, ⊎_elim, ◌⊎◌, inl, inr, length, length-append, append-nil, append_assoc}
 use Rattle.std.specs.Prelude.{option_map, option_and_then}
 use Rattle.std.specs.List.{filter}
 use Rattle.std.proofs.lemmas.Bool.Decides.{Decides-eqb}
@@ -9,13 +9,13 @@ use Rattle.ks_topo.specs.declared.node.Topic.{Topic}
 use Rattle.ks_topo.specs.declared.node.Topic.TheVariants.{Input as InputTopic}
 use Rattle.ks_topo.specs.Plan.{Plan, Kind}
 use Rattle.ks_topo.specs.Plan.Kind.{StreamSource, TableSource, StreamFilter, TableFilter, StreamMap, TableMap, KeySelected, StreamAggregate, TableAggregate, Windowed, KeyJoin, ForeignKeyJoin}
-use Rattle.ks_topo.specs.Layout.{same_topic, is_read, at, up_to}
-use Rattle.ks_query.specs.Streams.{Key, Input, StreamItem, some_of, with_some, item_of, filter_item, map_item, rekey_item}
+use Rattle.ks_topo.specs.Layout.{same_topic, is_read, up_to}
+use Rattle.ks_query.specs.Streams.{Input, StreamItem, some_of, with_some, item_of, filter_item, map_item, rekey_item}
 use Rattle.ks_query.specs.Query.{Answers, with_number, of_topic, answer_node, answer_nodes, no_answers, query}
 use Rattle.ks_network.specs.Run.{Taken, Follows, received}
 use Rattle.ks_network.proofs.Runs.{Follows-run, received_all}
 use Rattle.ks_network.proofs.Sums.{sum_map, sum_map-append, sum_map-add, sum_map-same, sum_map-zero, sum_taken, times, by_senders}
-use Rattle.ks_machine.specs.Messages.{Place, same_place, Message, Item, Rules}
+use Rattle.ks_machine.specs.Messages.{Place, same_place, Item, Rules}
 use Rattle.ks_machine.specs.Messages.Message.{Given}
 use Rattle.ks_machine.specs.Step.{Arrival, arrived, item_given, item_at, items_from}
 use Rattle.ks_machine.specs.Tasks.{machine, stands_at, inputs_of, item_of_input, part_of_key}
@@ -23,7 +23,7 @@ use Rattle.ks_machine.specs.Rest.{IsDrained}
 use Rattle.ks_machine.proofs.Names.{names}
 use Rattle.ks_rest.specs.States.{State, state_of}
 use Rattle.ks_rest.specs.Streams.{item_of_step}
-use Rattle.ks_rest.proofs.Fits.{Fits, NodeFits, Sourced, each_at, stands_after}
+use Rattle.ks_rest.proofs.Fits.{Fits, NodeFits, each_at, stands_after}
 use Rattle.ks_rest.proofs.Inputs.{inputs_alone}
 use Rattle.ks_rest.proofs.Mixed.{Stands_at}
 use Rattle.ks_rest.proofs.Placed.{topic-is}

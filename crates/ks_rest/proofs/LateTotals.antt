@@ -1,14 +1,12 @@
 -- Late pairs of all windows together: once nothing waits they are the run's late count.
-use Rattle.std.proofs.Common.{◌≡◌, ◌≢◌, ℕ, zero, suc, ◌+◌, ◌*◌, ◌<◌, ◌≤◌, Bool, true, false, cond, ◌&&◌, T, List, length, length-append, append_assoc, [], ◌∷◌, ◌++◌, map, get_or, Option, Some, None, fold, refl, sym, ap, ap₂, subst, ◌∙◌, arith}
+use Rattle.std.proofs.Common.{◌≡◌, ℕ, zero, suc, ◌+◌, ◌*◌, ◌<◌, ◌≤◌, Bool, true, false, cond, T, List, length, length-append, append_assoc, [], ◌∷◌, ◌++◌, map, Option, Some, None, fold, refl, sym, ap, ap₂, subst, ◌∙◌, arith}
 use Rattle.std.specs.Prelude.{option_map, is_some}
-use Rattle.std.specs.declared.cmp.Ordering.{Ordering}
 use Rattle.std.specs.Ordering.{eq_by_cmp, is_eq}
 use Rattle.std.specs.Cmp.{tied_itself}
 use Rattle.std.specs.FinMap.Entries.{find, is_sorted}
 use Rattle.ks_row.specs.declared.record.TaskId.{TaskId}
 use Rattle.ks_row.specs.Parts.{same_task}
 use Rattle.ks_expr.specs.Eval.{Row}
-use Rattle.ks_wire.specs.declared.values.Agg.{Agg}
 use Rattle.ks_topo.specs.Plan.{Plan, Kind, Window, is_windowed}
 use Rattle.ks_topo.specs.Plan.Kind.{StreamSource, TableSource, StreamFilter, TableFilter, StreamMap, TableMap, KeySelected, StreamAggregate, TableAggregate, Windowed, KeyJoin, ForeignKeyJoin}
 use Rattle.ks_topo.specs.Layout.{kind_at}
@@ -24,18 +22,17 @@ use Rattle.ks_network.proofs.Runs.{Follows-run}
 use Rattle.ks_network.proofs.Sums.{sum_map, sum_map-add, sum_map-same, sum_map-zero}
 use Rattle.ks_machine.specs.Messages.{Place, Item, Store, Rules}
 use Rattle.ks_machine.specs.Windowed.{Counted, count_window, count_group, count_item, greater, time_changes}
-use Rattle.ks_machine.specs.Step.{Arrival, items_from, counted_at, late_over, whole_step}
+use Rattle.ks_machine.specs.Step.{Arrival, items_from, counted_at, late_over}
 use Rattle.ks_machine.specs.Tasks.{machine, step, inputs_of}
 use Rattle.ks_machine.specs.Rest.{IsDrained}
 use Rattle.ks_machine.proofs.Names.{names}
 use Rattle.ks_rest.specs.States.{State, state_of}
-use Rattle.ks_rest.specs.Windows.{late_starts, late_of_group, late_of_item, late_at, counting, late_pairs, starts_of, pairs_of_group, late_of_windows, late_of_nodes}
-use Rattle.ks_rest.proofs.AtRest.{swap_sums}
+use Rattle.ks_rest.specs.Windows.{late_starts, late_of_group, late_of_item, late_at, counting, late_pairs, starts_of, late_of_windows, late_of_nodes}
 use Rattle.ks_rest.proofs.Counted.{counted}
 use Rattle.ks_rest.proofs.Each.{Each, each_nothing, each_first, each_parts}
-use Rattle.ks_rest.proofs.Fits.{Fits, EachFits, each_at, stands_within, stands_after}
+use Rattle.ks_rest.proofs.Fits.{Fits, each_at, stands_within, stands_after}
 use Rattle.ks_rest.proofs.Mixed.{Stands_at}
-use Rattle.ks_rest.proofs.WindowGroups.{window_total, window_same, group_windows, own_windows, brought, share_of_step, all_shares, kind_is}
+use Rattle.ks_rest.proofs.WindowGroups.{window_total, window_same, group_windows, own_windows, brought, all_shares, kind_is}
 use Rattle.ks_rest.proofs.WindowsRest.{shares_are, query_is}
 
 -- ---- a key among sorted keys

@@ -1,17 +1,17 @@
 -- Tables made plainly rest at the query, node by node.
-use Rattle.std.proofs.Common.{◌≡◌, ℕ, zero, suc, ◌+◌, ◌<◌, ◌≤◌, ◌^◌, Bool, true, false, cond, ◌&&◌, List, length, [], ◌∷◌, ◌++◌, get_or, Option, fold, refl, sym, ap, ap₂, subst, ◌∙◌, arith, append-nil, append_assoc, length-append, ⊎_elim, ◌⊎◌, inl, inr}
+use Rattle.std.proofs.Common.{◌≡◌, ℕ, zero, suc, ◌+◌, ◌<◌, ◌^◌, Bool, true, false, List, length, [], ◌∷◌, ◌++◌, get_or, Option, fold, refl, sym, ap, subst, ◌∙◌, arith, append-nil, append_assoc, length-append, ⊎_elim}
 use Rattle.std.proofs.lemmas.Bool.{and_parts, cases_lt}
 use Rattle.std.proofs.lemmas.List.Sums.{fold-append}
 use Rattle.ks_row.specs.declared.record.TaskId.{TaskId}
 use Rattle.ks_topo.specs.Plan.{Plan, Kind}
 use Rattle.ks_topo.specs.Plan.Kind.{StreamSource, TableSource, StreamFilter, TableFilter, StreamMap, TableMap, KeySelected, StreamAggregate, TableAggregate, Windowed, KeyJoin, ForeignKeyJoin}
-use Rattle.ks_query.specs.Streams.{Key, Input}
+use Rattle.ks_query.specs.Streams.{Input}
 use Rattle.ks_machine.specs.Messages.{Place, Rules}
 use Rattle.ks_machine.specs.Rest.{IsDrained}
-use Rattle.ks_rest.specs.AtRest.{IsQuery, made_plainly, plain_nodes, IsPlain}
+use Rattle.ks_rest.specs.AtRest.{IsQuery, made_plainly, IsPlain}
 use Rattle.ks_rest.specs.States.{state_of}
 use Rattle.ks_rest.proofs.AtRest.{everywhere, source_is_query, filter_is_query, map_is_query, join_is_query}
-use Rattle.ks_rest.proofs.Fits.{Fits, NodeFits, EachFits, each_at, stands_after, stands_within}
+use Rattle.ks_rest.proofs.Fits.{Fits, NodeFits, each_at, stands_after, stands_within}
 use Rattle.ks_rest.proofs.StreamsRest.{stream_rests}
 use Rattle.ks_rest.proofs.GroupsRest.{group_rests}
 use Rattle.ks_rest.proofs.Mixed.{Stands_at}

@@ -1,47 +1,44 @@
 -- A table aggregate's receiving part: in every state of every run, the stored group is the sum of the deltas that were taken.
-use Rattle.std.proofs.Common.{◌≡◌, ◌≢◌, ℕ, zero, suc, ◌+◌, ◌-◌, ◌%◌, ◌^◌, ◌<◌, ◌≤◌, Bool, true, false, cond, ◌&&◌, List, length, [], ◌∷◌, ◌++◌, map, Option, Some, None, fold, refl, sym, ap, ap₂, subst, ◌∙◌, arith, append-nil, length-append, nat_eq, ⊎_elim, ◌⊎◌, inl, inr}
+use Rattle.std.proofs.Common.{◌≡◌, ℕ, ◌+◌, ◌%◌, ◌^◌, ◌<◌, ◌≤◌, Bool, true, false, cond, List, length, [], ◌∷◌, ◌++◌, Option, Some, None, refl, sym, ap, ap₂, subst, ◌∙◌, arith, append-nil, length-append}
 use Rattle.std.specs.Prelude.{ℤ, pos, option_map, is_none}
-use Rattle.std.specs.List.{filter}
 use Rattle.std.proofs.lemmas.Bool.Decides.{Decides-eqb}
 use Rattle.std.proofs.lemmas.List.Sums.{fold-append}
-use Rattle.std.specs.Ordering.{eq_by_cmp, int_cmp}
+use Rattle.std.specs.Ordering.{eq_by_cmp}
 use Rattle.std.specs.Cmp.Lexicographic.{nat_list_cmp_total}
 use Rattle.std.specs.FinMap.{slice_cmp-IsAntisymmetric, nat_cmp-IsAntisymmetric, int_cmp-IsAntisymmetric}
 use Rattle.ks_row.specs.declared.record.TaskId.{TaskId}
 use Rattle.ks_row.specs.Parts.{same_task}
 use Rattle.ks_wire.specs.declared.values.Agg.{Agg}
-use Rattle.ks_wire.specs.declared.values.Delta.{Delta}
 use Rattle.ks_topo.specs.declared.node.Topic.{Topic}
-use Rattle.ks_topo.specs.declared.node.Topic.TheVariants.{Input as InputTopic, Repartition}
-use Rattle.ks_topo.specs.Plan.{Plan, Kind}
+use Rattle.ks_topo.specs.declared.node.Topic.TheVariants.{Repartition}
+use Rattle.ks_topo.specs.Plan.{Plan}
 use Rattle.ks_topo.specs.Plan.Kind.{TableAggregate}
-use Rattle.ks_topo.specs.Layout.{same_topic, is_read, sub_of, parts_of_topic}
+use Rattle.ks_topo.specs.Layout.{same_topic, sub_of}
 use Rattle.ks_map.specs.FinMap as fin
 use Rattle.ks_map.specs.FinMap.{FinMap}
-use Rattle.ks_map.specs.Table.{write, total, sum_of}
+use Rattle.ks_map.specs.Table.{total, sum_of}
 use Rattle.ks_map.specs.Bytes.{by_bytes}
-use Rattle.ks_map.proofs.Tables.{equal, get-write, write_same}
+use Rattle.ks_map.proofs.Tables.{equal, get-write}
 use Rattle.ks_query.specs.Streams.{Key, Input, StreamItem}
-use Rattle.ks_query.specs.Aggregates.{nothing_yet, or_nothing, with_members, is_zero, moved, table_apply, share_under}
-use Rattle.ks_network.specs.Run.{Taken, RunState, Follows, sent_to, local, received, sent, take_first, initial, run, same_channel}
+use Rattle.ks_query.specs.Aggregates.{nothing_yet, or_nothing, with_members, is_zero, moved, table_apply}
+use Rattle.ks_network.specs.Run.{Taken, RunState, Follows, received, take_first, initial, run}
 use Rattle.ks_network.proofs.Runs.{Follows-initial, Follows-step, kept_by_run}
-use Rattle.ks_network.proofs.Sums.{sum_map, sum_map-append, sum_map-same, Begins, steps, sum_taken, by_senders}
-use Rattle.ks_machine.specs.Messages.{Place, same_place, Stored, shown, agg_of, Message, Item, Store, Rules}
-use Rattle.ks_machine.specs.Messages.Stored.{OfRow, OfAgg}
+use Rattle.ks_network.proofs.Sums.{sum_map, sum_taken, by_senders}
+use Rattle.ks_machine.specs.Messages.{Place, same_place, Stored, agg_of, Message, Item, Store, Rules}
+use Rattle.ks_machine.specs.Messages.Stored.{OfAgg}
 use Rattle.ks_machine.specs.Messages.Message.{Given, Keyed, Moved, Asked, Answered, Kept, KeptCount, KeptTime, KeptHash}
 use Rattle.ks_machine.specs.Step.{Arrival, arrived, step_key, applied, whole_step, items_from, olds_at, news_at, tables_after}
-use Rattle.ks_machine.specs.Tasks.{machine, step, stands_at, inputs_of, item_of_input, empty_store}
+use Rattle.ks_machine.specs.Tasks.{machine, step, inputs_of}
 use Rattle.ks_machine.proofs.Names.{names, same_task-is, same_place-is}
 use Rattle.ks_rest.specs.Taken.{messages, taken_at}
 use Rattle.ks_rest.specs.Groups.{one_moved, sum_of_deltas}
 use Rattle.ks_rest.proofs.Bits.{bits_of, of_bits, bits_back, of_sums}
 use Rattle.ks_rest.proofs.Counted.{sum_of_deltas-is}
-use Rattle.ks_rest.proofs.Fits.{Fits}
 use Rattle.ks_rest.proofs.Follow.{value_is}
 use Rattle.ks_rest.proofs.Mixed.{messages-append, Stands_at}
 use Rattle.ks_rest.proofs.Placed.{topic-is}
-use Rattle.ks_rest.proofs.Regrouped.{members_in, total_in, row_bits, delta_means, share-is, share, group_part, at, RowsSent, rows_sent}
-use Rattle.ks_rest.proofs.Sender.{Sender, Stands, member, amount}
+use Rattle.ks_rest.proofs.Regrouped.{members_in, total_in, row_bits, share, group_part, at, rows_sent}
+use Rattle.ks_rest.proofs.Sender.{member, amount}
 use Rattle.ks_rest.proofs.Senders.{distinct, senders_of, steps_of, steps_of-is, members_or_none, steps_together}
 use Rattle.ks_rest.proofs.Sources.{taken-append}
 

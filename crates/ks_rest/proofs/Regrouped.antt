@@ -1,40 +1,37 @@
 -- A table aggregate's sending part, inside any task: in every state of every run, what a task has sent to a partition of its topic
 -- stands for the rows that its input has there.
-use Rattle.std.proofs.Common.{◌≡◌, ◌≢◌, ℕ, zero, suc, ◌+◌, ◌-◌, ◌%◌, ◌^◌, ◌<◌, ◌≤◌, Bool, true, false, cond, ◌&&◌, List, length, [], ◌∷◌, ◌++◌, map, Option, Some, None, fold, refl, sym, ap, ap₂, subst, ◌∙◌, arith, append-nil, append_assoc, nat_eq}
-use Rattle.std.specs.Prelude.{ℤ, pos}
+use Rattle.std.proofs.Common.{◌≡◌, ℕ, suc, ◌-◌, ◌%◌, ◌^◌, Bool, true, false, cond, ◌&&◌, List, [], ◌∷◌, ◌++◌, Option, Some, None, refl, sym, ap, ap₂, subst, ◌∙◌, arith, append-nil, nat_eq}
+use Rattle.std.specs.Prelude.{ℤ}
 use Rattle.std.proofs.lemmas.Bool.{and_parts}
 use Rattle.std.proofs.lemmas.Bool.Decides.{Decides-eqb}
-use Rattle.std.specs.Ordering.{eq_by_cmp, int_cmp}
+use Rattle.std.specs.Ordering.{eq_by_cmp}
 use Rattle.std.specs.Cmp.Lexicographic.{nat_list_cmp_total}
 use Rattle.std.specs.FinMap.{slice_cmp-IsAntisymmetric, nat_cmp-IsAntisymmetric, int_cmp-IsAntisymmetric}
 use Rattle.ks_expr.specs.Eval.{Row}
 use Rattle.ks_query.specs.Streams.{Key}
-use Rattle.ks_topo.specs.Plan.{Plan, Kind}
+use Rattle.ks_topo.specs.Plan.{Plan}
 use Rattle.ks_topo.specs.Plan.Kind.{TableAggregate}
 use Rattle.ks_topo.specs.declared.node.Topic.{Topic}
 use Rattle.ks_topo.specs.Layout.{same_topic, parts_of_topic}
 use Rattle.ks_topo.specs.declared.node.Topic.TheVariants.{Repartition}
 use Rattle.ks_map.specs.FinMap as fin
 use Rattle.ks_map.specs.FinMap.{FinMap}
-use Rattle.ks_map.specs.Table.{write}
 use Rattle.ks_map.specs.Bytes.{by_bytes}
 use Rattle.ks_query.specs.Streams.{StreamItem}
-use Rattle.ks_wire.specs.declared.values.Delta.{Delta}
 use Rattle.ks_row.specs.Rows.{field_of}
 use Rattle.ks_query.specs.Aggregates.{as_i64, int_of, amount_in, with_amount, deltas_of, same_share, share_under}
 use Rattle.ks_row.specs.FieldKeys.{field_key}
 use Rattle.ks_rest.proofs.Bits.{bits_of, bits_below, as_i64_again, delta_members, delta_amount}
-use Rattle.ks_network.specs.Run.{Machine, Outcome, Taken, RunState, sent_to, local, run, sent}
+use Rattle.ks_network.specs.Run.{Outcome, Taken, sent_to, local, sent}
 use Rattle.ks_row.specs.declared.record.TaskId.{TaskId}
-use Rattle.ks_machine.specs.Messages.{Place, same_place, Stored, shown, Message, Item, Store, Rules}
-use Rattle.ks_machine.specs.Messages.Message.{Given, Keyed, Moved, Asked, Answered, Kept, KeptCount, KeptTime, KeptHash}
-use Rattle.ks_machine.specs.Step.{Arrival, Sent, Values, row_in, step_key, sends_at, regroup_rows, send_deltas, over_nodes, whole_step, olds_at, news_at, items_from, tables_after}
-use Rattle.ks_machine.specs.Tasks.{machine, sent_item, step, empty_store}
+use Rattle.ks_machine.specs.Messages.{Place, Stored, shown, Message, Item, Store, Rules}
+use Rattle.ks_machine.specs.Messages.Message.{Moved}
+use Rattle.ks_machine.specs.Step.{Arrival, Values, row_in, step_key, sends_at, send_deltas, whole_step, olds_at, news_at, items_from, tables_after}
+use Rattle.ks_machine.specs.Tasks.{machine, step, empty_store}
 use Rattle.ks_map.proofs.Tables.{equal, total-empty}
-use Rattle.ks_network.proofs.Sums.{sum_map, Begins, steps, kept_from_start}
-use Rattle.ks_network.proofs.Runs.{after, nothing_made, sent_to-append, Follows-run}
-use Rattle.ks_machine.proofs.Names.{names}
-use Rattle.ks_rest.proofs.Mixed.{messages-append, picked, picked-is, picked-append, picked_none, own_topic, avoids_sends, apart, made_is, Stands_at}
+use Rattle.ks_network.proofs.Sums.{Begins, steps, kept_from_start}
+use Rattle.ks_network.proofs.Runs.{after, sent_to-append}
+use Rattle.ks_rest.proofs.Mixed.{messages-append, picked, picked_none, own_topic, avoids_sends, apart, made_is, Stands_at}
 use Rattle.ks_rest.specs.Taken.{messages}
 use Rattle.ks_rest.proofs.Sender.{Meaning, Sender, Sender-step, Stands, member, amount, effect_of, deltas_at, leaves_at, joins_at}
 

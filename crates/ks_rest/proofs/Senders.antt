@@ -1,10 +1,10 @@
 -- The senders of a run, each once, and what they did together.
-use Rattle.std.proofs.Common.{◌≡◌, ◌≢◌, ℕ, zero, suc, ◌+◌, ◌*◌, ◌%◌, ◌^◌, ◌<◌, ◌≤◌, Bool, true, false, cond, ◌&&◌, List, length, [], ◌∷◌, ◌++◌, map, Option, Some, None, refl, sym, ap, ap₂, subst, ◌∙◌, arith, nat_eq, ne_eqb, ⊎_elim, ◌⊎◌, inl, inr}
-use Rattle.std.proofs.lemmas.Bool.{and_from, eqb-false}
+use Rattle.std.proofs.Common.{◌≡◌, ℕ, ◌+◌, ◌*◌, ◌<◌, ◌≤◌, Bool, true, false, cond, ◌&&◌, List, length, [], ◌∷◌, ◌++◌, map, Option, Some, refl, sym, ap, ◌∙◌, arith, nat_eq, ne_eqb, ◌⊎◌, inl, inr}
+use Rattle.std.proofs.lemmas.Bool.{eqb-false}
 use Rattle.std.proofs.lemmas.Bool.Decides.{Decides-eqb}
-use Rattle.ks_network.specs.Run.{Machine, HasNames, Taken, same_sender, same_channel, is_from, received}
+use Rattle.ks_network.specs.Run.{Machine, HasNames, Taken, same_sender, is_from, received}
 use Rattle.ks_network.proofs.Runs.{same_sender-is, same_sender_refl}
-use Rattle.ks_network.proofs.Sums.{sum_map, sum_map-add, sum_map-same, sum_map-zero, sum_map-append, steps, times}
+use Rattle.ks_network.proofs.Sums.{sum_map, sum_map-add, sum_map-zero, sum_map-append, steps, times}
 
 module _ {Task Place Store Item : Type 0} (m : Machine Task Place Store Item) where
   -- each member once

@@ -1,11 +1,10 @@
 -- Table aggregates, sender by sender: what deltas sum to is what the rows of now do, and each beginning of them is that of some rows.
-use Rattle.std.proofs.Common.{◌≡◌, ℕ, zero, suc, ◌+◌, ◌-◌, ◌%◌, ◌^◌, ◌<◌, ◌≤◌, Bool, true, false, cond, List, length, [], ◌∷◌, ◌++◌, map, Option, Some, None, refl, sym, ap, ap₂, subst, ◌∙◌, arith, append_assoc}
-use Rattle.std.specs.Prelude.{ℤ, pos, negsuc}
+use Rattle.std.proofs.Common.{◌≡◌, ℕ, ◌+◌, ◌%◌, ◌^◌, ◌<◌, ◌≤◌, true, false, cond, List, length, [], ◌∷◌, ◌++◌, map, Option, Some, refl, sym, ap, ap₂, subst, ◌∙◌, arith, append_assoc}
+use Rattle.std.specs.Prelude.{pos}
 use Rattle.std.specs.Int.{w64, IsNonNegative}
 use Rattle.std.proofs.lemmas.Int.{to_z_pos}
 use Rattle.ks_row.specs.declared.record.TaskId.{TaskId}
-use Rattle.ks_wire.specs.declared.values.Agg.{Agg}
-use Rattle.ks_topo.specs.Plan.{Plan, Kind}
+use Rattle.ks_topo.specs.Plan.{Plan}
 use Rattle.ks_topo.specs.Plan.Kind.{TableAggregate}
 use Rattle.ks_map.specs.FinMap as fin
 use Rattle.ks_map.specs.FinMap.{FinMap}
@@ -14,11 +13,11 @@ use Rattle.ks_map.specs.Bytes.{by_bytes}
 use Rattle.ks_query.specs.Streams.{Key, Input}
 use Rattle.ks_network.specs.Run.{Machine, Taken, RunState, Follows, received, sent, local}
 use Rattle.ks_network.proofs.Sums.{sum_map, steps}
-use Rattle.ks_machine.specs.Messages.{Place, Stored, shown, Message, Item, Store, Rules}
+use Rattle.ks_machine.specs.Messages.{Place, Stored, shown, Item, Store, Rules}
 use Rattle.ks_machine.specs.Tasks.{machine, inputs_of, empty_store}
 use Rattle.ks_rest.specs.Groups.{sum_of_deltas, sum_of_group, rows_of, IsOfRows}
 use Rattle.ks_rest.specs.Taken.{messages}
-use Rattle.ks_rest.proofs.Bits.{of_bits, of_sums, bits_of, bits_back}
+use Rattle.ks_rest.proofs.Bits.{of_bits, of_sums}
 use Rattle.ks_rest.proofs.Counted.{sum_of_deltas-is, sum_of_group-is, row_member, row_amount}
 use Rattle.ks_rest.proofs.Mixed.{messages-append, Stands_at}
 use Rattle.ks_rest.proofs.Received.{group_place, sum_of-le, member-le, none_no_amount}

@@ -1,10 +1,7 @@
 -- A stream aggregate behind a repartition topic: what its tasks stored and what waits is what was passed on.
-use Rattle.std.proofs.Common.{◌≡◌, ◌≢◌, ℕ, zero, suc, ◌+◌, ◌%◌, ◌^◌, ◌<◌, ◌≤◌, Bool, true, false, cond, ◌&&◌, ◌||◌, List, length, [], ◌∷◌, ◌++◌, map, Option, Some, None, fold, refl, sym, ap, ap₂, subst, ◌∙◌, arith, append-nil, nat_eq, ⊎_elim, ◌⊎◌, inl, inr}
-use Rattle.std.specs.Prelude.{ℤ, option_map, is_none}
-use Rattle.std.specs.List.{flat_map}
+use Rattle.std.proofs.Common.{◌≡◌, ℕ, ◌+◌, Bool, true, false, cond, List, [], ◌∷◌, ◌++◌, map, Option, Some, None, fold, refl, sym, ap, ap₂, subst, ◌∙◌, arith, append-nil}
+use Rattle.std.specs.Prelude.{option_map, is_none}
 use Rattle.std.proofs.lemmas.Bool.Decides.{Decides-eqb}
-use Rattle.std.proofs.lemmas.Bool.{eqb-false}
-use Rattle.std.proofs.lemmas.List.Sums.{fold-append}
 use Rattle.std.specs.Ordering.{eq_by_cmp}
 use Rattle.std.specs.FinMap.{slice_cmp-IsAntisymmetric, nat_cmp-IsAntisymmetric}
 use Rattle.ks_row.specs.declared.record.TaskId.{TaskId}
@@ -13,39 +10,36 @@ use Rattle.ks_expr.specs.Eval.{Row}
 use Rattle.ks_wire.specs.declared.values.Agg.{Agg}
 use Rattle.ks_topo.specs.declared.node.Topic.{Topic}
 use Rattle.ks_topo.specs.declared.node.Topic.TheVariants.{Repartition}
-use Rattle.ks_topo.specs.Plan.{Plan, Kind}
+use Rattle.ks_topo.specs.Plan.{Plan}
 use Rattle.ks_topo.specs.Plan.Kind.{StreamAggregate}
-use Rattle.ks_topo.specs.Layout.{same_topic, sub_of, parts_of}
+use Rattle.ks_topo.specs.Layout.{same_topic, parts_of}
 use Rattle.ks_map.specs.FinMap as fin
 use Rattle.ks_map.specs.FinMap.{FinMap}
 use Rattle.ks_map.specs.Bytes.{by_bytes}
 use Rattle.ks_map.proofs.Tables.{equal}
 use Rattle.ks_query.specs.Streams.{Key, Input, StreamItem, some_of, with_some, group_key, grouped}
 use Rattle.ks_query.specs.Query.{add_to, item_rows}
-use Rattle.ks_query.specs.Aggregates.{amount_in, with_amount, stream_add}
-use Rattle.ks_network.specs.Run.{Machine, Outcome, Taken, RunState, Follows, sent_to, local, received, sent, take_first, initial, run, is_from, same_sender}
-use Rattle.ks_network.proofs.Runs.{after, nothing_made, sent_to-append, Follows-run, kept_by_run}
-use Rattle.ks_network.proofs.Sums.{sum_map, sum_map-append, sum_map-add, sum_map-same, sum_map-zero, times, by_senders}
+use Rattle.ks_query.specs.Aggregates.{amount_in, stream_add}
+use Rattle.ks_network.specs.Run.{Taken, RunState, Follows, sent_to, take_first, initial, run}
+use Rattle.ks_network.proofs.Runs.{kept_by_run}
+use Rattle.ks_network.proofs.Sums.{sum_map, sum_map-append}
 use Rattle.ks_machine.specs.Messages.{Place, same_place, Stored, agg_of, Message, Item, Store, Rules}
-use Rattle.ks_machine.specs.Messages.Stored.{OfRow, OfAgg}
+use Rattle.ks_machine.specs.Messages.Stored.{OfAgg}
 use Rattle.ks_machine.specs.Messages.Message.{Given, Keyed, Moved, Asked, Answered, Kept, KeptCount, KeptTime, KeptHash}
-use Rattle.ks_machine.specs.Step.{Arrival, Sent, arrived, step_key, added, item_keyed, regroup, keyed_to, sends_at, whole_step, items_from, olds_at, news_at}
-use Rattle.ks_machine.specs.Tasks.{machine, step, inputs_of, empty_store}
-use Rattle.ks_machine.proofs.Names.{names, same_task-is, same_place-is}
+use Rattle.ks_machine.specs.Step.{Arrival, arrived, step_key, added, item_keyed, regroup, keyed_to, whole_step, items_from, olds_at}
+use Rattle.ks_machine.specs.Tasks.{machine, step, inputs_of}
+use Rattle.ks_machine.proofs.Names.{same_task-is, same_place-is}
 use Rattle.ks_rest.specs.Groups.{place_of}
 use Rattle.ks_rest.specs.States.{home_task}
-use Rattle.ks_rest.specs.Streams.{item_of_step, passed_on, is_among, with_task, takers, all_waiting, one_joined}
+use Rattle.ks_rest.specs.Streams.{item_of_step, passed_on, all_waiting, one_joined}
 use Rattle.ks_rest.specs.Taken.{messages, taken_at}
-use Rattle.ks_rest.proofs.AtRest.{swap_sums}
-use Rattle.ks_rest.proofs.Bits.{bits_of, of_sums}
 use Rattle.ks_rest.proofs.Counted.{counted, one_added, add_counted}
 use Rattle.ks_rest.proofs.Follow.{value_is}
-use Rattle.ks_rest.proofs.Mixed.{messages-append, picked, made_is, step_sends_own, apart, Stands_at}
+use Rattle.ks_rest.proofs.Mixed.{picked, made_is, step_sends_own, apart, Stands_at}
 use Rattle.ks_rest.proofs.Passing as passing
 use Rattle.ks_rest.proofs.Placed.{topic-is}
-use Rattle.ks_rest.proofs.Received.{at_key, node_step, no_inputs, nothing_begins, messages_sum, taken_sum, either_same}
+use Rattle.ks_rest.proofs.Received.{at_key, node_step, no_inputs, messages_sum, taken_sum, either_same}
 use Rattle.ks_rest.proofs.Regrouped.{row_bits}
-use Rattle.ks_rest.proofs.Senders.{one_gives}
 use Rattle.ks_rest.proofs.Sources.{taken-append}
 
 -- ---- shares of a group, of pairs, of records and of items

@@ -1,7 +1,7 @@
 -- A stream aggregate without a repartition topic: its task stores what was passed on.
-use Rattle.std.proofs.Common.{◌≡◌, ◌≢◌, ℕ, zero, suc, ◌+◌, ◌<◌, ◌≤◌, Bool, true, false, cond, ◌&&◌, List, length, length-append, [], ◌∷◌, ◌++◌, get_or, Option, Some, None, fold, refl, sym, ap, ap₂, subst, ◌∙◌, arith, append-nil, nat_eq, ⊎_elim, ◌⊎◌, inl, inr}
+use Rattle.std.proofs.Common.{◌≡◌, ℕ, zero, suc, ◌+◌, ◌<◌, Bool, true, false, cond, List, length, [], ◌∷◌, ◌++◌, get_or, Option, Some, None, fold, refl, sym, ap, ap₂, subst, ◌∙◌, arith, nat_eq, ⊎_elim, inl}
 use Rattle.std.specs.Prelude.{option_map, option_and_then, is_none}
-use Rattle.std.proofs.lemmas.Bool.{cases_lt, eqb-false}
+use Rattle.std.proofs.lemmas.Bool.{eqb-false}
 use Rattle.std.proofs.lemmas.Bool.Decides.{Decides-eqb}
 use Rattle.std.specs.Ordering.{eq_by_cmp}
 use Rattle.std.specs.FinMap.{slice_cmp-IsAntisymmetric, nat_cmp-IsAntisymmetric}
@@ -9,7 +9,6 @@ use Rattle.ks_row.specs.declared.record.TaskId.{TaskId}
 use Rattle.ks_row.specs.Parts.{same_task}
 use Rattle.ks_expr.specs.Eval.{Row, holds, project}
 use Rattle.ks_wire.specs.declared.values.Agg.{Agg}
-use Rattle.ks_topo.specs.declared.node.Topic.{Topic}
 use Rattle.ks_topo.specs.declared.node.Topic.TheVariants.{Input as InputTopic}
 use Rattle.ks_topo.specs.Plan.{Plan, Kind}
 use Rattle.ks_topo.specs.Plan.Kind.{StreamSource, TableSource, StreamFilter, TableFilter, StreamMap, TableMap, KeySelected, StreamAggregate, TableAggregate, Windowed, KeyJoin, ForeignKeyJoin}
@@ -17,24 +16,24 @@ use Rattle.ks_topo.specs.Layout.{same_topic}
 use Rattle.ks_map.specs.FinMap as fin
 use Rattle.ks_map.specs.Bytes.{by_bytes}
 use Rattle.ks_map.proofs.Tables.{equal}
-use Rattle.ks_query.specs.Streams.{Key, Input, StreamItem, filter_item, map_item, group_key}
+use Rattle.ks_query.specs.Streams.{Key, Input, StreamItem, filter_item, map_item}
 use Rattle.ks_query.specs.Query.{with_number}
 use Rattle.ks_query.specs.Aggregates.{amount_in, stream_add}
 use Rattle.ks_network.specs.Run.{Taken, RunState, take_first, initial, run}
 use Rattle.ks_network.proofs.Runs.{kept_by_run}
 use Rattle.ks_network.proofs.Sums.{sum_map, sum_map-append}
 use Rattle.ks_machine.specs.Messages.{Place, Stored, agg_of, Message, Item, Store, Rules}
-use Rattle.ks_machine.specs.Messages.Stored.{OfRow, OfAgg}
+use Rattle.ks_machine.specs.Messages.Stored.{OfAgg}
 use Rattle.ks_machine.specs.Messages.Message.{Given, Keyed, Moved, Asked, Answered, Kept, KeptCount, KeptTime, KeptHash}
-use Rattle.ks_machine.specs.Step.{Arrival, arrived, step_key, added, item_given, item_at, whole_step, items_from, olds_at, news_at}
+use Rattle.ks_machine.specs.Step.{Arrival, step_key, added, item_given, item_at, whole_step, items_from, olds_at}
 use Rattle.ks_machine.specs.Tasks.{machine, step, inputs_of, is_changelog}
-use Rattle.ks_machine.proofs.Names.{names, same_task-is}
+use Rattle.ks_machine.proofs.Names.{same_task-is}
 use Rattle.ks_rest.specs.States.{home_task}
 use Rattle.ks_rest.specs.Streams.{item_of_step}
 use Rattle.ks_rest.specs.Taken.{messages}
 use Rattle.ks_rest.proofs.Counted.{counted, add_counted}
 use Rattle.ks_rest.proofs.Each.{Each, each_parts}
-use Rattle.ks_rest.proofs.Fits.{Fits, NodeFits, Beside, own_next, own_keys, own_same, own_one, flag_before}
+use Rattle.ks_rest.proofs.Fits.{Fits, Beside, own_next, own_keys, own_same, own_one}
 use Rattle.ks_rest.proofs.Follow.{value_is}
 use Rattle.ks_rest.proofs.Mixed.{Stands_at}
 use Rattle.ks_rest.proofs.Placed.{Placed, FitsAt, FitsKey, fits_key, Owned, items_owned, placed_step, placed_run}

@@ -1,5 +1,5 @@
 -- A stream aggregate is the query's, once nothing waits.
-use Rattle.std.proofs.Common.{◌≡◌, ℕ, suc, ◌+◌, ◌<◌, Bool, true, false, cond, List, length, [], ◌∷◌, ◌++◌, Option, Some, None, fold, refl, sym, ap, ap₂, subst, ◌∙◌, arith}
+use Rattle.std.proofs.Common.{◌≡◌, ℕ, ◌<◌, Bool, true, false, List, length, [], ◌∷◌, ◌++◌, Option, Some, None, fold, refl, sym, ap, ap₂, subst, ◌∙◌, arith}
 use Rattle.std.specs.Prelude.{option_map, option_and_then, is_none}
 use Rattle.std.specs.List.{flat_map}
 use Rattle.std.specs.Cmp.Lexicographic.{nat_list_cmp_total}
@@ -7,7 +7,7 @@ use Rattle.std.specs.FinMap.{slice_cmp-IsAntisymmetric, nat_cmp-IsAntisymmetric}
 use Rattle.ks_row.specs.declared.record.TaskId.{TaskId}
 use Rattle.ks_expr.specs.Eval.{Row}
 use Rattle.ks_wire.specs.declared.values.Agg.{Agg}
-use Rattle.ks_topo.specs.Plan.{Plan, Kind}
+use Rattle.ks_topo.specs.Plan.{Plan}
 use Rattle.ks_topo.specs.Plan.Kind.{StreamAggregate}
 use Rattle.ks_map.specs.FinMap as fin
 use Rattle.ks_map.specs.Bytes.{by_bytes}
@@ -21,14 +21,14 @@ use Rattle.ks_machine.specs.Tasks.{inputs_of}
 use Rattle.ks_machine.specs.Rest.{IsDrained}
 use Rattle.ks_rest.specs.Groups.{place_of}
 use Rattle.ks_rest.specs.States.{State, state_of, row_at, home_task}
-use Rattle.ks_rest.specs.Streams.{item_of_step, passed_on, takers, all_waiting, one_joined}
+use Rattle.ks_rest.specs.Streams.{item_of_step, passed_on, takers, one_joined}
 use Rattle.ks_rest.specs.Taken.{messages}
 use Rattle.ks_rest.proofs.Counted.{counted}
 use Rattle.ks_rest.proofs.Fits.{Fits, each_at}
 use Rattle.ks_rest.proofs.ItemsRest.{opt_share, items_rest}
 use Rattle.ks_rest.proofs.Mixed.{messages-append, Stands_at}
 use Rattle.ks_rest.proofs.Queries.{get-map_values, query_at, given_here}
-use Rattle.ks_rest.proofs.StreamGroups.{pair_share, item_share, one_each, amount_each, items_share, pairs_added, stored_run}
+use Rattle.ks_rest.proofs.StreamGroups.{item_share, one_each, amount_each, items_share, pairs_added, stored_run}
 use Rattle.ks_rest.proofs.StreamsDirect.{both_run}
 use Rattle.ks_rest.proofs.StreamsWhole.{stream_whole, passed_counted}
 

@@ -1,5 +1,5 @@
 -- A stream aggregate: what is stored and what waits are together what was passed on.
-use Rattle.std.proofs.Common.{◌≡◌, ℕ, zero, suc, ◌+◌, Bool, true, false, cond, List, [], ◌∷◌, ◌++◌, Option, Some, None, fold, refl, sym, ap, ap₂, subst, ◌∙◌, arith}
+use Rattle.std.proofs.Common.{◌≡◌, ℕ, Bool, true, false, List, [], ◌∷◌, ◌++◌, Option, Some, None, fold, refl, sym, ap, ap₂, ◌∙◌, arith}
 use Rattle.std.specs.Prelude.{option_map, is_none}
 use Rattle.std.specs.List.{flat_map}
 use Rattle.ks_row.specs.declared.record.TaskId.{TaskId}
@@ -12,10 +12,10 @@ use Rattle.ks_map.specs.FinMap as fin
 use Rattle.ks_map.specs.Bytes.{by_bytes}
 use Rattle.ks_query.specs.Streams.{Key, Input, StreamItem, grouped}
 use Rattle.ks_query.specs.Query.{add_to, item_rows}
-use Rattle.ks_network.specs.Run.{Outcome, Taken, Follows, sent_to, local, sent, received}
+use Rattle.ks_network.specs.Run.{Outcome, Taken, Follows, sent_to, received}
 use Rattle.ks_network.proofs.Runs.{after, sent_to-append, Follows-run}
 use Rattle.ks_network.proofs.Sums.{sum_map, kept_from_start}
-use Rattle.ks_machine.specs.Messages.{Place, Stored, agg_of, Message, Item, Store, Rules}
+use Rattle.ks_machine.specs.Messages.{Place, agg_of, Item, Store, Rules}
 use Rattle.ks_machine.specs.Messages.Stored.{OfAgg}
 use Rattle.ks_machine.specs.Tasks.{machine, step, inputs_of}
 use Rattle.ks_machine.proofs.Names.{names}
@@ -24,11 +24,11 @@ use Rattle.ks_rest.specs.States.{State, state_of, home_task}
 use Rattle.ks_rest.specs.Streams.{item_of_step, passed_on, takers, all_waiting, one_joined}
 use Rattle.ks_rest.specs.Taken.{messages, taken_at}
 use Rattle.ks_rest.proofs.Counted.{counted}
-use Rattle.ks_rest.proofs.Fits.{Fits, NodeFits, each_at}
+use Rattle.ks_rest.proofs.Fits.{Fits, each_at}
 use Rattle.ks_rest.proofs.Inputs.{no_messages}
 use Rattle.ks_machine.specs.Step.{Arrival, Values, sends_at, items_from, olds_at, news_at, step_key}
 use Rattle.ks_rest.proofs.Mixed.{messages-append, picked, made_is, step_sends_own, apart, Stands_at}
-use Rattle.ks_rest.proofs.StreamGroups.{pair_share, keyed_share, item_share, one_each, amount_each, passed_share, pairs_added, joined_counted, none_of_all, taken_and_waiting, stored_run}
+use Rattle.ks_rest.proofs.StreamGroups.{keyed_share, item_share, one_each, amount_each, passed_share, pairs_added, joined_counted, none_of_all, taken_and_waiting, stored_run}
 use Rattle.ks_rest.proofs.StreamsDirect.{both_run}
 
 agg_back : (count : Bool) (w : Option Agg) → agg_of (option_map (OfAgg count) w) ≡ w

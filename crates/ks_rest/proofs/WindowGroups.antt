@@ -1,11 +1,6 @@
 -- Windowed counts where nothing was late: each window's count is that of the items that came.
-use Rattle.std.proofs.Common.{◌≡◌, ◌≢◌, ℕ, zero, suc, ◌+◌, ◌%◌, ◌^◌, ◌<◌, ◌≤◌, Bool, true, false, cond, ◌&&◌, List, length, [], ◌∷◌, ◌++◌, map, get_or, Option, Some, None, fold, refl, sym, ap, ap₂, subst, ◌∙◌, arith, append-nil, nat_eq, ⊎_elim, ◌⊎◌, inl, inr}
-use Rattle.std.specs.Prelude.{ℤ, pos, option_map}
-use Rattle.std.specs.List.{flat_map}
-use Rattle.std.proofs.lemmas.Bool.{and_from}
-use Rattle.std.proofs.lemmas.Bool.Decides.{Decides-eqb}
-use Rattle.std.specs.declared.cmp.Ordering.{Ordering}
-use Rattle.std.specs.declared.cmp.Ordering.TheVariants.{Equal}
+use Rattle.std.proofs.Common.{◌≡◌, ℕ, zero, suc, ◌+◌, ◌<◌, ◌≤◌, Bool, true, false, cond, List, [], ◌∷◌, ◌++◌, map, get_or, Option, Some, None, fold, refl, sym, ap, ap₂, subst, ◌∙◌, arith, ⊎_elim, inl}
+use Rattle.std.specs.Prelude.{option_map}
 use Rattle.std.specs.Ordering.{eq_by_cmp, nat_cmp}
 use Rattle.std.specs.Cmp.{IsTotalOrder, nat_cmp_total, on_total, then_total}
 use Rattle.std.specs.Cmp.Lexicographic.{nat_list_cmp_total}
@@ -15,11 +10,10 @@ use Rattle.ks_row.specs.declared.record.TaskId.{TaskId}
 use Rattle.ks_row.specs.Parts.{same_task}
 use Rattle.ks_expr.specs.Eval.{Row}
 use Rattle.ks_wire.specs.declared.values.Agg.{Agg}
-use Rattle.ks_topo.specs.declared.node.Topic.{Topic}
 use Rattle.ks_topo.specs.declared.node.Topic.TheVariants.{Repartition}
 use Rattle.ks_topo.specs.Plan.{Plan, Kind, Window}
 use Rattle.ks_topo.specs.Plan.Kind.{StreamSource, Windowed}
-use Rattle.ks_topo.specs.Layout.{same_topic, kind_at, parts_of, parts_of_topic}
+use Rattle.ks_topo.specs.Layout.{same_topic, kind_at, parts_of_topic}
 use Rattle.ks_map.specs.FinMap as fin
 use Rattle.ks_map.specs.FinMap.{FinMap}
 use Rattle.ks_map.specs.Bytes.{by_bytes}
@@ -29,23 +23,21 @@ use Rattle.ks_query.specs.Windows.{WindowKey, by_window, windows}
 use Rattle.ks_query.specs.Grace.{is_open}
 use Rattle.ks_query.specs.Query.{add_to, in_windows}
 use Rattle.ks_query.specs.Aggregates.{stream_add}
-use Rattle.ks_network.specs.Run.{Taken, RunState, sent_to, take_first, initial, run}
-use Rattle.ks_network.proofs.Runs.{kept_by_run, sent_to-append}
-use Rattle.ks_network.proofs.Sums.{sum_map, sum_map-append, sum_taken, sum_taken-append}
-use Rattle.ks_machine.specs.Messages.{Place, same_place, Message, Item, Store, Rules}
+use Rattle.ks_network.specs.Run.{Taken, RunState, take_first, initial, run}
+use Rattle.ks_network.proofs.Runs.{kept_by_run}
+use Rattle.ks_network.proofs.Sums.{sum_map, sum_map-append}
+use Rattle.ks_machine.specs.Messages.{Place, Message, Item, Store, Rules}
 use Rattle.ks_machine.specs.Messages.Message.{Given, Keyed, Moved, Asked, Answered, Kept, KeptCount, KeptTime, KeptHash}
 use Rattle.ks_machine.specs.Windowed.{Counted, count_window, count_group, count_item, greater, time_changes}
-use Rattle.ks_machine.specs.Step.{Arrival, Sent, arrived, step_key, item_keyed, item_into, items_from, counted_at, late_over, regroup, keyed_to, whole_step}
+use Rattle.ks_machine.specs.Step.{Arrival, arrived, step_key, item_keyed, item_into, items_from, counted_at, late_over, whole_step}
 use Rattle.ks_machine.specs.Tasks.{machine, step, inputs_of, is_changelog, taker}
-use Rattle.ks_machine.proofs.Names.{names, same_task-is, same_place-is}
-use Rattle.ks_rest.specs.Groups.{place_of}
+use Rattle.ks_machine.proofs.Names.{same_task-is}
 use Rattle.ks_rest.specs.States.{home_task}
-use Rattle.ks_rest.specs.Streams.{item_of_step}
 use Rattle.ks_rest.specs.Taken.{messages}
 use Rattle.ks_rest.specs.Windows.{starts_of, pairs_of_group}
 use Rattle.ks_rest.proofs.Counted.{counted, add_counted}
 use Rattle.ks_rest.proofs.Each.{Each, each_parts}
-use Rattle.ks_rest.proofs.Fits.{Fits, NodeFits, Beside, GroupsByKey, own_keys, each_at}
+use Rattle.ks_rest.proofs.Fits.{Fits, Beside, own_keys, each_at}
 use Rattle.ks_rest.proofs.Mixed.{Stands_at}
 use Rattle.ks_rest.proofs.Placed.{Placed, FitsAt, FitsKey, fits_key, Owned, items_owned, placed_step, placed_run, topic-is}
 use Rattle.ks_rest.proofs.StreamsDirect.{item_key}

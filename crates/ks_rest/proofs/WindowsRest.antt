@@ -1,5 +1,5 @@
 -- A windowed count is the query's where nothing was late, once nothing waits.
-use Rattle.std.proofs.Common.{◌≡◌, ◌≢◌, ℕ, zero, suc, ◌+◌, ◌<◌, ◌≤◌, Bool, true, false, cond, ◌&&◌, List, length, [], ◌∷◌, ◌++◌, map, get_or, Option, Some, None, fold, refl, sym, ap, ap₂, subst, ◌∙◌, arith, append-nil, nat_eq, ne_eqb, ⊎_elim, ◌⊎◌, inl, inr}
+use Rattle.std.proofs.Common.{◌≡◌, ℕ, suc, ◌+◌, ◌<◌, Bool, true, false, cond, List, length, [], ◌∷◌, ◌++◌, map, Option, Some, None, fold, refl, sym, ap, ap₂, subst, ◌∙◌, arith, append-nil, nat_eq}
 use Rattle.std.specs.Prelude.{option_map, option_and_then}
 use Rattle.std.specs.List.{flat_map}
 use Rattle.std.proofs.lemmas.Bool.Decides.{Decides-eqb}
@@ -20,12 +20,12 @@ use Rattle.ks_query.specs.Windows.{WindowKey, by_window, windows}
 use Rattle.ks_query.specs.Query.{with_number, add_to, in_windows, query}
 use Rattle.ks_query.specs.Aggregates.{agg_row}
 use Rattle.ks_row.specs.FieldKeys.{field_key}
-use Rattle.ks_network.specs.Run.{Taken, RunState, Follows, sent_to, take_first, initial, run}
+use Rattle.ks_network.specs.Run.{Taken, RunState, sent_to, take_first, initial, run}
 use Rattle.ks_network.proofs.Runs.{kept_by_run, sent_to-append, Follows-run}
 use Rattle.ks_network.proofs.Sums.{sum_map, sum_map-append, sum_map-same, sum_taken, sum_taken-append}
 use Rattle.ks_machine.specs.Messages.{Place, same_place, Message, Item, Store, Rules}
 use Rattle.ks_machine.specs.Messages.Message.{Given, Keyed, Moved, Asked, Answered, Kept, KeptCount, KeptTime, KeptHash}
-use Rattle.ks_machine.specs.Step.{Arrival, Sent, arrived, step_key, item_given, item_keyed, item_into, item_at, items_from, olds_at, news_at, regroup, keyed_to, whole_step}
+use Rattle.ks_machine.specs.Step.{Arrival, Sent, step_key, item_given, item_keyed, item_at, items_from, olds_at, news_at, regroup, keyed_to, whole_step}
 use Rattle.ks_machine.specs.Tasks.{machine, step, sent_item, written_item, inputs_of, is_changelog}
 use Rattle.ks_machine.specs.Rest.{IsDrained}
 use Rattle.ks_machine.proofs.Names.{names, same_task-is, same_place-is}
@@ -42,7 +42,7 @@ use Rattle.ks_rest.proofs.Passing as passing
 use Rattle.ks_rest.proofs.Placed.{Placed, FitsAt, placed_step, placed_run, topic-is}
 use Rattle.ks_rest.proofs.Queries.{get-map_values, query_at, given_here}
 use Rattle.ks_rest.proofs.Received.{no_inputs}
-use Rattle.ks_rest.proofs.WindowGroups.{window_total, window_same, starts_at, group_windows, own_windows, item_windows, query_counted, brought, share_of_step, all_shares, elsewhere, none_matches, windows_run}
+use Rattle.ks_rest.proofs.WindowGroups.{window_total, window_same, starts_at, group_windows, own_windows, item_windows, query_counted, share_of_step, all_shares, elsewhere, windows_run}
 
 -- ---- an item has the time of its record
 module _ (a : Arrival) where

@@ -1,7 +1,6 @@
 -- A windowed count: of each window, what is stored, what waits and what was late are together what was passed on.
-use Rattle.std.proofs.Common.{◌≡◌, ◌≢◌, ℕ, zero, suc, ◌+◌, ◌<◌, ◌≤◌, Bool, true, false, cond, List, length, [], ◌∷◌, ◌++◌, get_or, Option, Some, None, fold, refl, sym, ap, ap₂, subst, ◌∙◌, arith}
+use Rattle.std.proofs.Common.{◌≡◌, ℕ, zero, suc, ◌+◌, ◌<◌, Bool, true, false, cond, List, length, [], ◌∷◌, ◌++◌, Option, Some, None, fold, refl, sym, ap, ap₂, subst, ◌∙◌, arith}
 use Rattle.std.specs.Prelude.{option_map}
-use Rattle.std.specs.List.{flat_map}
 use Rattle.ks_query.specs.Aggregates.{agg_row}
 use Rattle.ks_query.specs.Query.{query}
 use Rattle.ks_machine.specs.Rest.{IsDrained}
@@ -9,30 +8,30 @@ use Rattle.std.specs.Ordering.{eq_by_cmp}
 use Rattle.ks_row.specs.declared.record.TaskId.{TaskId}
 use Rattle.ks_row.specs.Parts.{same_task}
 use Rattle.ks_wire.specs.declared.values.Agg.{Agg}
-use Rattle.ks_topo.specs.Plan.{Plan, Kind, Window}
+use Rattle.ks_topo.specs.Plan.{Plan, Window}
 use Rattle.ks_topo.specs.Plan.Kind.{Windowed}
 use Rattle.ks_topo.specs.Layout.{kind_at}
 use Rattle.ks_map.specs.FinMap as fin
 use Rattle.ks_map.specs.FinMap.{FinMap}
 use Rattle.ks_map.proofs.Tables.{equal}
-use Rattle.ks_query.specs.Streams.{Key, Input, StreamItem, group_key, some_of, with_some}
+use Rattle.ks_query.specs.Streams.{Key, Input, StreamItem, group_key, with_some}
 use Rattle.ks_query.specs.Windows.{WindowKey, by_window, windows}
 use Rattle.ks_query.specs.Grace.{is_open}
 use Rattle.ks_query.specs.Aggregates.{stream_add}
-use Rattle.ks_network.specs.Run.{Machine, HasNames, Taken, RunState, Follows, local, late_all, sent_to, take_first, initial, run}
+use Rattle.ks_network.specs.Run.{Machine, HasNames, Taken, RunState, Follows, local, take_first, initial, run}
 use Rattle.ks_network.proofs.Runs.{kept_by_run, late_all-append, Follows-initial, Follows-step, Follows-run}
-use Rattle.ks_network.proofs.Sums.{sum_map, sum_map-append, sum_map-same, sum_taken}
+use Rattle.ks_network.proofs.Sums.{sum_map, sum_map-append, sum_map-same}
 use Rattle.ks_machine.specs.Messages.{Place, Message, Item, Store, Rules}
 use Rattle.ks_machine.specs.Messages.Message.{Given, Keyed, Moved, Asked, Answered, Kept, KeptCount, KeptTime, KeptHash}
 use Rattle.ks_machine.specs.Windowed.{Counted, count_window, count_group, count_item, greater, time_changes}
-use Rattle.ks_machine.specs.Step.{Arrival, item_keyed, items_from, counted_at, whole_step}
+use Rattle.ks_machine.specs.Step.{Arrival, item_keyed, items_from, counted_at}
 use Rattle.ks_machine.specs.Tasks.{machine, step, inputs_of, is_changelog}
 use Rattle.ks_machine.proofs.Names.{names, same_task-is, same_place-is}
 use Rattle.ks_rest.specs.Groups.{place_of}
 use Rattle.ks_rest.specs.States.{State, state_of, home_task}
 use Rattle.ks_rest.specs.Streams.{item_of_step, passed_on, takers, all_waiting}
 use Rattle.ks_rest.specs.Taken.{messages}
-use Rattle.ks_rest.specs.Windows.{late_starts, late_of_group, late_of_item, late_at, counting, late_pairs, pairs_of_group, pairs_of_keyed, pairs_among, pairs_in, count_of}
+use Rattle.ks_rest.specs.Windows.{late_starts, late_of_group, late_of_item, late_at, counting, late_pairs, pairs_of_keyed, pairs_among, pairs_in, count_of}
 use Rattle.ks_rest.proofs.Counted.{counted, add_counted}
 use Rattle.ks_rest.proofs.Each.{Each, each_parts}
 use Rattle.ks_rest.proofs.Fits.{Fits, each_at}
@@ -139,6 +138,7 @@ module _ (rules : Rules) (p : Plan) (fits : Fits p) (n f : ℕ) (by : Option (Li
     pub follows : Follows (machine rules p) (inputs_of rules p records) st
     pub count : ℕ
     pub stored : fin.get ((st.stores home).counts n) k ≡ counted count 0
+    pub others : (u : TaskId) → same_task u home ≡ false → fin.get ((st.stores u).counts n) k ≡ None
     pub sums : count + late_pairs rules p n k st.taken ≡ all_shares rules p fits n f by w through stands k st.taken
 
   abbrev then_at : RunState TaskId Place Store Item → Place → Item → Bool → Option Agg
@@ -174,6 +174,21 @@ module _ (rules : Rules) (p : Plan) (fits : Fits p) (n f : ℕ) (by : Option (Li
           plus_zero : (c d : ℕ) → c + (d + 0) ≡ c + d
           plus_zero c d = omega arith
 
+      -- a task that isn't the reader stays
+      other_task : (u : TaskId) → same_task u r ≡ false → fin.get ((cond (same_task u r) (step rules p r (st.stores r) q x).store (st.stores u)).counts n) k ≡ fin.get ((st.stores u).counts n) k
+      other_task u e = ap (λ c. fin.get ((cond c (step rules p r (st.stores r) q x).store (st.stores u)).counts n) k) e
+
+      turned_task : (u : TaskId) → same_task u home ≡ false → same_task home r ≡ true → same_task u r ≡ false
+      turned_task u off b = ap (same_task u) (sym ((same_task-is home r).0 b)) ∙ off
+
+      -- nothing of the group comes to another task
+      gone : fin.get ((st.stores r).counts n) k ≡ None → share ≡ 0 → fin.get ((step rules p r (st.stores r) q x).store.counts n) k ≡ None
+      gone e none =
+          let took = taken_in k w ((st.stores r).times n) ((st.stores r).counts n) (brought rules p fits n f by w through stands k now) 0 e in
+          let all = took.all in
+          let zero_opens : 0 + took.opens ≡ 0 = omega arith in
+          ap (λ c. fin.get (counted_at a (items_from a (λ m. None) 0 p.kinds) (st.stores r) n c).counts k) (kind_is rules p fits n f by w through stands k) ∙ took.counts_are ∙ ap (λ m. counted m 0) zero_opens
+
       here : same_task home r ≡ true → Whole (take_first (machine rules p) st s q (x ∷ rest))
       here b =
           let is : home ≡ r = (same_task-is home r).0 b in
@@ -187,6 +202,7 @@ module _ (rules : Rules) (p : Plan) (fits : Fits p) (n f : ℕ) (by : Option (Li
             follows = follows;
             count = h.count + took.opens;
             stored = ap (then_at st q x) b ∙ ap (λ c. fin.get (counted_at a (items_from a (λ m. None) 0 p.kinds) (st.stores r) n c).counts k) (kind_is rules p fits n f by w through stands k) ∙ took.counts_are;
+            others = λ u off. other_task u (turned_task u off b) ∙ h.others u off;
             sums = omega (arith, shares);
           }
 
@@ -203,6 +219,10 @@ module _ (rules : Rules) (p : Plan) (fits : Fits p) (n f : ℕ) (by : Option (Li
             follows = follows;
             count = h.count;
             stored = ap (then_at st q x) b ∙ h.stored;
+            others = λ u off. elim (same_task u r) as (λ c. same_task u r ≡ c → fin.get ((cond c (step rules p r (st.stores r) q x).store (st.stores u)).counts n) k ≡ None) [
+              | true ↦ λ c. gone (h.others r (ap (λ v. same_task v home) (sym ((same_task-is u r).0 c)) ∙ off)) none
+              | false ↦ λ c. h.others u off
+            ] refl;
             sums = omega (arith, shares);
           }
 
@@ -212,7 +232,7 @@ module _ (rules : Rules) (p : Plan) (fits : Fits p) (n f : ℕ) (by : Option (Li
 
   pub whole_run : (schedule : List (Option TaskId × Place)) → Whole (run (machine rules p) (inputs_of rules p records) schedule)
   whole_run schedule = kept_by_run (machine rules p) Whole (λ st c h. whole_step_kept st c.0 c.1 (st.waiting c.0 c.1) refl h) (initial (machine rules p) (inputs_of rules p records))
-      (record { placed = placed_run rules p fits records []; follows = Follows-initial (machine rules p) (names rules p) (inputs_of rules p records); count = 0; stored = fin.get-empty by_window k; sums = refl }) schedule
+      (record { placed = placed_run rules p fits records []; follows = Follows-initial (machine rules p) (names rules p) (inputs_of rules p records); count = 0; stored = fin.get-empty by_window k; others = λ u off. fin.get-empty by_window k; sums = refl }) schedule
 
 -- ---- in the words of the law
 counted-is : (x : ℕ) → counted x 0 ≡ count_of x
@@ -253,8 +273,15 @@ module _ (rules : Rules) (p : Plan) (fits : Fits p) (records : List Input) (sche
 
   pub record IsWhole (by : Option (List ℕ)) : Type 0 where
     pub count : ℕ
-    pub stored : fin.get ((st.stores (home_task rules p n k.0)).counts n) k ≡ count_of count
+    pub stored : (u : TaskId) → fin.get ((st.stores u).counts n) k ≡ cond (same_task u (home_task rules p n k.0)) (count_of count) None
     pub whole : count + pairs_among k w (all_waiting rules p st (place_of rules p n k.0)) + late_pairs rules p n k st.taken ≡ pairs_in k w by (passed_on p f st.taken)
+
+  in_tasks : (count : ℕ) → fin.get ((st.stores (home_task rules p n k.0)).counts n) k ≡ counted count 0 → ((u : TaskId) → same_task u (home_task rules p n k.0) ≡ false → fin.get ((st.stores u).counts n) k ≡ None) →
+      (u : TaskId) → fin.get ((st.stores u).counts n) k ≡ cond (same_task u (home_task rules p n k.0)) (count_of count) None
+  in_tasks count here others u = elim (same_task u (home_task rules p n k.0)) as (λ b. same_task u (home_task rules p n k.0) ≡ b → fin.get ((st.stores u).counts n) k ≡ cond b (count_of count) None) [
+    | true ↦ λ b. ap (λ v. fin.get ((st.stores v).counts n) k) ((same_task-is u (home_task rules p n k.0)).0 b) ∙ here ∙ counted-is count
+    | false ↦ λ b. others u b
+  ] refl
 
   through_whole : (by : Option (List ℕ)) → Stands_at n (Windowed f by w true) 0 p.kinds → IsWhole by
   through_whole by stands =
@@ -266,7 +293,7 @@ module _ (rules : Rules) (p : Plan) (fits : Fits p) (records : List Input) (sche
       let waits = among-is k w (all_waiting rules p st q) in
       let passed = passed-is k w p f by st.taken in
       let sums = h.sums in
-      record { count = h.count; stored = h.stored ∙ counted-is h.count; whole = omega arith }
+      record { count = h.count; stored = in_tasks h.count h.stored h.others; whole = omega arith }
 
   direct_whole : Stands_at n (Windowed f None w false) 0 p.kinds → IsWhole None
   direct_whole stands =
@@ -275,7 +302,7 @@ module _ (rules : Rules) (p : Plan) (fits : Fits p) (records : List Input) (sche
       let none : pairs_among k w (all_waiting rules p st q) ≡ 0 = ap (pairs_among k w) (streams.none_waits rules p fits records schedule n f k.0 (Windowed f None w false) stands (λ x items store olds news. refl) (takers rules p st.taken)) in
       let own : all_shares rules p fits n f None w false stands k st.taken ≡ pairs_in k w None (passed_on p f st.taken) = sum_map-same _ _ st.taken (λ t. own_item (item_of_step p f t)) ∙ passed-is k w p f None st.taken in
       let sums = h.sums in
-      record { count = h.count; stored = h.stored ∙ counted-is h.count; whole = omega arith }
+      record { count = h.count; stored = in_tasks h.count h.stored h.others; whole = omega arith }
     where
       own_item : (i : Option StreamItem) → own_windows k w i ≡ item_windows k w None i
       own_item None = refl
@@ -296,7 +323,7 @@ module _ (rules : Rules) (p : Plan) (fits : Fits p) (records : List Input) (sche
 
   pub record IsExceeded : Type 0 where
     pub count : ℕ
-    pub stored : fin.get ((end.stores (home_task rules p n k.0)).counts n) k ≡ count_of count
+    pub stored : (u : TaskId) → fin.get ((end.stores u).counts n) k ≡ cond (same_task u (home_task rules p n k.0)) (count_of count) None
     pub query_is : fin.get ((query p records).windows n) k ≡ option_map (agg_row true) (count_of (count + late_pairs rules p n k end.taken))
 
   pub window_exceeded : (by : Option (List ℕ)) (through : Bool) → Stands_at n (Windowed f by w through) 0 p.kinds → IsExceeded

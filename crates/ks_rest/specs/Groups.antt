@@ -1,6 +1,6 @@
 -- Tables that are counted and summed by groups.
 -- Kafka Streams developer guide, "Aggregating": of a table, the old row is subtracted from its group and the new one added.
-use Rattle.std.specs.Prelude.{◌≡◌, ℕ, ◌<◌, ◌^◌, ℤ, pos, List, [], ◌∷◌, ◌++◌, length, map, Option, Some, fold, cond, option_map, is_none}
+use Rattle.std.specs.Prelude.{◌≡◌, ℕ, ◌<◌, ◌^◌, pos, List, ◌++◌, length, map, Option, Some, fold, cond, option_map, is_none}
 use Rattle.std.specs.Int.{IsNonNegative}
 use Rattle.ks_row.specs.declared.record.TaskId.{TaskId}
 use Rattle.ks_expr.specs.Eval.{Row, same_bytes}

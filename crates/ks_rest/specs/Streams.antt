@@ -1,6 +1,6 @@
 -- Streams that are counted and summed by groups.
 -- Kafka Streams developer guide, "Aggregating": each item of a stream adds to its group.
-use Rattle.std.specs.Prelude.{◌≡◌, ℕ, List, [], ◌∷◌, ◌++◌, map, Option, Some, None, Bool, false, ◌||◌, fold, cond}
+use Rattle.std.specs.Prelude.{◌≡◌, ℕ, List, [], ◌∷◌, Option, Some, None, Bool, false, ◌||◌, fold, cond}
 use Rattle.std.specs.List.{flat_map}
 use Rattle.ks_row.specs.declared.record.TaskId.{TaskId}
 use Rattle.ks_row.specs.Parts.{same_task}

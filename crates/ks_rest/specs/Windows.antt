@@ -102,7 +102,7 @@ WindowsAreWhole = (rules : Rules) (d : DraftView) (records : List Input) (schedu
     (n f : ℕ) (by : Option Name) (w : Window) (through : Bool) → IsNode p n (Windowed f by w through) → (k : WindowKey) →
     record {
       count : ℕ;
-      stored : map.get ((st.stores (home_task rules p n k.0)).counts n) k ≡ count_of count;
+      stored : (u : TaskId) → map.get ((st.stores u).counts n) k ≡ cond (same_task u (home_task rules p n k.0)) (count_of count) None;
       whole : count + pairs_among k w (all_waiting rules p st (place_of rules p n k.0)) + late_pairs rules p n k st.taken ≡ pairs_in k w by (passed_on p f st.taken);
     }
 
@@ -115,7 +115,7 @@ WindowsAreAtMost = (rules : Rules) (d : DraftView) (records : List Input) (sched
     (n f : ℕ) (by : Option Name) (w : Window) (through : Bool) → IsNode p n (Windowed f by w through) → (k : WindowKey) →
     record {
       count : ℕ;
-      stored : map.get ((st.stores (home_task rules p n k.0)).counts n) k ≡ count_of count;
+      stored : (u : TaskId) → map.get ((st.stores u).counts n) k ≡ cond (same_task u (home_task rules p n k.0)) (count_of count) None;
       asked : map.get ((query p records).windows n) k ≡ option_map (agg_row true) (count_of (count + late_pairs rules p n k st.taken));
     }
 
