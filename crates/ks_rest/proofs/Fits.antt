@@ -49,7 +49,7 @@ NodeFits p n (TableMap f s) = Beside p f n
 NodeFits p n (KeySelected f k) = Beside p f n
 NodeFits p n (StreamAggregate f by field through) = (f < n) × (through ≡ false → Beside p f n) × (through ≡ false → GroupsByKey (own_keys p.kinds) f by)
 NodeFits p n (TableAggregate f by field) = f < n
-NodeFits p n (Windowed f by w through) = (f < n) × (through ≡ false → Beside p f n) × (through ≡ false → GroupsByKey (own_keys p.kinds) f by)
+NodeFits p n (Windowed f by w through) = (f < n) × (through ≡ false → Beside p f n) × (through ≡ false → GroupsByKey (own_keys p.kinds) f by) × (0 < w.advance)
 NodeFits p n (KeyJoin l r kind s) = Beside p l n × Beside p r n
 NodeFits p n (ForeignKeyJoin l r fk kind s) = Beside p l n × (r < n)
 
@@ -196,7 +196,7 @@ NodeShape p before (TableMap f s) = Before before f
 NodeShape p before (KeySelected f k) = Before before f
 NodeShape p before (StreamAggregate f by field through) = Before before f × (through ≡ false → GroupsByKey (own_keys before) f by)
 NodeShape p before (TableAggregate f by field) = Before before f
-NodeShape p before (Windowed f by w through) = Before before f × (through ≡ false → GroupsByKey (own_keys before) f by)
+NodeShape p before (Windowed f by w through) = Before before f × (through ≡ false → GroupsByKey (own_keys before) f by) × (0 < w.advance)
 NodeShape p before (KeyJoin l r kind s) = Before before l × Before before r × (at (fold (parts_next p) [] before) l ≡ at (fold (parts_next p) [] before) r)
 NodeShape p before (ForeignKeyJoin l r fk kind s) = Before before l × Before before r
 
@@ -371,9 +371,9 @@ module _ (p : Plan) where
   node_fits before (StreamAggregate f by field false) rest all h =
       (h.0, λ e. beside before (StreamAggregate f by field false) rest all f h.0 (linked_new _ f (within before (StreamAggregate f by field false) rest all f h.0)) refl, λ e. keys_fit before (StreamAggregate f by field false) rest all f by h.0 (h.1 refl))
   node_fits before (TableAggregate f by field) rest all h = h
-  node_fits before (Windowed f by w true) rest all h = (h.0, λ e. cc, λ e. cc)
+  node_fits before (Windowed f by w true) rest all h = (h.0, λ e. cc, λ e. cc, h.2)
   node_fits before (Windowed f by w false) rest all h =
-      (h.0, λ e. beside before (Windowed f by w false) rest all f h.0 (linked_new _ f (within before (Windowed f by w false) rest all f h.0)) refl, λ e. keys_fit before (Windowed f by w false) rest all f by h.0 (h.1 refl))
+      (h.0, λ e. beside before (Windowed f by w false) rest all f h.0 (linked_new _ f (within before (Windowed f by w false) rest all f h.0)) refl, λ e. keys_fit before (Windowed f by w false) rest all f by h.0 (h.1 refl), h.2)
   node_fits before (KeyJoin l r kind s) rest all h =
       let k = KeyJoin l r kind s in
       let ls = fold label_next [] before in

@@ -28,4 +28,5 @@ pub mod WindowGroups
 pub mod WindowsRest
 pub mod WindowsWhole
 pub mod LateTotals
+pub mod WindowsOnce
 pub mod PlainRest

@@ -1,8 +1,8 @@
 -- The plan of a well-formed draft fits: inputs stand before their nodes, each topic has one source, sides that are joined on
 -- their keys have as many partitions.
 use Rattle.std.proofs.Common.{◌+◌, ◌≡◌, ℕ, zero, suc, ◌<◌, ◌≤◌, Bool, true, false, cond, not, ◌||◌, List, length, length-append, [], ◌∷◌, ◌++◌, map, get_or, Option, Some, None, fold, refl, sym, ap, ap₂, subst, ◌∙◌, arith, append_assoc, append-nil, nat_eq, ne_eqb, ◌⊎◌, inl, inr, ⊎_elim}
-use Rattle.std.specs.Prelude.{ℤ, is_some}
-use Rattle.std.proofs.lemmas.Bool.{cases_lt}
+use Rattle.std.specs.Prelude.{ℤ, is_some, pos, negsuc, int_le, ◌*ℤ◌, ◌&&◌}
+use Rattle.std.proofs.lemmas.Bool.{cases_lt, and_parts, leb-true}
 use Rattle.std.specs.List.{flat_map}
 use Rattle.std.specs.Option.{option_or}
 use Rattle.std.proofs.lemmas.Bool.Decides.{Decides-eqb}
@@ -14,12 +14,12 @@ use Rattle.std.specs.Cmp.{tied_itself}
 use Rattle.std.specs.Cmp.Lexicographic.{nat_list_cmp_total, slice_cmp}
 use Rattle.std.specs.FinMap.{slice_cmp-IsAntisymmetric, nat_cmp-IsAntisymmetric}
 use Rattle.ks_expr.specs.Eval.{same_bytes}
-use Rattle.ks_topo.specs.declared.fault.TopoFault.TheVariants.{UnknownInput, WrongKind, DuplicateName, NotCopartitioned}
+use Rattle.ks_topo.specs.declared.fault.TopoFault.TheVariants.{UnknownInput, WrongKind, DuplicateName, NotCopartitioned, BadWindow}
 use Rattle.ks_topo.specs.Drafts.{Name, OpView, StreamOf, TableOf, FilterOf, MapOf, KeyOf, CountOf, SumOf, WindowedOf, JoinOf, FkJoinOf, NodeView, DraftView}
-use Rattle.ks_topo.specs.Plan.{Plan, Kind, Known, is_stream, known_of, learn, known_from, known_at, known_names, name_place, node_number, topic_number, plan_of, nothing_known}
+use Rattle.ks_topo.specs.Plan.{Plan, Kind, Known, is_stream, known_of, learn, known_from, known_at, known_names, name_place, node_number, topic_number, plan_of, nothing_known, natural, or_number}
 use Rattle.ks_topo.specs.Plan.Kind.{StreamFilter, TableFilter, StreamMap, TableMap}
 use Rattle.ks_topo.specs.Layout.{is_source_of, any_source_of}
-use Rattle.ks_topo.specs.Faults.{Line, first_fitting, first_of, has_name, names_of, topic_names, unknown_lines, taken_lines, inputs_in, topics_in, sources_of, parts_in, node_table, nodes_fault, side_lines, size_lines, print_fault, wrong_kind, wiring_in}
+use Rattle.ks_topo.specs.Faults.{Line, first_fitting, first_of, has_name, names_of, topic_names, unknown_lines, taken_lines, inputs_in, topics_in, sources_of, parts_in, node_table, nodes_fault, side_lines, size_lines, print_fault, wrong_kind, wiring_in, window_lines, is_window, is_time, is_advance, int_or}
 use Rattle.ks_map.proofs.Tables.{equal}
 use Rattle.ks_rest.specs.WellFormed.{IsWellFormed}
 use Rattle.ks_rest.proofs.Fits.{Fits, NodeShape, EachShape, fits_of_shape, own_next, own_keys, GroupsByKey, own_same, own_count}
@@ -123,6 +123,21 @@ module _ where
       let less = number_less ts t u lt kt in λ e. omega arith)
       (by_order (slice_cmp nat_cmp u t) ne))
 
+-- ---- the advance of a window that has no fault
+at_least_one : (z : ℤ) → int_le (pos 1) z ≡ true → 0 < natural z
+at_least_one (pos m) e = let le = leb-true 1 m e in omega arith
+at_least_one (negsuc m) e = cc
+
+good_advance : (size : ℤ) (advance : Option ℤ) (grace : ℤ) → is_window size (int_or advance size) grace ≡ true → 0 < or_number advance (natural size)
+good_advance size advance grace e =
+    let last = (and_parts (is_time size && is_time grace) (is_advance size (int_or advance size)) e).1 in
+    let two = (and_parts (int_le (pos 1) (int_or advance size) && int_le (int_or advance size) size) (int_le size (pos 1000 *ℤ int_or advance size)) last).0 in
+    of_advance advance (and_parts (int_le (pos 1) (int_or advance size)) (int_le (int_or advance size) size) two).0
+  where
+    of_advance : (a : Option ℤ) → int_le (pos 1) (int_or a size) ≡ true → 0 < or_number a (natural size)
+    of_advance None f = at_least_one size f
+    of_advance (Some z) f = at_least_one z f
+
 -- ---- the shape, node by node
 abbrev kinds_of : List Known → List Kind
 kinds_of ks = map (λ k. k.kind) ks
@@ -211,6 +226,7 @@ module _ (d : DraftView) where
       sources : first_fitting (taken_lines (sources_of before) (topics_in op)) ≡ None;
       kinds : first_fitting (map (λ i. (wrong_kind op (wiring_in ks i), WrongKind n.name)) (inputs_in op)) ≡ None;
       sides : first_fitting (side_lines plan.counts ks op) ≡ None;
+      windows : first_fitting (window_lines n.name op) ≡ None;
     }
 
     by_key : (f : Name) (by : Option Name) → node_number ks f < length (kinds_of ks) → Own ks → is_stream (known_at ks f).kind ≡ true → (is_some by || (known_at ks f).rekeyed) ≡ false → GroupsByKey (own_keys (kinds_of ks)) (node_number ks f) by
@@ -231,7 +247,11 @@ module _ (d : DraftView) where
     shape_of (KeyOf f k) e apart own = one_known f e.inputs
     shape_of (CountOf f by) e apart own = either_shape (kinds_of ks) (is_stream (known_at ks f).kind) _ _ (λ b. (one_known f e.inputs, by_key f by (one_known f e.inputs) own b)) (one_known f e.inputs)
     shape_of (SumOf f by field) e apart own = either_shape (kinds_of ks) (is_stream (known_at ks f).kind) _ _ (λ b. (one_known f e.inputs, by_key f by (one_known f e.inputs) own b)) (one_known f e.inputs)
-    shape_of (WindowedOf f by size advance grace) e apart own = (one_known f e.inputs, by_key f by (one_known f e.inputs) own (of_not _ (not_first (not (is_stream (known_at ks f).kind), WrongKind n.name) [] e.kinds).0))
+    shape_of (WindowedOf f by size advance grace) e apart own = (
+      one_known f e.inputs,
+      by_key f by (one_known f e.inputs) own (of_not _ (not_first (not (is_stream (known_at ks f).kind), WrongKind n.name) [] e.kinds).0),
+      good_advance size advance (int_or grace (pos 86400000)) (of_not _ (not_first (not (is_window size (int_or advance size) (int_or grace (pos 86400000))), BadWindow n.name) [] e.windows).0),
+    )
       where
         of_not : (b : Bool) → not b ≡ false → b ≡ true
         of_not true e = refl
@@ -321,7 +341,7 @@ module _ (d : DraftView) where
   good_push : (before : List NodeView) (n : NodeView) → first_of (node_table d before n) ≡ None → Good before → Good (before ++ n ∷ [])
   good_push before n fine h =
       let ks = known_from ts before in
-      let lines : Lines before n fine n.op = record { topics = group before n fine 2; inputs = group before n fine 3; sources = group before n fine 4; kinds = group before n fine 6; sides = group before n fine 7 } in
+      let lines : Lines before n fine n.op = record { topics = group before n fine 2; inputs = group before n fine 3; sources = group before n fine 4; kinds = group before n fine 6; sides = group before n fine 7; windows = group before n fine 8 } in
       let k : Known = record { name = n.name; kind = (known_of ts ks n.op).0; rekeyed = (known_of ts ks n.op).1 } in
       let known : known_from ts (before ++ n ∷ []) ≡ ks ++ k ∷ [] = fold-append (learn ts) [] before (n ∷ []) in
       let kinds : kinds_of (known_from ts (before ++ n ∷ [])) ≡ kinds_of ks ++ k.kind ∷ [] = ap kinds_of known ∙ map-append (λ k. k.kind) ks (k ∷ []) in

@@ -255,7 +255,7 @@ module _ (k : WindowKey) (w : Window) where
   among-is [] = refl
   among-is (x ∷ xs) = ap₂ (λ a b. a + b) (keyed-is x.time x.message) (among-is xs)
 
-  passed-is : (p : Plan) (f : ℕ) (by : Option (List ℕ)) (ts : List (Taken TaskId Place Item)) → sum_map (λ t. item_windows k w by (item_of_step p f t)) ts ≡ pairs_in k w by (passed_on p f ts)
+  pub passed-is : (p : Plan) (f : ℕ) (by : Option (List ℕ)) (ts : List (Taken TaskId Place Item)) → sum_map (λ t. item_windows k w by (item_of_step p f t)) ts ≡ pairs_in k w by (passed_on p f ts)
   passed-is p f by [] = refl
   passed-is p f by (t ∷ ts) = one (item_of_step p f t) (passed-is p f by ts)
     where

@@ -1,6 +1,6 @@
 -- Windowed counts: in every state, and at rest.
 -- Kafka Streams developer guide, "Windowing": a record is dropped from a window whose grace period is over in stream time.
-use Rattle.std.specs.Prelude.{◌≡◌, ℕ, zero, suc, ◌+◌, ◌%◌, ◌^◌, pos, List, [], ◌∷◌, Option, Some, None, Bool, true, cond, option_map}
+use Rattle.std.specs.Prelude.{◌≡◌, ℕ, zero, suc, ◌+◌, ◌≤◌, length, ◌%◌, ◌^◌, pos, List, [], ◌∷◌, Option, Some, None, Bool, true, cond, option_map}
 use Rattle.std.specs.Int.{w64, cast_signed}
 use Rattle.std.specs.Ordering.{eq_by_cmp}
 use Rattle.ks_wire.specs.declared.values.Agg.{Agg}
@@ -134,3 +134,11 @@ LateIsAll = (rules : Rules) (d : DraftView) (records : List Input) (schedule : L
     let p = plan_of d in
     let st = state_of rules p records schedule in
     IsDrained st → late_of_nodes rules p records st.taken 0 p.kinds ≡ st.late
+
+-- a window has no more pairs than the run has steps, so its count and its late pairs are below 2 ^ 63 where the run has fewer
+abbrev pub PairsAreFew : Type 0
+PairsAreFew = (rules : Rules) (d : DraftView) (records : List Input) (schedule : List (Option TaskId × Place)) → IsWellFormed d →
+    let p = plan_of d in
+    let st = state_of rules p records schedule in
+    (n f : ℕ) (by : Option Name) (w : Window) (through : Bool) → IsNode p n (Windowed f by w through) → (k : WindowKey) →
+    pairs_in k w by (passed_on p f st.taken) ≤ length st.taken

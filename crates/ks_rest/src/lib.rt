@@ -14,5 +14,6 @@ pub use rest::plain_tables_rest;
 pub use streams::stream_groups_are_whole;
 pub use tables::{derived_tables_follow, source_tables_are_latest};
 pub use windows::{
-    late_pairs_are_the_late_count, windows_are_at_most_the_query, windows_are_whole, windows_rest,
+    late_pairs_are_the_late_count, window_pairs_are_few, windows_are_at_most_the_query,
+    windows_are_whole, windows_rest,
 };

@@ -1,4 +1,4 @@
-ghost use Rattle.ks_rest.specs.Windows.{LateIsAll, WindowsAreAtMost, WindowsAreWhole, WindowsRest};
+ghost use Rattle.ks_rest.specs.Windows.{LateIsAll, PairsAreFew, WindowsAreAtMost, WindowsAreWhole, WindowsRest};
 
 /// Windowed counts, in every state of every uncrashed run of every well-formed topology: of each window, what is stored, the pairs
 /// of the repartition records that wait and the late pairs are together the pairs of the items that were passed on.
@@ -21,4 +21,9 @@ pub fn windows_are_at_most_the_query()
 /// Once nothing waits, the late pairs of all windows, over all windowed counts, are together the late count of the run.
 pub fn late_pairs_are_the_late_count()
     ensures { LateIsAll }
+{}
+
+/// A window has no more pairs than the run has steps: an item has each of its windows once.
+pub fn window_pairs_are_few()
+    ensures { PairsAreFew }
 {}
