@@ -1,15 +1,15 @@
 //! One run: from the bytes of a job to the bytes of its tables.
 #![tactic(auto)]
 
-mod form;
-mod job;
-mod lines;
+mod judging;
 mod outcome;
 mod printing;
 mod reading;
-mod records;
+mod refusals;
 mod runs;
+mod stop;
 mod table;
+mod tables;
 mod writing;
 
 pub use runs::top;

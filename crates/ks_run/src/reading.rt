@@ -1,20 +1,24 @@
-//! Takes the input from a source, in whatever pieces it comes.
-ghost use Rattle.std.specs.Prelude.{◌≡◌, IfOk, OnOk, Err};
+//! Reads a job from a source, in whatever pieces it comes.
+ghost use Rattle.std.specs.Prelude.{◌≡◌, None, Err, IfOk, IfSome, OnOk, option_map, if◌then◌else◌};
+ghost use Rattle.std.specs.Option.{option_or};
 ghost use Rattle.ks_edge.specs.Causes.{Rose};
-ghost use Rattle.ks_run.specs.Bytes.{Takes};
+ghost use Rattle.ks_job.specs.Items.{item_views};
+ghost use Rattle.ks_job.specs.Reader.{after, end_of, whole};
+ghost use Rattle.ks_run.specs.Answers.{TookNoFault};
+ghost use Rattle.ks_run.specs.Reading.{machine_of, answer_stop, Ends};
+ghost use Rattle.ks_run.specs.Stops.{stop_of, topology_stop};
 
+use crate::stop::{Stop, refused};
 use ks_edge::{Failed, Source};
+use ks_job::{JobFault, JobItem, JobReader};
 use std::alloc::{AllocError, Global};
 
-/// The most bytes that an input may have.
-pub const MOST_BYTES: usize = 67_108_864;
-
-/// Why an input wasn't read.
+/// Why a job wasn't read.
 #[derive(Clone, Copy, PartialEq, Eq, Debug)]
 pub enum ReadError {
     /// The source failed.
     Fault,
-    /// There was no memory for the bytes.
+    /// There was no memory.
     Memory,
 }
 
@@ -38,21 +42,83 @@ impl From<AllocError> for ReadError {
     }
 }
 
-/// The bytes of the source, or their front where there are too many.
-pub fn read_input<S: Source>(alloc: Global, input: &mut S) -> Result<Vec<u8>, ReadError>
-    ensures bytes { IfOk result (λ v. Takes (S.left input.old) v.items) }
-    ensures kept { OnOk result (S.faults input.new ≡ S.faults input.old) }
-    ensures fault { result ≡ Err ReadError.Fault → Rose (S.faults input.old) (S.faults input.new) }
+// Why a job stops, by the reader's answer. The topology is judged as soon as it is there, before a faulty line after it.
+fn judge_answer(
+    alloc: Global,
+    is_first: bool,
+    items: &[JobItem],
+    answer: Result<(), JobFault>,
+) -> Result<Option<Stop>, AllocError>
+    ensures { IfOk result (λ o. o ≡ option_or (if is_first then topology_stop (item_views items.now) else None) (answer_stop answer)) }
 {
-    let mut bytes = Vec::new(alloc);
-    let mut buf = [0u8; 8192];
-    while bytes.len() <= MOST_BYTES {
-        let room = (MOST_BYTES + 1 - bytes.len()).min(buf.len());
-        let count = input.take(&mut buf[..room])?;
-        if count == 0 {
-            return Ok(bytes);
+    if is_first {
+        if let Some(stop) = refused(alloc, items)? {
+            return Ok(Some(stop));
         }
-        bytes.extend_from_slice(&buf[..count])?;
     }
-    Ok(bytes)
+    match answer {
+        Ok(()) => Ok(None),
+        Err(fault) => Ok(Some(Stop::BadLine {
+            line: fault.line,
+            kind: fault.kind,
+        })),
+    }
+}
+
+// The next piece of a job.
+fn feed_piece(
+    alloc: Global,
+    reader: &mut JobReader,
+    items: &mut Vec<JobItem>,
+    piece: &[u8],
+) -> Result<Option<Stop>, AllocError>
+    ensures fed { OnOk result (machine_of reader.new items.new.items ≡ option_map (λ m. after m piece.now) (machine_of reader.old items.old.items)) }
+    ensures stop { IfOk result (λ o. IfSome (machine_of reader.old items.old.items) (λ m. topology_stop m.items ≡ None → o ≡ stop_of (after m piece.now))) }
+{
+    let is_first = items.is_empty();
+    let answer = reader.feed(piece, items)?;
+    judge_answer(alloc, is_first, items, answer)
+}
+
+// The end of a job.
+fn end_job(
+    alloc: Global,
+    reader: JobReader,
+    items: Vec<JobItem>,
+) -> Result<Result<Vec<JobItem>, Stop>, AllocError>
+    ensures { IfOk result (λ r. IfSome (machine_of reader items.items) (λ m. topology_stop m.items ≡ None → Ends (end_of m.reader m.items) r)) }
+{
+    let mut items = items;
+    let is_first = items.is_empty();
+    let answer = reader.finish(&mut items)?;
+    match judge_answer(alloc, is_first, &items, answer)? {
+        Some(stop) => Ok(Err(stop)),
+        None => Ok(Ok(items)),
+    }
+}
+
+/// The items of the job that the source holds, or why it is none. The source isn't asked again once that is known, nor after
+/// its end; at most 67,174,401 bytes are taken, since a faulty line is whole then.
+pub fn read_job<S: Source>(
+    alloc: Global,
+    input: &mut S,
+) -> Result<Result<Vec<JobItem>, Stop>, ReadError>
+    ensures kept { OnOk result (S.faults input.new ≡ S.faults input.old) }
+    ensures read { IfOk result (λ r. IfSome (S.left input.old) (λ bytes. Ends (whole bytes) r)) }
+    ensures fault { result ≡ Err ReadError.Fault → Rose (S.faults input.old) (S.faults input.new) × TookNoFault (S.left input.old) (S.left input.new) }
+{
+    let mut reader = JobReader::new(alloc);
+    let mut items = Vec::new(alloc);
+    let mut buf = [0u8; 8192];
+    let mut taken: u64 = 0;
+    loop {
+        let count = input.take(&mut buf)?;
+        if count == 0 {
+            return Ok(end_job(alloc, reader, items)?);
+        }
+        if let Some(stop) = feed_piece(alloc, &mut reader, &mut items, &buf[..count])? {
+            return Ok(Err(stop));
+        }
+        taken += count as u64;
+    }
 }

@@ -2,9 +2,9 @@
 ghost use Rattle.std.specs.Prelude.{◌≡◌, ℕ, List, IfSome, true, false, length};
 ghost use Rattle.std.specs.Io.KnownBytes.{Appends};
 ghost use Rattle.ks_edge.specs.Causes.{Rose};
-ghost use Rattle.ks_run.specs.Bytes.{taken, AppendsFront};
+ghost use Rattle.ks_run.specs.Bytes.{AppendsFront};
 ghost use Rattle.ks_run.specs.Texts.{bad_words_text, read_fault_text};
-ghost use Rattle.ks_run.specs.Answers.{words_of, is_run, IsBadJob, IsSettled, IsJudged, IsStatus};
+ghost use Rattle.ks_run.specs.Answers.{words_of, is_run, IsBadJob, IsSettled, TookNoFault, IsJudged, IsStatus};
 
 use crate::outcome::judge_run;
 use crate::writing::write_output;
@@ -17,15 +17,15 @@ use std::thread::Threads;
 ///
 /// | Status | Comes | Written |
 /// |---|---|---|
-/// | 0 | the words are the one word `run`, the source did not fail, and its bytes are a job of the first form | `settled` and the table |
+/// | 0 | the words are the one word `run`, the source did not fail, and its bytes are a job of the kinds of nodes that are built | `settled`, and the tables in the order of `print` |
 /// | 1 | exactly where the words aren't the one word `run` | `bad words` |
-/// | 2 | the words are right, the source did not fail, and a line isn't in the first form | `bad job line L: 0 NotBuilt`, the first such line |
-/// | 6 | the words are right, and the source failed | `read fault` |
+/// | 2 | the words are right, and the bytes have a faulty line, or a topology with a fault or a node that isn't built, before the source failed | `bad job line L: FAULT`, the first such line |
+/// | 6 | the words are right, and the source failed before that | `read fault` |
 /// | 7 | the sink failed, in place of each of these | a front of what they write |
 /// | 8 | there was no memory | nothing |
 ///
-/// The source is read to its end, to a fault, or until one byte more than an input may have was taken; then the lines are
-/// judged. The text is built whole before its first byte is written. The gates are dropped unasked.
+/// A line is whole at its line feed, at its byte 65,537, or at the end of the input; the source isn't asked again once a faulty
+/// line is whole, nor after its end. The text is built whole before its first byte is written. The gates are dropped unasked.
 pub fn top<R: Threads + Wait + Sync, S: Source, K: Sink>(
     _rt: &R,
     alloc: Global,
@@ -41,18 +41,19 @@ pub fn top<R: Threads + Wait + Sync, S: Source, K: Sink>(
         × Appends (K.held out.old) (K.held out.new) bad_words_text }
     ensures read_fault { result ≡ 6 → (is_run (words_of words.now) ≡ true)
         × Rose (S.faults input.old) (S.faults input.new)
+        × TookNoFault (S.left input.old) (S.left input.new)
         × Appends (K.held out.old) (K.held out.new) read_fault_text }
     ensures bad_job { result ≡ 2 → (is_run (words_of words.now) ≡ true)
         × (S.faults input.new ≡ S.faults input.old)
-        × ((text : List ℕ) × IfSome (S.left input.old) (λ bytes. IsBadJob (taken bytes) text)
+        × ((text : List ℕ) × IfSome (S.left input.old) (λ bytes. IsBadJob bytes text)
         × Appends (K.held out.old) (K.held out.new) text) }
     ensures settled { result ≡ 0 → (is_run (words_of words.now) ≡ true)
         × (S.faults input.new ≡ S.faults input.old)
-        × ((text : List ℕ) × IfSome (S.left input.old) (λ bytes. IsSettled (taken bytes) text)
+        × ((text : List ℕ) × IfSome (S.left input.old) (λ bytes. IsSettled bytes text)
         × Appends (K.held out.old) (K.held out.new) text) }
     ensures write_fault { result ≡ 7 → Rose (K.faults out.old) (K.faults out.new)
         × ((status : ℕ) × (text : List ℕ)
-        × IsJudged (words_of words.now) (S.left input.old) (S.faults input.old) (S.faults input.new) status text
+        × IsJudged (words_of words.now) (S.left input.old) (S.left input.new) (S.faults input.old) (S.faults input.new) status text
         × AppendsFront (K.held out.old) (K.held out.new) text) }
 
     // At every other status the sink did not fail.
@@ -66,7 +67,7 @@ pub fn top<R: Threads + Wait + Sync, S: Source, K: Sink>(
     let Ok(answer) = judge_run(alloc, words, input) else {
         return 8;
     };
-    match write_output(out, answer.text.as_bytes()) {
+    match write_output(out, &answer.text) {
         Ok(()) => answer.status,
         Err(_) => 7,
     }

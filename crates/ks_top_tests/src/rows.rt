@@ -13,29 +13,57 @@ use std::thread::Threads;
 const TABLE: &str =
     "{\"app\":\"a\",\"topics\":{\"t\":1},\"nodes\":[{\"name\":\"x\",\"op\":\"table\",\"topic\":\"t\"}],\"print\":[\"x\"]}\n";
 
-// The same, but the topic has the name of the table's own changelog.
-const CHANGELOG: &str =
-    "{\"app\":\"a\",\"topics\":{\"a-x-changelog\":1},\"nodes\":[{\"name\":\"x\",\"op\":\"table\",\"topic\":\"a-x-changelog\"}],\"print\":[\"x\"]}\n";
-
 // A topic of seven partitions.
 const SPREAD: &str =
     "{\"app\":\"a\",\"topics\":{\"t\":7},\"nodes\":[{\"name\":\"x\",\"op\":\"table\",\"topic\":\"t\"}],\"print\":[\"x\"]}\n";
+
+// Two tables, printed in the other order; a topic that no node reads.
+const TWO: &str =
+    "{\"app\":\"a\",\"topics\":{\"u\":3,\"t\":1,\"v\":2},\"nodes\":[{\"name\":\"x\",\"op\":\"table\",\"topic\":\"t\"},{\"name\":\"y\",\"op\":\"table\",\"topic\":\"u\"}],\"print\":[\"y\",\"x\"]}\n";
 
 // One partition too many.
 const TOO_SPREAD: &str =
     "{\"app\":\"a\",\"topics\":{\"t\":65},\"nodes\":[{\"name\":\"x\",\"op\":\"table\",\"topic\":\"t\"}],\"print\":[\"x\"]}\n";
 
+// The topic has the name of the table's own changelog.
+const CHANGELOG: &str =
+    "{\"app\":\"a\",\"topics\":{\"a-x-changelog\":1},\"nodes\":[{\"name\":\"x\",\"op\":\"table\",\"topic\":\"a-x-changelog\"}],\"print\":[\"x\"]}\n";
+
+// A name that two nodes have.
+const TWICE: &str =
+    "{\"app\":\"a\",\"topics\":{\"t\":1},\"nodes\":[{\"name\":\"x\",\"op\":\"table\",\"topic\":\"t\"},{\"name\":\"x\",\"op\":\"stream\",\"topic\":\"t\"}],\"print\":[\"x\"]}\n";
+
+// A join of topics with different partition counts.
+const APART: &str =
+    "{\"app\":\"a\",\"topics\":{\"x\":3,\"y\":4},\"nodes\":[{\"name\":\"x\",\"op\":\"table\",\"topic\":\"x\"},{\"name\":\"y\",\"op\":\"table\",\"topic\":\"y\"},{\"name\":\"j\",\"op\":\"join\",\"left\":\"x\",\"right\":\"y\",\"kind\":\"inner\",\"set\":{\"a\":{\"left\":\"a\"}}}],\"print\":[\"j\"]}\n";
+
+// A window that advances by more than its size.
+const BAD_WINDOW: &str =
+    "{\"app\":\"a\",\"topics\":{\"t\":1},\"nodes\":[{\"name\":\"s\",\"op\":\"stream\",\"topic\":\"t\"},{\"name\":\"w\",\"op\":\"windowed_count\",\"from\":\"s\",\"size\":10,\"advance\":11}],\"print\":[\"w\"]}\n";
+
+// A windowed count that is read.
+const SINK: &str =
+    "{\"app\":\"a\",\"topics\":{\"t\":1},\"nodes\":[{\"name\":\"s\",\"op\":\"stream\",\"topic\":\"t\"},{\"name\":\"w\",\"op\":\"windowed_count\",\"from\":\"s\",\"size\":10},{\"name\":\"v\",\"op\":\"filter\",\"from\":\"w\",\"where\":{\"has\":{\"field\":\"a\"}}}],\"print\":[\"w\"]}\n";
+
+// A node of a kind that isn't built.
+const COUNT: &str =
+    "{\"app\":\"a\",\"topics\":{\"t\":1},\"nodes\":[{\"name\":\"x\",\"op\":\"table\",\"topic\":\"t\"},{\"name\":\"g\",\"op\":\"count\",\"from\":\"x\",\"by\":\"r\"}],\"print\":[\"g\"]}\n";
+
 // Two rows for b, the later one counts; a row of a, and its deletion.
 const RECORDS: &str =
     "{\"topic\":\"t\",\"key\":\"b\",\"value\":{\"n\":1}}\n{\"topic\":\"t\",\"key\":\"a\",\"value\":{\"n\":2}}\n{\"topic\":\"t\",\"key\":\"b\",\"value\":{\"n\":3}}\n{\"topic\":\"t\",\"key\":\"a\",\"value\":null}\n";
 
-// Rows that come out in order of key bytes, with escapes and the members in order.
+// Rows that come out in order of key bytes, with escapes and the members in order; blank lines and no last line feed.
 const UNSORTED: &str =
-    "{\"value\":{\"b\":-1,\"a\":\"q\\\"\\u000a\"},\"key\":\"z\",\"topic\":\"t\"}\n{\"topic\":\"t\",\"key\":\"Z\",\"value\":{\"n\":0,\"m\":null}}";
+    " \t\r\n{\"value\":{\"b\":-1,\"a\":\"q\\\"\\u000a\"},\"key\":\"z\",\"topic\":\"t\",\"ts\":7}\n\n{\"topic\":\"t\",\"key\":\"Z\",\"value\":{\"n\":0,\"m\":null}}";
 
-// Keys of several partitions, out of order.
+// Keys of several partitions, out of order; a record without a key is skipped.
 const MANY_KEYS: &str =
-    "{\"topic\":\"t\",\"key\":\"f\",\"value\":{\"n\":6}}\n{\"topic\":\"t\",\"key\":\"b\",\"value\":{\"n\":2}}\n{\"topic\":\"t\",\"key\":\"d\",\"value\":{\"n\":4}}\n{\"topic\":\"t\",\"key\":\"a\",\"value\":{\"n\":1}}\n{\"topic\":\"t\",\"key\":\"e\",\"value\":{\"n\":5}}\n{\"topic\":\"t\",\"key\":\"c\",\"value\":{\"n\":3}}\n{\"topic\":\"t\",\"key\":\"d\",\"value\":null}\n{\"topic\":\"t\",\"key\":\"a\",\"value\":{\"n\":7}}\n";
+    "{\"topic\":\"t\",\"key\":\"f\",\"value\":{\"n\":6}}\n{\"topic\":\"t\",\"key\":\"b\",\"value\":{\"n\":2}}\n{\"topic\":\"t\",\"key\":\"d\",\"value\":{\"n\":4}}\n{\"topic\":\"t\",\"value\":{\"n\":9}}\n{\"topic\":\"t\",\"key\":\"a\",\"value\":{\"n\":1}}\n{\"topic\":\"t\",\"key\":\"e\",\"value\":{\"n\":5}}\n{\"topic\":\"t\",\"key\":\"c\",\"value\":{\"n\":3}}\n{\"topic\":\"t\",\"key\":\"d\",\"value\":null}\n{\"topic\":\"t\",\"key\":\"a\",\"value\":{\"n\":7}}\n";
+
+// Records of three topics.
+const MIXED: &str =
+    "{\"topic\":\"u\",\"key\":\"k\",\"value\":{\"u\":1}}\n{\"topic\":\"t\",\"key\":\"k\",\"value\":{\"t\":1}}\n{\"topic\":\"v\",\"key\":\"k\",\"value\":{\"v\":1}}\n{\"topic\":\"u\",\"key\":\"i\",\"value\":{\"u\":2}}\n";
 
 // How the input comes and the output goes: the sizes of the pieces, and the numbers of the takes and puts that fail.
 #[derive(Clone, Copy)]
@@ -95,8 +123,8 @@ fn expect<R: Threads + Wait + Sync + Abort>(
     );
     let mut out = MemSink::new(alloc, devices.puts.to_vec(alloc)?);
     let status = top(rt, alloc, &words, &mut input, &mut out, gates(alloc)?);
-    assert_eq!(rt; status, run.status);
     assert_eq!(rt; out.held(), run.output.as_bytes());
+    assert_eq!(rt; status, run.status);
     Ok(())
 }
 
@@ -112,7 +140,7 @@ fn expect_at_any_cut<R: Threads + Wait + Sync + Abort>(
         puts: &[],
     };
     expect(rt, alloc, run, &whole)?;
-    let bytes = [1; 1000];
+    let bytes = vec![in alloc; 1usize; 70_000]?;
     let single = Devices {
         sizes: &bytes,
         takes: &[],
@@ -136,6 +164,17 @@ fn settled(rt: HostRuntime) -> Result<(), Fail> {
             [TABLE, UNSORTED],
             "settled\ntable x 2\n[\"Z\",{\"n\":0}]\n[\"z\",{\"a\":\"q\\\"\\n\",\"b\":-1}]\n",
         ),
+        (
+            [TWO, MIXED],
+            "settled\ntable y 2\n[\"i\",{\"u\":2}]\n[\"k\",{\"u\":1}]\ntable x 1\n[\"k\",{\"t\":1}]\n",
+        ),
+        (
+            [
+                "{\"app\":\"a\",\"topics\":{},\"nodes\":[],\"print\":[]}",
+                "",
+            ],
+            "settled\n",
+        ),
     ] {
         expect_at_any_cut(
             &rt,
@@ -152,19 +191,35 @@ fn settled(rt: HostRuntime) -> Result<(), Fail> {
 }
 
 #[test]
-fn bad_jobs(rt: HostRuntime) -> Result<(), Fail> {
+fn bad_lines(rt: HostRuntime) -> Result<(), Fail> {
     let run = ["run"];
     for (input, output) in [
-        (["", ""], "bad job line 1: 0 NotBuilt\n"),
-        ([TOO_SPREAD, RECORDS], "bad job line 1: 0 NotBuilt\n"),
-        ([CHANGELOG, ""], "bad job line 1: 0 NotBuilt\n"),
-        ([TABLE, "\n"], "bad job line 2: 0 NotBuilt\n"),
+        (["", ""], "bad job line 1: 25 NoTopology\n"),
+        ([" \n", ""], "bad job line 2: 25 NoTopology\n"),
+        (
+            [TABLE, "{\"topic\":\"t\",\"key\":\"a"],
+            "bad job line 2: 20 NotJson\n",
+        ),
         (
             [
                 TABLE,
-                "{\"topic\":\"t\",\"key\":\"a\",\"value\":null}\n{\"topic\":\"t\",\"key\":\"a",
+                "{\"topic\":\"t\",\"key\":\"a\",\"value\":{\"n\":9223372036854775808}}",
             ],
-            "bad job line 3: 0 NotBuilt\n",
+            "bad job line 2: 22 BadNumber \"n\"\n",
+        ),
+        (
+            [
+                TABLE,
+                "\n{\"topic\":\"u\",\"key\":\"a\",\"value\":{\"n\":1}}\n",
+            ],
+            "bad job line 3: 23 UnknownTopic \"u\"\n",
+        ),
+        (
+            [
+                TABLE,
+                "{\"topic\":\"t\",\"key\":\"\",\"value\":{\"n\":1}}\n{",
+            ],
+            "bad job line 2: 21 BadShape \"key\"\n",
         ),
     ] {
         expect_at_any_cut(
@@ -173,6 +228,66 @@ fn bad_jobs(rt: HostRuntime) -> Result<(), Fail> {
             &Run {
                 words: &run,
                 input: &input,
+                status: 2,
+                output,
+            },
+        )?;
+    }
+    Ok(())
+}
+
+#[test]
+fn long_line(rt: HostRuntime) -> Result<(), Fail> {
+    let alloc = rt.alloc();
+    let spaces = vec![in alloc; b' '; 65_536]?;
+    let Ok(line) = String::from_utf8(spaces) else {
+        return Ok(());
+    };
+    let output = "bad job line 2: 24 LineTooLong\n";
+    expect_at_any_cut(
+        &rt,
+        alloc,
+        &Run {
+            words: &["run"],
+            input: &[TABLE, line.as_str(), " "],
+            status: 2,
+            output,
+        },
+    )?;
+    expect_at_any_cut(
+        &rt,
+        alloc,
+        &Run {
+            words: &["run"],
+            input: &[TABLE, line.as_str(), "\n"],
+            status: 0,
+            output: "settled\ntable x 0\n",
+        },
+    )
+}
+
+#[test]
+fn bad_topologies(rt: HostRuntime) -> Result<(), Fail> {
+    let run = ["run"];
+    // The topology's fault comes also where the next line is faulty, in one piece with it.
+    for (topology, output) in [
+        (TOO_SPREAD, "bad job line 1: 14 TooMany partitions 64\n"),
+        (
+            CHANGELOG,
+            "bad job line 1: 12 DuplicateName \"a-x-changelog\"\n",
+        ),
+        (TWICE, "bad job line 1: 12 DuplicateName \"x\"\n"),
+        (APART, "bad job line 1: 13 NotCopartitioned \"x\" \"y\"\n"),
+        (BAD_WINDOW, "bad job line 1: 15 BadWindow \"w\"\n"),
+        (SINK, "bad job line 1: 16 SinkOnly \"v\"\n"),
+        (COUNT, "bad job line 1: 0 NotBuilt \"g\"\n"),
+    ] {
+        expect_at_any_cut(
+            &rt,
+            rt.alloc(),
+            &Run {
+                words: &run,
+                input: &[topology, "{\n"],
                 status: 2,
                 output,
             },
@@ -219,6 +334,7 @@ fn bad_words(rt: HostRuntime) -> Result<(), Fail> {
 
 #[test]
 fn faults(rt: HostRuntime) -> Result<(), Fail> {
+    let alloc = rt.alloc();
     let run = ["run"];
     let input = [TABLE, RECORDS];
     let after_table = [TABLE.len()];
@@ -230,7 +346,7 @@ fn faults(rt: HostRuntime) -> Result<(), Fail> {
     };
     expect(
         &rt,
-        rt.alloc(),
+        alloc,
         &read,
         &Devices {
             sizes: &after_table,
@@ -246,12 +362,45 @@ fn faults(rt: HostRuntime) -> Result<(), Fail> {
     };
     expect(
         &rt,
-        rt.alloc(),
+        alloc,
         &write,
         &Devices {
             sizes: &[],
             takes: &[],
             puts: &[0],
+        },
+    )?;
+    // The source isn't asked again once a faulty line is whole, nor after its end.
+    let faulty = Run {
+        words: &run,
+        input: &[TABLE, "{\n", RECORDS],
+        status: 2,
+        output: "bad job line 2: 20 NotJson\n",
+    };
+    expect(
+        &rt,
+        alloc,
+        &faulty,
+        &Devices {
+            sizes: &[TABLE.len() + 2],
+            takes: &[1],
+            puts: &[],
+        },
+    )?;
+    let ended = Run {
+        words: &run,
+        input: &[TABLE],
+        status: 0,
+        output: "settled\ntable x 0\n",
+    };
+    expect(
+        &rt,
+        alloc,
+        &ended,
+        &Devices {
+            sizes: &[],
+            takes: &[2, 3],
+            puts: &[],
         },
     )
 }

@@ -1,0 +1,25 @@
+-- A job as it is read: the reader with the items so far, and what is known when reading ends.
+use Rattle.std.specs.Prelude.{◌≡◌, ℕ, List, Option, Some, None, Result, Ok, Err, ⊤}
+use Rattle.std.specs.declared.vec.Vec.{Vec}
+use Rattle.std.specs.declared.alloc.Global.{Global}
+use Rattle.ks_job.specs.Items.{item_views}
+use Rattle.ks_job.specs.declared.judge.JobItem.{JobItem}
+use Rattle.ks_job.specs.declared.reader.JobFault.{JobFault}
+use Rattle.ks_job.specs.Reader.{Reader, Machine, whole}
+use Rattle.ks_run.specs.declared.stop.Stop.{Stop}
+use Rattle.ks_run.specs.declared.stop.Stop.TheVariants.{BadLine}
+use Rattle.ks_run.specs.Stops.{stop_of}
+
+abbrev pub machine_of : Option Reader → List JobItem → Option Machine
+machine_of None items = None
+machine_of (Some r) items = Some record { reader = r; items = item_views items }
+
+-- what a reader's answer says of its lines
+abbrev pub answer_stop : Result ⊤ JobFault → Option Stop
+answer_stop (Ok u) = None
+answer_stop (Err f) = Some (BadLine f.line f.kind)
+
+-- where reading ends: all items, or why it stops
+abbrev pub Ends : Machine → Result (Vec JobItem Global) Stop → Type 0
+Ends m (Ok items) = (stop_of m ≡ None) × (item_views items.items ≡ m.items)
+Ends m (Err stop) = stop_of m ≡ Some stop
