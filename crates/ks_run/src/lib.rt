@@ -1,7 +1,6 @@
 //! One run: from the bytes of a job to the bytes of its tables.
 #![tactic(auto)]
 
-mod judging;
 mod outcome;
 mod printing;
 mod reading;

@@ -4,10 +4,9 @@ ghost use Rattle.ks_topo.specs.Drafts.{op_view, nodes_view, draft_view};
 ghost use Rattle.ks_job.specs.Items.{item_views};
 ghost use Rattle.ks_run.specs.Stops.{is_built as built, first_unbuilt as unbuilt, refusal, topology_stop};
 
-use crate::judging::judge_topology;
 use ks_job::{JobItem, JobKind};
 use ks_row::{Blob, Name};
-use ks_topo::{Draft, NodeDraft, Op, TopoFault};
+use ks_topo::{Draft, NodeDraft, Op, TopoFault, first_fault};
 use std::alloc::{AllocError, Global};
 
 /// Where and why reading a job stops.
@@ -48,7 +47,7 @@ fn first_unbuilt(nodes: &[NodeDraft]) -> Option<&Name>
 fn refuse(alloc: Global, line: u64, draft: &Draft) -> Result<Option<Stop>, AllocError>
     ensures { IfOk result (λ o. o ≡ refusal line (draft_view draft.now)) }
 {
-    if let Some(fault) = judge_topology(alloc, draft)? {
+    if let Some(fault) = first_fault(alloc, draft)? {
         return Ok(Some(Stop::BadTopology { line, fault }));
     }
     let Some(name) = first_unbuilt(draft.nodes.as_slice()) else {

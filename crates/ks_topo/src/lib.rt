@@ -23,3 +23,4 @@ pub use draft::{Draft, NodeDraft, Op};
 pub use fault::TopoFault;
 pub use laws::well_formed_drafts;
 pub use node::{Node, Role, Topic, TopicInfo, Wiring};
+pub use topology::first_fault;

@@ -5,6 +5,7 @@ ghost use Rattle.ks_topo.specs.Plan.{plan_of, sorted_topics};
 ghost use Rattle.ks_topo.specs.Layout.{topics_of, tasks as all_tasks};
 ghost use Rattle.ks_topo.specs.Infos.{topic_infos as shown_topics, node_places, node_place, built_view, inputs_by_sub, changelogs_by_sub, drain_numbers};
 ghost use Rattle.ks_topo.specs.Faults.{fault_of};
+ghost use Rattle.ks_topo.specs.Finds.{Finds};
 ghost use Rattle.ks_topo.specs.Resolve.{resolved_from};
 ghost use Rattle.ks_topo.specs.Built.{IsShapeOf, wired_topic_info};
 ghost use Rattle.ks_topo.specs.Wired.{kept, wired_topics, wired_drained, numbers_read, numbers_in, all_tasks as wired_tasks};
@@ -191,6 +192,27 @@ fn judge_and_build(alloc: Global, draft: Draft) -> Result<Topology, Stop>
     let known = judge_parts(alloc, &draft, &counts)?;
     let shape = draft_shape(alloc, &draft, counts, &known)?;
     Ok(lay_out(alloc, draft, &sorted, &shape)?)
+}
+
+fn judge_draft(alloc: Global, draft: &Draft) -> Result<(), Stop>
+    ensures { Finds result (fault_of (draft_view draft.now)) }
+{
+    judge_sizes(alloc, draft)?;
+    let sorted = sort_topics(alloc, draft.topics.as_slice())?;
+    let counts = counts_of(alloc, &sorted)?;
+    judge_parts(alloc, draft, &counts)?;
+    Ok(())
+}
+
+/// The first fault of a draft; none exactly where it is well formed.
+pub fn first_fault(alloc: Global, draft: &Draft) -> Result<Option<TopoFault>, AllocError>
+    ensures { IfOk result (λ o. o ≡ fault_of (draft_view draft.now)) }
+{
+    match judge_draft(alloc, draft) {
+        Ok(()) => Ok(None),
+        Err(Stop::Memory) => Err(AllocError),
+        Err(Stop::Fault(fault)) => Ok(Some(fault)),
+    }
 }
 
 impl Topology {
