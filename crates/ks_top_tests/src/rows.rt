@@ -239,31 +239,16 @@ fn bad_lines(rt: HostRuntime) -> Result<(), Fail> {
 #[test]
 fn long_line(rt: HostRuntime) -> Result<(), Fail> {
     let alloc = rt.alloc();
-    let spaces = vec![in alloc; b' '; 65_536]?;
-    let Ok(line) = String::from_utf8(spaces) else {
-        return Ok(());
-    };
-    let output = "bad job line 2: 24 LineTooLong\n";
-    expect_at_any_cut(
-        &rt,
-        alloc,
-        &Run {
-            words: &["run"],
-            input: &[TABLE, line.as_str(), " "],
-            status: 2,
-            output,
-        },
-    )?;
-    expect_at_any_cut(
-        &rt,
-        alloc,
-        &Run {
-            words: &["run"],
-            input: &[TABLE, line.as_str(), "\n"],
-            status: 0,
-            output: "settled\ntable x 0\n",
-        },
-    )
+    let mut bytes = joined(alloc, &[TABLE])?;
+    bytes.extend_from_slice(&vec![in alloc; b' '; 65_537]?)?;
+    let words = texts(alloc, &["run"])?;
+    let sizes = vec![in alloc; 1usize; 70_000]?;
+    let mut input = MemSource::new(bytes, sizes, Vec::new(alloc));
+    let mut out = MemSink::new(alloc, Vec::new(alloc));
+    let status = top(&rt, alloc, &words, &mut input, &mut out, gates(alloc)?);
+    assert_eq!(rt; out.held(), b"bad job line 2: 24 LineTooLong\n".as_slice());
+    assert_eq!(rt; status, 2);
+    Ok(())
 }
 
 #[test]
