@@ -12,4 +12,6 @@ mod rows;
 #[cfg(test)]
 mod stores;
 #[cfg(test)]
+mod tables;
+#[cfg(test)]
 mod wires;
