@@ -30,3 +30,4 @@ pub mod WindowsWhole
 pub mod LateTotals
 pub mod WindowsOnce
 pub mod PlainRest
+pub mod OneKey

@@ -1,5 +1,5 @@
 -- An item has a window at most once, so a window has no more pairs than the run has steps.
-use Rattle.std.proofs.Common.{◌≡◌, ◌≢◌, ℕ, zero, suc, ◌+◌, ◌*◌, ◌/◌, ◌<◌, ◌≤◌, Bool, true, false, cond, List, length, [], ◌∷◌, ◌++◌, Option, Some, None, refl, sym, ap, subst, ◌∙◌, arith}
+use Rattle.std.proofs.Common.{◌≡◌, ℕ, zero, suc, ◌+◌, ◌*◌, ◌/◌, ◌<◌, ◌≤◌, Bool, true, false, cond, List, length, [], ◌∷◌, ◌++◌, Option, Some, None, refl, ap, arith}
 use Rattle.std.specs.Prelude.{nat_lt}
 use Rattle.std.specs.List.{filter}
 use Rattle.std.specs.Ordering.{eq_by_cmp}
@@ -7,7 +7,7 @@ use Rattle.ks_row.specs.declared.record.TaskId.{TaskId}
 use Rattle.ks_topo.specs.Plan.{Plan, Window}
 use Rattle.ks_map.proofs.Tables.{equal}
 use Rattle.ks_query.specs.Streams.{Key, StreamItem, group_key}
-use Rattle.ks_query.specs.Windows.{WindowKey, by_window, multiples, windows}
+use Rattle.ks_query.specs.Windows.{WindowKey, by_window, multiples}
 use Rattle.ks_network.specs.Run.{Taken}
 use Rattle.ks_network.proofs.Sums.{sum_map}
 use Rattle.ks_machine.specs.Messages.{Place, Item}

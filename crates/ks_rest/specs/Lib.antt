@@ -6,3 +6,4 @@ pub mod Groups
 pub mod AtRest
 pub mod Streams
 pub mod Windows
+pub mod ForeignJoin

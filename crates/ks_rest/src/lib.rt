@@ -4,12 +4,14 @@
 #![tactic(auto)]
 
 mod groups;
+mod joins;
 mod rest;
 mod streams;
 mod tables;
 mod windows;
 
 pub use groups::table_groups_are_sums;
+pub use joins::join_of_one_key_rests;
 pub use rest::plain_tables_rest;
 pub use streams::stream_groups_are_whole;
 pub use tables::{derived_tables_follow, source_tables_are_latest};
