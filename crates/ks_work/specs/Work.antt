@@ -1,5 +1,5 @@
 -- The tasks of a topology as the work of a cluster: topics by number, records and stores as bytes.
-use Rattle.std.specs.Prelude.{◌≡◌, map, length}
+use Rattle.std.specs.Prelude.{List, ◌≡◌, map, length}
 use Rattle.std.specs.List.{filter}
 use Rattle.ks_row.specs.declared.record.TaskId.{TaskId}
 use Rattle.ks_topo.specs.Drafts.{DraftView}
@@ -9,7 +9,9 @@ use Rattle.ks_topo.specs.Infos.{input_numbers, changelog_numbers}
 use Rattle.ks_machine.specs.Messages.{Place, Item, Store, Rules}
 use Rattle.ks_machine.specs.Tasks.{step, taker}
 use Rattle.ks_machine.specs.Bytes.{byte_step, reader_number, is_sent}
+use Rattle.ks_history.specs.declared.journal.Entry.{Entry}
 use Rattle.ks_history.specs.Machine.{Plan as Work, IsNetwork}
+use Rattle.ks_history.specs.History.{IsHistory}
 use Rattle.ks_history.specs.State.{Setup, IsSetup}
 use Rattle.ks_rest.specs.WellFormed.{IsWellFormed}
 
@@ -39,3 +41,7 @@ NothingIsHeldBack = (rules : Rules) (d : DraftView) → IsWellFormed d → let p
 -- partition
 abbrev pub SetupsAreMade : Type 0
 SetupsAreMade = (rules : Rules) (d : DraftView) → IsWellFormed d → IsSetup (setup_of rules (plan_of d))
+
+-- what holds of every legal, faithful journal of a topology
+abbrev pub OfJobs : (Setup → List Entry → Type 0) → Type 0
+OfJobs P = (rules : Rules) (p : Plan) (journal : List Entry) → IsHistory (setup_of rules p) journal → P (setup_of rules p) journal

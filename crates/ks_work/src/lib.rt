@@ -2,7 +2,8 @@
 //! law.
 #![tactic(auto)]
 
-ghost use Rattle.ks_work.specs.Work.{WorksAreNetworks, NothingIsHeldBack, SetupsAreMade};
+ghost use Rattle.ks_work.specs.Work.{WorksAreNetworks, NothingIsHeldBack, SetupsAreMade, OfJobs};
+ghost use Rattle.ks_replay.specs.Law.{IsRun, TellsStores, TellsPasts, TellsAll, TellsLists, TellsLate, SettledIsEmpty, IsShort};
 ghost use Rattle.ks_work.specs.Placing.{DecidedStand};
 ghost use Rattle.ks_work.specs.Spelled.{ProjectionsFit, JoinsFit, KeysFit, ItemsFit, DeltasFit};
 
@@ -16,6 +17,19 @@ pub fn works_are_networks()
 /// changelog would be held back changes nothing.
 pub fn nothing_is_held_back()
     ensures { NothingIsHeldBack }
+{}
+
+/// The history's law for jobs: the replay of each legal, faithful journal of a topology is an uncrashed run of its tasks, which
+/// leaves in the stores the folds of the changelogs and in the lists what is decided and not yet committed.
+pub fn journals_are_runs()
+    ensures run { OfJobs IsRun }
+    ensures stores { OfJobs TellsStores }
+    ensures pasts { OfJobs TellsPasts }
+    ensures all { OfJobs TellsAll }
+    ensures lists { OfJobs TellsLists }
+    ensures late { OfJobs TellsLate }
+    ensures settled { OfJobs SettledIsEmpty }
+    ensures short { OfJobs IsShort }
 {}
 
 /// In every journal of a well-formed topology that is legal and faithful, and whose produced records stand at the partitions of
