@@ -14,4 +14,8 @@ mod stores;
 #[cfg(test)]
 mod tables;
 #[cfg(test)]
+mod topologies;
+#[cfg(test)]
+mod topology_tables;
+#[cfg(test)]
 mod wires;
