@@ -62,8 +62,8 @@ nodes_none : (d : DraftView) (start ns : List NodeView) → EachNode d start ns 
 nodes_none d start [] h = refl
 nodes_none d start (m ∷ ms) h =
     both_none (first_of (node_table d start m)) (nodes_fault d (start ++ m ∷ []) ms)
-      (groups_first (node_table d start m) (subst (λ l. NoneOf (node_table d l m)) (append-nil start) (h [] m ms refl)))
-      (nodes_none d (start ++ m ∷ []) ms (λ before n after s. subst (λ l. NoneOf (node_table d l n)) (sym (append_assoc start (m ∷ []) before)) (h (m ∷ before) n after (ap (λ l. m ∷ l) s))))
+    (groups_first (node_table d start m) (subst (λ l. NoneOf (node_table d l m)) (append-nil start) (h [] m ms refl)))
+    (nodes_none d (start ++ m ∷ []) ms (λ before n after s. subst (λ l. NoneOf (node_table d l n)) (sym (append_assoc start (m ∷ []) before)) (h (m ∷ before) n after (ap (λ l. m ∷ l) s))))
 
 -- ---- printed names
 abbrev EachName : List (Name × ℤ) → List NodeView → List Name → List Name → Type 0
@@ -84,8 +84,8 @@ names_none : (ts : List (Name × ℤ)) (ns : List NodeView) (start ps : List Nam
 names_none ts ns start [] h = refl
 names_none ts ns start (m ∷ ms) h =
     both_none (first_fitting (print_lines ts ns start m)) (printed_fault ts ns (start ++ m ∷ []) ms)
-      (none_first (print_lines ts ns start m) (subst (λ l. NoneFits (print_lines ts ns l m)) (append-nil start) (h [] m ms refl)))
-      (names_none ts ns (start ++ m ∷ []) ms (λ before n after s. subst (λ l. NoneFits (print_lines ts ns l n)) (sym (append_assoc start (m ∷ []) before)) (h (m ∷ before) n after (ap (λ l. m ∷ l) s))))
+    (none_first (print_lines ts ns start m) (subst (λ l. NoneFits (print_lines ts ns l m)) (append-nil start) (h [] m ms refl)))
+    (names_none ts ns (start ++ m ∷ []) ms (λ before n after s. subst (λ l. NoneFits (print_lines ts ns l n)) (sym (append_assoc start (m ∷ []) before)) (h (m ∷ before) n after (ap (λ l. m ∷ l) s))))
 
 -- ---- the whole
 pub no_line : (d : DraftView) → fault_of d ≡ None → IsWellFormed d
@@ -101,4 +101,4 @@ no_line d e =
 pub no_fault : (d : DraftView) → IsWellFormed d → fault_of d ≡ None
 no_fault d h =
     both_none (first_fitting (size_lines d)) (parts_fault d) (none_first (size_lines d) h.sizes)
-      (both_none (nodes_fault d [] d.nodes) (printed_fault d.topics d.nodes [] d.print) (nodes_none d [] d.nodes h.nodes) (names_none d.topics d.nodes [] d.print h.print))
+    (both_none (nodes_fault d [] d.nodes) (printed_fault d.topics d.nodes [] d.print) (nodes_none d [] d.nodes h.nodes) (names_none d.topics d.nodes [] d.print h.print))

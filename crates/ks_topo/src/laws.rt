@@ -9,5 +9,4 @@ ghost use Rattle.ks_topo.specs.WellFormed.{IsWellFormed};
 pub fn well_formed_drafts()
     ensures no_line { (d : DraftView) → fault_of d ≡ None → IsWellFormed d }
     ensures no_fault { (d : DraftView) → IsWellFormed d → fault_of d ≡ None }
-{
-}
+{}
