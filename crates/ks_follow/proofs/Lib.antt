@@ -1,1 +1,5 @@
 pub mod Offsets
+pub mod Orders
+pub mod Standing
+pub mod Taking
+pub mod Freezing

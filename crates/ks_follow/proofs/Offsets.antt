@@ -1,9 +1,9 @@
 -- Records below and past an offset.
-use Rattle.std.proofs.Common.{◌≡◌, ℕ, Option, None, ◌+◌, ◌≤◌, ◌<◌, Bool, true, false, cond, List, [], ◌∷◌, ◌++◌, refl, sym, ap, ap₂, subst, ◌∙◌, arith, append-nil, ⊎_elim, nat_lt, nat_le}
+use Rattle.std.proofs.Common.{◌≡◌, ℕ, None, ◌+◌, ◌≤◌, ◌<◌, cond, List, [], ◌∷◌, ◌++◌, refl, sym, ap, ap₂, subst, ◌∙◌, arith, append-nil, ⊎_elim, nat_lt}
 use Rattle.std.proofs.lemmas.Bool.{cases_lt, lt-ltb, le-ltb, le-leb, lt-leb}
 use Rattle.ks_history.specs.declared.partition.Slot.{Slot}
 use Rattle.ks_history.specs.Partition.{Logged, stable, readable, past_from, below, decided_from}
-use Rattle.ks_replay.proofs.Slots.{Waiting, Rising, decided_rises, past_all, below_none, readable_is, past_from-append, keep_append}
+use Rattle.ks_replay.proofs.Slots.{Rising, decided_rises, past_all, below_none, readable_is, past_from-append, keep_append}
 
 pub below_out : (high : ℕ) (x : Logged) (xs : List Logged) → high ≤ x.offset → below high (x ∷ xs) ≡ below high xs
 below_out high x xs h = ap (λ b. cond b (x ∷ below high xs) (below high xs)) (le-ltb x.offset high h)
@@ -125,3 +125,6 @@ readable_rises slots = subst (Rising 0) (sym (readable_is (λ w e. None) slots))
 
 pub readable_first : (low : ℕ) (slots : List Slot) (x : Logged) (rest : List Logged) → past_from low (readable slots) ≡ x ∷ rest → x.offset < stable slots
 readable_first low slots x rest e = first_below low (stable slots) 0 (decided_from (λ w e. None) 0 slots) x rest (decided_rises (λ w e. None) 0 slots) (ap (past_from low) (sym (readable_is (λ w e. None) slots)) ∙ e)
+
+pub readable_over : (low : ℕ) (slots : List Slot) (x : Logged) (rest : List Logged) → past_from low (readable slots) ≡ x ∷ rest → low ≤ x.offset
+readable_over low slots x rest e = let r : Rising low (x ∷ rest) = subst (Rising low) e (past_rises low 0 (readable slots) (readable_rises slots)) in r.0

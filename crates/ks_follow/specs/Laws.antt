@@ -1,5 +1,5 @@
 -- What keeps a task, and a replica, following a journal.
-use Rattle.std.specs.Prelude.{◌≡◌, ℕ, true, false, Option, Some, List, [], ◌∷◌, ◌++◌}
+use Rattle.std.specs.Prelude.{◌≡◌, ℕ, true, false, Some, List, [], ◌++◌}
 use Rattle.ks_row.specs.declared.record.Rec.{Rec}
 use Rattle.ks_row.specs.declared.record.TaskId.{TaskId}
 use Rattle.ks_history.specs.declared.journal.Entry.{Entry}
@@ -26,7 +26,7 @@ TakingStands = (setup : Setup) (journal : List Entry) (v : TaskView) (topic offs
 
 -- passing over what is not readable
 abbrev pub SkippingStands : Type 0
-SkippingStands = (setup : Setup) (journal : List Entry) (v : TaskView) (topic next : ℕ) →
+SkippingStands = (setup : Setup) (journal : List Entry) (v : TaskView) (topic next : ℕ) → IsNetwork setup.plan →
     MaySkip setup (at setup journal) v topic next → Stands setup journal v → Stands setup journal (skip_view v topic next)
 
 -- what a task hands to a transaction is what the transaction needs to commit it

@@ -1,0 +1,24 @@
+//! What keeps a task following a journal. Each law is the contract of a function that does nothing.
+ghost use Rattle.ks_follow.specs.Laws.{FreshStands, TakingStands, SkippingStands, FrozenIsWork};
+
+/// A task that has taken nothing follows a journal that has committed nothing of its inputs and decided nothing in its
+/// changelogs.
+pub fn fresh_stands()
+    ensures { FreshStands }
+{}
+
+/// A task that takes the next readable record of an input follows as before.
+pub fn taking_stands()
+    ensures { TakingStands }
+{}
+
+/// A task that passes over what is not readable follows as before.
+pub fn skipping_stands()
+    ensures { SkippingStands }
+{}
+
+/// What a task hands to a transaction is what it makes, in the journal's state, of its inputs from the committed offsets to its
+/// positions: so the transaction is faithful.
+pub fn frozen_is_work()
+    ensures { FrozenIsWork }
+{}
