@@ -1,0 +1,3 @@
+pub mod Built
+pub mod Folded
+pub mod Jobs

@@ -1,0 +1,2 @@
+//! What a settled journal of a job answers.
+#![tactic(auto)]
