@@ -3,3 +3,6 @@ pub mod Orders
 pub mod Standing
 pub mod Taking
 pub mod Freezing
+pub mod Growing
+pub mod Lasting
+pub mod Committing

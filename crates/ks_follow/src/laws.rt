@@ -1,5 +1,5 @@
 //! What keeps a task following a journal. Each law is the contract of a function that does nothing.
-ghost use Rattle.ks_follow.specs.Laws.{FreshStands, TakingStands, SkippingStands, FrozenIsWork};
+ghost use Rattle.ks_follow.specs.Laws.{FreshStands, TakingStands, SkippingStands, FrozenIsWork, LongerStands, ReplicaStands, CommittedStands};
 
 /// A task that has taken nothing follows a journal that has committed nothing of its inputs and decided nothing in its
 /// changelogs.
@@ -21,4 +21,20 @@ pub fn skipping_stands()
 /// positions: so the transaction is faithful.
 pub fn frozen_is_work()
     ensures { FrozenIsWork }
+{}
+
+/// A task follows every longer journal that commits nothing for it, whatever it commits for others.
+pub fn longer_stands()
+    ensures { LongerStands }
+{}
+
+/// A replica follows every longer journal.
+pub fn replica_stands()
+    ensures { ReplicaStands }
+{}
+
+/// After the commit of its frozen work a task follows the longer journal: its kept offsets are its positions, and its
+/// changelog positions are the ends past its records.
+pub fn committed_stands()
+    ensures { CommittedStands }
 {}
