@@ -5,3 +5,5 @@ pub mod Placing
 pub mod Labels
 pub mod Setups
 pub mod Rows
+pub mod Order
+pub mod Caused

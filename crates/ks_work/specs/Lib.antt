@@ -1,3 +1,4 @@
 pub mod Work
 pub mod Placing
 pub mod Spelled
+pub mod Order

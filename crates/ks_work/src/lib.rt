@@ -5,6 +5,7 @@
 ghost use Rattle.ks_work.specs.Work.{WorksAreNetworks, NothingIsHeldBack, SetupsAreMade, OfJobs};
 ghost use Rattle.ks_replay.specs.Law.{IsRun, TellsStores, TellsPasts, TellsAll, TellsLists, TellsLate, SettledIsEmpty, IsShort};
 ghost use Rattle.ks_work.specs.Placing.{DecidedStand};
+ghost use Rattle.ks_work.specs.Order.{IsInOrder, DrainRises};
 ghost use Rattle.ks_work.specs.Spelled.{ProjectionsFit, JoinsFit, KeysFit, ItemsFit, DeltasFit};
 
 /// The tasks of every topology make a network: each topic has one reader, no changelog is an input or belongs to two
@@ -51,4 +52,11 @@ pub fn made_values_fit()
     ensures keys { KeysFit }
     ensures items { ItemsFit }
     ensures deltas { DeltasFit }
+{}
+
+/// What a task of a well-formed topology makes of a record goes to topics of greater number than the record's, and the topics that
+/// are drained are numbered in the order in which they are: so one that was drained gets no record from those that come after it.
+pub fn topics_in_order()
+    ensures made { IsInOrder }
+    ensures drain { DrainRises }
 {}
