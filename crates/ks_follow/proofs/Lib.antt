@@ -6,3 +6,4 @@ pub mod Freezing
 pub mod Growing
 pub mod Lasting
 pub mod Committing
+pub mod Owning

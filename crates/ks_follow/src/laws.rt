@@ -1,5 +1,5 @@
 //! What keeps a task following a journal. Each law is the contract of a function that does nothing.
-ghost use Rattle.ks_follow.specs.Laws.{FreshStands, TakingStands, SkippingStands, FrozenIsWork, LongerStands, ReplicaStands, CommittedStands};
+ghost use Rattle.ks_follow.specs.Laws.{FreshStands, TakingStands, SkippingStands, FrozenIsWork, LongerStands, ReplicaStands, CommittedStands, OwnerCommits};
 
 /// A task that has taken nothing follows a journal that has committed nothing of its inputs and decided nothing in its
 /// changelogs.
@@ -37,4 +37,9 @@ pub fn replica_stands()
 /// changelog positions are the ends past its records.
 pub fn committed_stands()
     ensures { CommittedStands }
+{}
+
+/// While the generation stays, only the worker at which a task is active commits for it, where nothing of it was pending before.
+pub fn owner_commits()
+    ensures { OwnerCommits }
 {}
