@@ -7,3 +7,4 @@ pub mod Growing
 pub mod Lasting
 pub mod Committing
 pub mod Owning
+pub mod Fetching

@@ -1,5 +1,5 @@
 -- What keeps a task, and a replica, following a journal.
-use Rattle.std.specs.Prelude.{◌≡◌, ℕ, true, false, Some, List, [], ◌++◌}
+use Rattle.std.specs.Prelude.{◌≡◌, ◌≤◌, ℕ, true, false, Some, List, [], ◌++◌}
 use Rattle.ks_row.specs.declared.record.Rec.{Rec}
 use Rattle.ks_row.specs.declared.record.TaskId.{TaskId}
 use Rattle.ks_history.specs.declared.journal.Entry.{Entry}
@@ -8,8 +8,9 @@ use Rattle.ks_history.specs.State.{Setup, has_task}
 use Rattle.ks_history.specs.Step.{owner, has_pending}
 use Rattle.ks_history.specs.Faithful.{decided}
 use Rattle.ks_history.specs.Follows.{TaskView, ReplicaView, ReplicaFollows}
+use Rattle.ks_history.specs.Reads.{fetched}
 use Rattle.ks_history.specs.History.{at, IsHistory}
-use Rattle.ks_follow.specs.Views.{Stands, fresh_view, take_view, skip_view, committed_view, IsNext, MaySkip, WorkView, pending_work, IsFrozen, IsWork, are_topics_once, AreEnds}
+use Rattle.ks_follow.specs.Views.{Stands, fresh_view, take_view, skip_view, take_all, committed_view, IsNext, MaySkip, WorkView, pending_work, IsFrozen, IsWork, are_topics_once, AreEnds}
 use Rattle.ks_follow.specs.Commits.{NoCommit, OneCommit, AllBy, commits_for}
 
 -- a task that has taken nothing, where none of its inputs is committed and nothing is decided in its changelogs
@@ -28,6 +29,12 @@ TakingStands = (setup : Setup) (journal : List Entry) (v : TaskView) (topic offs
 abbrev pub SkippingStands : Type 0
 SkippingStands = (setup : Setup) (journal : List Entry) (v : TaskView) (topic next : ℕ) → IsNetwork setup.plan →
     MaySkip setup (at setup journal) v topic next → Stands setup journal v → Stands setup journal (skip_view v topic next)
+
+-- taking all that a fetch gives of an input, and going on where the next fetch does
+abbrev pub FetchingStands : Type 0
+FetchingStands = (setup : Setup) (journal : List Entry) (v : TaskView) (topic limit : ℕ) → IsNetwork setup.plan → has_topic topic (setup.plan.inputs v.task.sub) ≡ true → 1 ≤ limit →
+    Stands setup journal v → let got = fetched (at setup journal) (part_of topic v.task) (v.inputs topic) limit in
+    Stands setup journal (skip_view (take_all setup.plan v topic got.0) topic got.1)
 
 -- what a task hands to a transaction is what the transaction needs to commit it
 abbrev pub FrozenIsWork : Type 0

@@ -49,6 +49,11 @@ take_view plan v topic offset rec =
       late = capped (v.late + o.late);
     }
 
+-- after some records of an input, with their offsets
+abbrev pub take_all : Plan → TaskView → ℕ → List (ℕ × Rec) → TaskView
+take_all plan v topic [] = v
+take_all plan v topic (r ∷ rs) = take_all plan (take_view plan v topic r.0 r.1) topic rs
+
 -- after it has passed over what is not readable of an input
 abbrev pub skip_view : TaskView → ℕ → ℕ → TaskView
 skip_view v topic next = record v { inputs = with_number v.inputs topic next }

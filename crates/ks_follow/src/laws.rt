@@ -1,5 +1,5 @@
 //! What keeps a task following a journal. Each law is the contract of a function that does nothing.
-ghost use Rattle.ks_follow.specs.Laws.{FreshStands, TakingStands, SkippingStands, FrozenIsWork, LongerStands, ReplicaStands, CommittedStands, OwnerCommits};
+ghost use Rattle.ks_follow.specs.Laws.{FreshStands, TakingStands, FetchingStands, SkippingStands, FrozenIsWork, LongerStands, ReplicaStands, CommittedStands, OwnerCommits};
 
 /// A task that has taken nothing follows a journal that has committed nothing of its inputs and decided nothing in its
 /// changelogs.
@@ -10,6 +10,11 @@ pub fn fresh_stands()
 /// A task that takes the next readable record of an input follows as before.
 pub fn taking_stands()
     ensures { TakingStands }
+{}
+
+/// A task that takes all that a fetch gives of an input, and goes on where the next fetch does, follows as before.
+pub fn fetching_stands()
+    ensures { FetchingStands }
 {}
 
 /// A task that passes over what is not readable follows as before.
