@@ -8,3 +8,4 @@ pub mod Lasting
 pub mod Committing
 pub mod Owning
 pub mod Fetching
+pub mod Inside

@@ -1,16 +1,17 @@
 -- What keeps a task, and a replica, following a journal.
 use Rattle.std.specs.Prelude.{◌≡◌, ◌≤◌, ℕ, true, false, Some, List, [], ◌++◌}
+use Rattle.std.specs.List.{All}
 use Rattle.ks_row.specs.declared.record.Rec.{Rec}
 use Rattle.ks_row.specs.declared.record.TaskId.{TaskId}
 use Rattle.ks_history.specs.declared.journal.Entry.{Entry}
 use Rattle.ks_history.specs.Machine.{IsNetwork, part_of, has_topic}
-use Rattle.ks_history.specs.State.{Setup, has_task}
+use Rattle.ks_history.specs.State.{Setup, IsPart, has_task}
 use Rattle.ks_history.specs.Step.{owner, has_pending}
 use Rattle.ks_history.specs.Faithful.{decided}
 use Rattle.ks_history.specs.Follows.{TaskView, ReplicaView, ReplicaFollows}
 use Rattle.ks_history.specs.Reads.{fetched}
 use Rattle.ks_history.specs.History.{at, IsHistory}
-use Rattle.ks_follow.specs.Views.{Stands, fresh_view, take_view, skip_view, take_all, committed_view, IsNext, MaySkip, WorkView, pending_work, IsFrozen, IsWork, are_topics_once, AreEnds}
+use Rattle.ks_follow.specs.Views.{Stands, fresh_view, take_view, skip_view, take_all, committed_view, IsNext, MaySkip, WorkView, pending_work, IsFrozen, IsWork, are_topics_once, SendsInside, AreEnds}
 use Rattle.ks_follow.specs.Commits.{NoCommit, OneCommit, AllBy, commits_for}
 
 -- a task that has taken nothing, where none of its inputs is committed and nothing is decided in its changelogs
@@ -40,6 +41,11 @@ FetchingStands = (setup : Setup) (journal : List Entry) (v : TaskView) (topic li
 abbrev pub FrozenIsWork : Type 0
 FrozenIsWork = (setup : Setup) (journal : List Entry) (v : TaskView) (f : WorkView) → IsNetwork setup.plan →
     Stands setup journal v → IsFrozen setup.plan v f → has_task v.task setup.tasks ≡ true → are_topics_once (setup.plan.inputs v.task.sub) ≡ true → IsWork setup (at setup journal) f
+
+-- where the cluster's tasks send to partitions of the cluster alone, so does frozen work
+abbrev pub FrozenIsInside : Type 0
+FrozenIsInside = (setup : Setup) (journal : List Entry) (v : TaskView) (f : WorkView) → SendsInside setup →
+    Stands setup journal v → IsFrozen setup.plan v f → has_task v.task setup.tasks ≡ true → All (λ out. IsPart setup out.0) f.outputs
 
 -- whatever a longer journal commits for other tasks
 abbrev pub LongerStands : Type 0

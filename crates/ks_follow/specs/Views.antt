@@ -11,8 +11,8 @@ use Rattle.ks_network.specs.Run.{sent_to}
 use Rattle.ks_history.specs.declared.journal.Entry.{Entry}
 use Rattle.ks_history.specs.declared.transaction.Pending.{Pending}
 use Rattle.ks_history.specs.Partition.{stable, readable, past_from, below, with_offsets}
-use Rattle.ks_history.specs.Machine.{Plan, network, part_of, has_topic}
-use Rattle.ks_history.specs.State.{State, Setup, with_number, has_task, offset_in}
+use Rattle.ks_history.specs.Machine.{Plan, Stores, network, part_of, has_topic}
+use Rattle.ks_history.specs.State.{State, Setup, IsPart, with_number, has_task, offset_in}
 use Rattle.ks_history.specs.Faithful.{decided, taken, count_in, outcome, capped, pending_offsets}
 use Rattle.ks_history.specs.Follows.{TaskView, TaskFollows, IsReached}
 use Rattle.ks_history.specs.History.{are_offsets}
@@ -148,6 +148,11 @@ pub record IsWork (setup : Setup) (s : State) (f : WorkView) : Type 0 where
 abbrev pub are_topics_once : List ℕ → Bool
 are_topics_once [] = true
 are_topics_once (topic ∷ topics) = if has_topic topic topics then false else are_topics_once topics
+
+-- what the cluster's tasks make of records of their inputs goes to partitions of the cluster
+abbrev pub SendsInside : Setup → Type 0
+SendsInside setup = (t : TaskId) (stores : Stores) (topic : ℕ) (rec : Rec) (q : PartId) → has_task t setup.tasks ≡ true → has_topic topic (setup.plan.inputs t.sub) ≡ true →
+    sent_to (network setup.plan) q (setup.plan.step t stores (part_of topic t) rec).made ≢ [] → IsPart setup q
 
 -- ---- the ends past committed work
 -- every decided record of a partition stands before the position, and the position is reached

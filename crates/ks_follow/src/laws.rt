@@ -1,5 +1,5 @@
 //! What keeps a task following a journal. Each law is the contract of a function that does nothing.
-ghost use Rattle.ks_follow.specs.Laws.{FreshStands, TakingStands, FetchingStands, SkippingStands, FrozenIsWork, LongerStands, ReplicaStands, CommittedStands, OwnerCommits};
+ghost use Rattle.ks_follow.specs.Laws.{FreshStands, TakingStands, FetchingStands, SkippingStands, FrozenIsWork, FrozenIsInside, LongerStands, ReplicaStands, CommittedStands, OwnerCommits};
 
 /// A task that has taken nothing follows a journal that has committed nothing of its inputs and decided nothing in its
 /// changelogs.
@@ -26,6 +26,11 @@ pub fn skipping_stands()
 /// positions: so the transaction is faithful.
 pub fn frozen_is_work()
     ensures { FrozenIsWork }
+{}
+
+/// Where the cluster's tasks send to partitions of the cluster alone, so does what a task hands to a transaction.
+pub fn frozen_is_inside()
+    ensures { FrozenIsInside }
 {}
 
 /// A task follows every longer journal that commits nothing for it, whatever it commits for others.
