@@ -1,0 +1,4 @@
+pub mod Drained
+pub mod Fetches
+pub mod Reading
+pub mod Rows

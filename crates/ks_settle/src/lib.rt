@@ -1,0 +1,7 @@
+//! A cluster is brought to rest, and its tables are read.
+#![tactic(auto)]
+
+mod rows;
+mod shown;
+
+pub use shown::tables;

@@ -1,0 +1,79 @@
+//! The tables that a topology prints, as its changelogs keep them.
+ghost use Rattle.std.specs.Prelude.{◌≡◌, ℕ, [], map, IfOk, option_map};
+ghost use Rattle.ks_topo.specs.Topologies.{draft_of, plan_in};
+ghost use Rattle.ks_topo.specs.Layout.{topics_of, parts_of_topic};
+ghost use Rattle.ks_cluster.specs.Kept.{Kept, state_of};
+ghost use Rattle.ks_answer.specs.Folded.{folded_table, folded_tables};
+ghost use Rattle.ks_settle.specs.Rows.{node_named, IsKept, IsPrinted};
+
+use crate::rows::{lines_of, rows_kept};
+use ks_cluster::{Cluster, Work};
+use ks_query::Table;
+use ks_row::Seq;
+use ks_topo::{Node, Topology};
+use std::alloc::{AllocError, Global};
+
+// The first node of this name.
+fn find_node<'a>(nodes: &'a [Node], name: &[u8]) -> Option<&'a Node>
+    ensures { option_map (λ n. n.now) result ≡ node_named nodes.now name.now }
+{
+    let mut rest = nodes;
+    while let [first, more @ ..] = rest {
+        if first.name.as_str().as_bytes() == name {
+            return Some(first);
+        }
+        rest = more;
+    }
+    None
+}
+
+// The node of a printed name, and the number of its changelog.
+fn find_kept<'a>(topology: &'a Topology, name: &[u8]) -> (&'a Node, u16)
+    requires { IsPrinted (draft_of topology.now) name.now }
+    ensures { IsKept (draft_of topology.now) name.now result.0.now result.1 }
+{
+    let Some(node) = find_node(topology.nodes(), name) else {
+        unreachable!();
+    };
+    let Some(topic) = node.store else {
+        unreachable!();
+    };
+    (node, topic)
+}
+
+fn table_of<W: Work>(
+    alloc: Global,
+    topology: &Topology,
+    cluster: &Cluster<W>,
+    name: &[u8],
+) -> Result<Table, AllocError>
+    requires counts { cluster.now.counts ≡ map (parts_of_topic (plan_in topology.now)) (topics_of (plan_in topology.now)) }
+    requires printed { IsPrinted (draft_of topology.now) name.now }
+    ensures { IfOk result (λ t. t ≡ folded_table (draft_of topology.now) (state_of W.plan cluster.now) name.now) }
+{
+    let (node, topic) = find_kept(topology, name);
+    let rows = rows_kept(alloc, cluster, &node.op, topic, node.parts)?;
+    let lines = lines_of(alloc, rows)?;
+    Ok(Table {
+        name: node.name.clone()?,
+        rows: Seq::of(lines),
+    })
+}
+
+/// The printed tables of a topology, in the order of `print`: of each the rows that the decided records of its changelog keep, over
+/// all partitions.
+pub fn tables<W: Work>(
+    alloc: Global,
+    topology: &Topology,
+    cluster: &Cluster<W>,
+) -> Result<Vec<Table>, AllocError>
+    requires { cluster.now.counts ≡ map (parts_of_topic (plan_in topology.now)) (topics_of (plan_in topology.now)) }
+    ensures { IfOk result (λ v. v.items ≡ folded_tables (draft_of topology.now) (state_of W.plan cluster.now)) }
+{
+    let names = topology.print();
+    let mut tables = Vec::new(alloc);
+    for i in 0..names.len() {
+        tables.push(table_of(alloc, topology, cluster, names[i].as_slice())?)?;
+    }
+    Ok(tables)
+}
