@@ -1,0 +1,4 @@
+pub mod Once
+pub mod Nodes
+pub mod Sending
+pub mod Steps

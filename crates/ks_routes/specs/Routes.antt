@@ -1,0 +1,30 @@
+-- Where the records of a topology's tasks go, as their transactions want it: each input is named once, and all that a task makes goes
+-- to partitions of the cluster.
+use Rattle.std.specs.Prelude.{◌≡◌, ℕ, ◌≤◌, ◌<◌, true, Some, List, slice_get}
+use Rattle.ks_expr.specs.declared.terms.JoinKind.{JoinKind}
+use Rattle.ks_expr.specs.Terms.{Set}
+use Rattle.ks_topo.specs.Drafts.{DraftView}
+use Rattle.ks_topo.specs.Plan.{Plan, plan_of}
+use Rattle.ks_topo.specs.Plan.Kind.{ForeignKeyJoin}
+use Rattle.ks_topo.specs.Layout.{parts_of}
+use Rattle.ks_topo.specs.Infos.{input_numbers}
+use Rattle.ks_machine.specs.Messages.{Rules}
+use Rattle.ks_rest.specs.WellFormed.{IsWellFormed}
+use Rattle.ks_work.specs.Work.{setup_of}
+use Rattle.ks_follow.specs.Views.{are_topics_once, SendsInside}
+
+-- no subtopology has an input twice
+abbrev pub InputsAreOnce : Type 0
+InputsAreOnce = (p : Plan) (sub : ℕ) → are_topics_once (input_numbers p sub) ≡ true
+
+-- a key's partition is one of those that there are
+abbrev pub HasParts : Rules → Type 0
+HasParts rules = (key : List ℕ) (n : ℕ) → 1 ≤ n → rules.part key n < n
+
+-- the sides of each foreign-key join have partitions
+abbrev pub JoinsHaveParts : Plan → Type 0
+JoinsHaveParts p = (n l r : ℕ) (fk : List ℕ) (kind : JoinKind) (set : Set) → slice_get p.kinds n ≡ Some (ForeignKeyJoin l r fk kind set) → (1 ≤ parts_of p n) × (1 ≤ parts_of p r)
+
+-- the tasks of a well-formed topology send to partitions of its cluster alone
+abbrev pub TopologiesSendInside : Type 0
+TopologiesSendInside = (rules : Rules) (d : DraftView) → IsWellFormed d → HasParts rules → JoinsHaveParts (plan_of d) → SendsInside (setup_of rules (plan_of d))
