@@ -1,0 +1,11 @@
+pub mod Lists
+pub mod Topics
+pub mod Tasks
+pub mod Spelled
+pub mod Agreeing
+pub mod Steps
+pub mod Runs
+pub mod Inputs
+pub mod Rows
+pub mod Plain
+pub mod Answer

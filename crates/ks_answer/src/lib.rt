@@ -1,2 +1,10 @@
-//! What a settled journal of a job answers.
+//! What a settled journal of a job answers. Laws alone: the public function has an empty body, and its contract is the law.
 #![tactic(auto)]
+
+ghost use Rattle.ks_answer.specs.Jobs.{TablesAreTheQuery};
+
+/// The folds of the changelogs of every settled, legal and faithful journal of a well-formed topology of tables of topics and of
+/// counts and sums of tables, which has produced exactly these records, are the query's tables over them.
+pub fn tables_are_the_query()
+    ensures { TablesAreTheQuery }
+{}
