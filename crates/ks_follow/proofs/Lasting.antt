@@ -18,8 +18,9 @@ use Rattle.ks_replay.proofs.Replays.{whole}
 use Rattle.ks_replay.proofs.Slots.{Rising, decided_rises, readable_decided, below_none}
 use Rattle.ks_replay.proofs.Sound.{Sound}
 use Rattle.ks_replay.proofs.Stores.{only_sender}
-use Rattle.ks_follow.specs.Laws.{LongerStands, ReplicaStands}
-use Rattle.ks_follow.specs.Views.{IsPast}
+use Rattle.ks_follow.specs.Laws.{LongerStands, ReplicaStands, FreshFollows}
+use Rattle.ks_follow.specs.Views.{IsPast, fresh_view}
+use Rattle.ks_follow.proofs.Freezing.{fresh_stands}
 use Rattle.ks_follow.proofs.Growing.{Grown, Rests, grown_after, rests_after}
 use Rattle.ks_follow.proofs.Offsets.{below-append, rising_less}
 use Rattle.ks_follow.proofs.Standing.{Standing, Passed, standing, passed, stands_of}
@@ -175,3 +176,6 @@ replica_stands setup journal more replica net history follows =
       reached = λ topic h. subst (λ k. IsReached k (part_of topic replica.task) (replica.position topic)) there
           (still_reached setup s new before behind grown replica.task topic (replica.position topic) h (follows.reached topic h));
     }
+
+pub fresh_follows : FreshFollows
+fresh_follows setup journal t net history none = longer_stands setup [] journal (fresh_view t) net history none (fresh_stands setup [] t (λ topic h. refl) (λ topic h. refl))

@@ -5,7 +5,7 @@ use Rattle.ks_row.specs.declared.record.Rec.{Rec}
 use Rattle.ks_row.specs.declared.record.TaskId.{TaskId}
 use Rattle.ks_history.specs.declared.journal.Entry.{Entry}
 use Rattle.ks_history.specs.Machine.{IsNetwork, part_of, has_topic}
-use Rattle.ks_history.specs.State.{Setup, IsPart, has_task}
+use Rattle.ks_history.specs.State.{Setup, start, IsPart, has_task}
 use Rattle.ks_history.specs.Step.{owner, has_pending}
 use Rattle.ks_history.specs.Faithful.{decided}
 use Rattle.ks_history.specs.Follows.{TaskView, ReplicaView, ReplicaFollows}
@@ -20,6 +20,10 @@ FreshStands = (setup : Setup) (journal : List Entry) (t : TaskId) →
     ((topic : ℕ) → has_topic topic (setup.plan.inputs t.sub) ≡ true → (at setup journal).committed t topic ≡ 0) →
     ((topic : ℕ) → has_topic topic (setup.plan.changelogs t.sub) ≡ true → decided (at setup journal) (part_of topic t) ≡ []) →
     Stands setup journal (fresh_view t)
+
+-- a task that has taken nothing follows every history that commits nothing for it
+abbrev pub FreshFollows : Type 0
+FreshFollows = (setup : Setup) (journal : List Entry) (t : TaskId) → IsNetwork setup.plan → IsHistory setup journal → NoCommit setup start journal t → Stands setup journal (fresh_view t)
 
 -- taking the next record
 abbrev pub TakingStands : Type 0

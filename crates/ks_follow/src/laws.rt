@@ -1,10 +1,15 @@
 //! What keeps a task following a journal. Each law is the contract of a function that does nothing.
-ghost use Rattle.ks_follow.specs.Laws.{FreshStands, TakingStands, FetchingStands, SkippingStands, FrozenIsWork, FrozenIsInside, LongerStands, ReplicaStands, CommittedStands, OwnerCommits};
+ghost use Rattle.ks_follow.specs.Laws.{FreshStands, FreshFollows, TakingStands, FetchingStands, SkippingStands, FrozenIsWork, FrozenIsInside, LongerStands, ReplicaStands, CommittedStands, OwnerCommits};
 
 /// A task that has taken nothing follows a journal that has committed nothing of its inputs and decided nothing in its
 /// changelogs.
 pub fn fresh_stands()
     ensures { FreshStands }
+{}
+
+/// A task that has taken nothing follows every history that commits nothing for it.
+pub fn fresh_follows()
+    ensures { FreshFollows }
 {}
 
 /// A task that takes the next readable record of an input follows as before.
