@@ -31,7 +31,7 @@ behind_rises at [] ys r = rising_less 0 at ys (omega arith) r
 behind_rises at (x ∷ []) ys r = r.1
 behind_rises at (x ∷ y ∷ xs) ys r = behind_rises (x.offset + 1) (y ∷ xs) ys r.1
 
-first_before_last : (at : ℕ) (x : Logged) (xs : List Logged) → Rising at (x ∷ xs) → x.offset + 1 ≤ past_last (with_offsets (x ∷ xs))
+pub first_before_last : (at : ℕ) (x : Logged) (xs : List Logged) → Rising at (x ∷ xs) → x.offset + 1 ≤ past_last (with_offsets (x ∷ xs))
 first_before_last at x [] r = omega arith
 first_before_last at x (y ∷ ys) r = omega (arith, r.1.0, first_before_last (x.offset + 1) y ys r.1)
 

@@ -9,3 +9,4 @@ pub mod Committing
 pub mod Owning
 pub mod Fetching
 pub mod Inside
+pub mod Replicas

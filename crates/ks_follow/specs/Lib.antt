@@ -1,3 +1,4 @@
 pub mod Views
 pub mod Commits
 pub mod Laws
+pub mod Replicas

@@ -1,5 +1,6 @@
 //! What keeps a task following a journal. Each law is the contract of a function that does nothing.
 ghost use Rattle.ks_follow.specs.Laws.{FreshStands, FreshFollows, TakingStands, FetchingStands, SkippingStands, FrozenIsWork, FrozenIsInside, LongerStands, ReplicaStands, CommittedStands, OwnerCommits};
+ghost use Rattle.ks_follow.specs.Replicas.{ReplicaStarts, FeedingFollows, RestoredStands, RestedFollows};
 
 /// A task that has taken nothing follows a journal that has committed nothing of its inputs and decided nothing in its
 /// changelogs.
@@ -57,4 +58,24 @@ pub fn committed_stands()
 /// While the generation stays, only the worker at which a task is active commits for it, where nothing of it was pending before.
 pub fn owner_commits()
     ensures { OwnerCommits }
+{}
+
+/// A replica that was fed nothing follows every journal.
+pub fn replica_starts()
+    ensures { ReplicaStarts }
+{}
+
+/// A replica that is fed all that a fetch gives of a changelog, and goes on where the next fetch does, follows as before.
+pub fn feeding_follows()
+    ensures { FeedingFollows }
+{}
+
+/// A task made of a replica that is past every decided record, with the committed offsets, follows the journal.
+pub fn restored_stands()
+    ensures { RestoredStands }
+{}
+
+/// A task that has taken nothing since its last commit is a replica that follows the journal.
+pub fn rested_follows()
+    ensures { RestedFollows }
 {}
