@@ -10,3 +10,4 @@ pub mod Owning
 pub mod Fetching
 pub mod Inside
 pub mod Replicas
+pub mod Worked

@@ -2,3 +2,4 @@ pub mod Views
 pub mod Commits
 pub mod Laws
 pub mod Replicas
+pub mod Example
