@@ -18,11 +18,11 @@ use Rattle.ks_replay.proofs.Replays.{whole}
 use Rattle.ks_replay.proofs.Slots.{Rising, decided_rises, readable_decided, below_none}
 use Rattle.ks_replay.proofs.Sound.{Sound}
 use Rattle.ks_replay.proofs.Stores.{only_sender}
-use Rattle.ks_follow.specs.Laws.{LongerStands, ReplicaStands, FreshFollows}
+use Rattle.ks_follow.specs.Laws.{LongerStands, ReplicaStands, FreshFollows, LastIsPast}
 use Rattle.ks_follow.specs.Views.{IsPast, fresh_view}
 use Rattle.ks_follow.proofs.Freezing.{fresh_stands}
 use Rattle.ks_follow.proofs.Growing.{Grown, Rests, grown_after, rests_after}
-use Rattle.ks_follow.proofs.Offsets.{below-append, rising_less}
+use Rattle.ks_follow.proofs.Offsets.{below-append, below_in, rising_less}
 use Rattle.ks_follow.proofs.Standing.{Standing, Passed, standing, passed, stands_of}
 
 -- ---- the last of some records, and then more
@@ -39,6 +39,16 @@ pub last_grows : (at : ℕ) (xs ys : List Logged) → Rising at (xs ++ ys) → p
 last_grows at [] ys r = omega arith
 last_grows at (x ∷ []) ys r = first_before_last at x ys r
 last_grows at (x ∷ y ∷ xs) ys r = last_grows (x.offset + 1) (y ∷ xs) ys r.1
+
+all_before_last : (at : ℕ) (xs : List Logged) → Rising at xs → below (past_last (with_offsets xs)) xs ≡ xs
+all_before_last at [] r = refl
+all_before_last at (x ∷ []) r = below_in (x.offset + 1) x [] (omega arith)
+all_before_last at (x ∷ y ∷ xs) r =
+    below_in (past_last (with_offsets (y ∷ xs))) x (y ∷ xs) (omega (arith, r.1.0, first_before_last (x.offset + 1) y xs r.1))
+    ∙ ap (λ l. x ∷ l) (all_before_last (x.offset + 1) (y ∷ xs) r.1)
+
+pub last_is_past : LastIsPast
+last_is_past s p = record { past = all_before_last 0 (decided s p) (decided_rises (waiting_at (markers_of s) p) 0 (s.partition p)); reached = inr (omega arith) }
 
 -- ---- one state and a later one
 pub past_kept : (s new : State) (q : PartId) (position : ℕ) → decided new q ≡ decided s q → stable (s.partition q) ≤ stable (new.partition q) → IsPast s q position → IsPast new q position

@@ -2,16 +2,18 @@
 use Rattle.std.specs.Prelude.{◌≡◌, ◌≤◌, ℕ, true, false, Some, List, [], ◌++◌}
 use Rattle.std.specs.List.{All}
 use Rattle.ks_row.specs.declared.record.Rec.{Rec}
+use Rattle.ks_row.specs.declared.record.PartId.{PartId}
 use Rattle.ks_row.specs.declared.record.TaskId.{TaskId}
 use Rattle.ks_history.specs.declared.journal.Entry.{Entry}
+use Rattle.ks_history.specs.Partition.{past_last, with_offsets}
 use Rattle.ks_history.specs.Machine.{IsNetwork, part_of, has_topic}
-use Rattle.ks_history.specs.State.{Setup, start, IsPart, has_task}
+use Rattle.ks_history.specs.State.{State, Setup, start, IsPart, has_task}
 use Rattle.ks_history.specs.Step.{owner, has_pending}
 use Rattle.ks_history.specs.Faithful.{decided}
 use Rattle.ks_history.specs.Follows.{TaskView, ReplicaView, ReplicaFollows}
 use Rattle.ks_history.specs.Reads.{fetched}
 use Rattle.ks_history.specs.History.{at, IsHistory}
-use Rattle.ks_follow.specs.Views.{Stands, fresh_view, take_view, skip_view, take_all, committed_view, IsNext, MaySkip, WorkView, pending_work, IsFrozen, IsWork, are_topics_once, SendsInside, AreEnds}
+use Rattle.ks_follow.specs.Views.{Stands, fresh_view, take_view, skip_view, take_all, committed_view, IsNext, MaySkip, WorkView, pending_work, IsFrozen, IsWork, are_topics_once, SendsInside, IsPast, AreEnds}
 use Rattle.ks_follow.specs.Commits.{NoCommit, OneCommit, AllBy, commits_for}
 
 -- a task that has taken nothing, where none of its inputs is committed and nothing is decided in its changelogs
@@ -66,6 +68,10 @@ abbrev pub CommittedStands : Type 0
 CommittedStands = (setup : Setup) (journal more : List Entry) (v : TaskView) (f : WorkView) (ends : List (ℕ × ℕ)) → IsNetwork setup.plan → IsHistory setup (journal ++ more) →
     Stands setup journal v → IsFrozen setup.plan v f → OneCommit setup (at setup journal) more (pending_work f) → AreEnds setup (at setup (journal ++ more)) f ends →
     Stands setup (journal ++ more) (committed_view v ends)
+
+-- one past the last decided record of a partition is an end past its records
+abbrev pub LastIsPast : Type 0
+LastIsPast = (s : State) (p : PartId) → IsPast s p (past_last (with_offsets (decided s p)))
 
 -- while the generation stays, only the worker at which the task is active commits for it, where nothing of it was pending
 abbrev pub OwnerCommits : Type 0

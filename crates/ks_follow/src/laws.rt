@@ -1,5 +1,5 @@
 //! What keeps a task following a journal. Each law is the contract of a function that does nothing.
-ghost use Rattle.ks_follow.specs.Laws.{FreshStands, FreshFollows, TakingStands, FetchingStands, SkippingStands, FrozenIsWork, FrozenIsInside, LongerStands, ReplicaStands, CommittedStands, OwnerCommits};
+ghost use Rattle.ks_follow.specs.Laws.{FreshStands, FreshFollows, TakingStands, FetchingStands, SkippingStands, FrozenIsWork, FrozenIsInside, LongerStands, ReplicaStands, CommittedStands, LastIsPast, OwnerCommits};
 ghost use Rattle.ks_follow.specs.Replicas.{ReplicaStarts, FeedingFollows, RestoredStands, RestedFollows};
 
 /// A task that has taken nothing follows a journal that has committed nothing of its inputs and decided nothing in its
@@ -53,6 +53,11 @@ pub fn replica_stands()
 /// changelog positions are the ends past its records.
 pub fn committed_stands()
     ensures { CommittedStands }
+{}
+
+/// One past the last decided record of a partition is an end past its records, as `committed_stands` asks of ends.
+pub fn last_is_past()
+    ensures { LastIsPast }
 {}
 
 /// While the generation stays, only the worker at which a task is active commits for it, where nothing of it was pending before.
