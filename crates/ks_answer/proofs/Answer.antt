@@ -1,17 +1,17 @@
 -- The folds of a settled journal's changelogs are the query's tables.
-use Rattle.std.proofs.Common.{◌≡◌, ℕ, ◌+◌, ◌<◌, ◌≤◌, ◌^◌, true, cond, ◌&&◌, List, length, [], ◌∷◌, map, Option, Some, None, refl, sym, ap, ap₂, subst, ◌∙◌, arith, ⊎_elim}
+use Rattle.std.proofs.Common.{◌≡◌, ℕ, ◌+◌, ◌<◌, ◌≤◌, ◌^◌, true, false, cond, ◌&&◌, List, length, [], ◌∷◌, get_or, map, Option, Some, None, refl, sym, ap, ap₂, subst, ◌∙◌, arith, ⊎_elim}
 use Rattle.std.specs.Prelude.{option_map, ◌==◌}
 use Rattle.std.specs.Cmp.Lexicographic.{nat_list_cmp_total}
 use Rattle.std.specs.FinMap.{slice_cmp-IsAntisymmetric, nat_cmp-IsAntisymmetric}
 use Rattle.std.proofs.lemmas.List.{length-map}
-use Rattle.std.proofs.lemmas.Bool.{and_from, eq-eqb, cases_lt}
+use Rattle.std.proofs.lemmas.Bool.{and_parts, and_from, eq-eqb, cases_lt}
 use Rattle.std.proofs.lemmas.Bool.Decides.{Decides-eqb}
 use Rattle.ks_row.specs.Texts.{key_from}
 use Rattle.ks_row.specs.declared.record.Rec.{Rec}
 use Rattle.ks_row.specs.declared.record.TaskId.{TaskId}
 use Rattle.ks_expr.specs.Eval.{Row}
 use Rattle.ks_topo.specs.Drafts.{Name, DraftView}
-use Rattle.ks_topo.specs.Plan.{Plan, plan_of, known_nodes, node_number}
+use Rattle.ks_topo.specs.Plan.{Plan, plan_of, known_nodes, node_number, is_stream}
 use Rattle.ks_topo.specs.declared.node.Topic.TheVariants.{Changelog}
 use Rattle.ks_topo.specs.Layout.{up_to, parts_of, kind_at, number_of, sub_of, reads}
 use Rattle.ks_topo.specs.Infos.{changelog_numbers}
@@ -29,37 +29,38 @@ use Rattle.ks_replay.proofs.Replays.{is_run, tells_stores, settled_is_empty}
 use Rattle.ks_replay.proofs.Counts.{is_short}
 use Rattle.ks_query.specs.Streams.{Key, Input}
 use Rattle.ks_query.specs.Query.{query}
-use Rattle.ks_query.specs.Printed.{plain_row, window_row, table_at, job_tables}
+use Rattle.ks_query.specs.Printed.{plain_row, window_row, table_at}
 use Rattle.ks_machine.specs.Messages.{Place, Item, Stored, shown, Rules}
 use Rattle.ks_machine.specs.Tasks.{machine, inputs_of}
 use Rattle.ks_machine.specs.Bytes.{rec_of, part_id, map_from, stored_from, pairs_of}
 use Rattle.ks_machine.specs.Rest.{IsDrained, home}
 use Rattle.ks_rest.specs.WellFormed.{IsWellFormed}
 use Rattle.ks_rest.specs.States.{state_of, State as RunOf}
-use Rattle.ks_rest.specs.AtRest.{IsQuery}
+use Rattle.ks_rest.specs.AtRest.{IsQuery, IsPlain, plain_nodes}
 use Rattle.ks_rest.proofs.Fits.{Fits}
 use Rattle.ks_rest.proofs.WellFormed.{well_formed_fits}
 use Rattle.ks_rest.proofs.PlainRest.{plain_rests}
 use Rattle.ks_work.specs.Work.{setup_of}
 use Rattle.ks_work.proofs.Networks.{works_are_networks}
 use Rattle.ks_work.proofs.Kept.{nothing_is_held_back}
-use Rattle.ks_answer.specs.Built.{IsBuilt}
-use Rattle.ks_answer.specs.Folded.{log_part, fold_pairs, rows_of, node_rows, folded_table, folded_tables}
+use Rattle.ks_answer.specs.Plain.{IsCovered, FitKinds, are_plain, PlainTablesAreTheQuery}
+use Rattle.ks_answer.specs.Folded.{log_part, fold_pairs, rows_of, node_rows, folded_table}
 use Rattle.ks_answer.specs.Jobs.{HasParts, FitInputs, IsDone, TablesAreTheQuery}
 use Rattle.ks_answer.proofs.Lists.{AllOf, at_node}
-use Rattle.ks_answer.proofs.Topics.{owned}
+use Rattle.ks_answer.proofs.Topics.{Covers, NodeIs, nodes_are, IsOwned, owned}
 use Rattle.ks_answer.proofs.Agreeing.{Agrees}
-use Rattle.ks_answer.proofs.Steps.{IsPlace, FitsItem, Held, built_agrees, kinds_count, get_within}
+use Rattle.ks_answer.proofs.Steps.{IsPlace, FitsItem, Held, covered_agrees, kinds_count, get_within}
 use Rattle.ks_answer.proofs.Runs.{decoded_choice, decoded_choices, Same, same_start, same_choices, taken_few}
 use Rattle.ks_answer.proofs.Inputs.{inputs_are, inputs_fit}
 use Rattle.ks_answer.proofs.Rows.{in_part, rows_at_key}
-use Rattle.ks_answer.proofs.Plain.{all_plain, no_parts, no_rows}
+use Rattle.ks_answer.proofs.Built.{built_covered, built_spelled, all_plain, no_parts, no_rows}
+use Rattle.ks_answer.proofs.Made.{plain_table}
 
 map_same : {A B : Type 0} (f g : A → B) → ((x : A) → f x ≡ g x) → (xs : List A) → map f xs ≡ map g xs
 map_same f g h [] = refl
 map_same f g h (x ∷ xs) = ap₂ (λ y ys. y ∷ ys) (h x) (map_same f g h xs)
 
-module _ (rules : Rules) (d : DraftView) (records : List Input) (journal : List Entry) (has_parts : HasParts rules) (well : IsWellFormed d) (built : IsBuilt (plan_of d))
+module _ (rules : Rules) (d : DraftView) (records : List Input) (journal : List Entry) (has_parts : HasParts rules) (well : IsWellFormed d) (kinds : IsCovered (plan_of d)) (spelled : FitKinds (plan_of d).kinds)
     (fit : FitInputs (plan_of d) records) (done : IsDone rules d records journal) where
   abbrev p : Plan
   p = plan_of d
@@ -70,8 +71,11 @@ module _ (rules : Rules) (d : DraftView) (records : List Input) (journal : List 
   abbrev settled_state : State
   settled_state = at setup journal
 
-  fits : Fits p
+  abbrev fits : Fits p
   fits = well_formed_fits d well
+
+  abbrev covers : Covers p
+  covers = record { kinds = kinds; spelled = spelled; fits = fits }
 
   abbrev choices : List (Option TaskId × Place)
   choices = decoded_choices p (replay setup journal)
@@ -82,11 +86,11 @@ module _ (rules : Rules) (d : DraftView) (records : List Input) (journal : List 
   -- the decoded run of the journal's steps has what its run over bytes has
   same_run : Same rules p (FitsItem rules p) (Held rules p) (run_of setup journal) run
   same_run =
-      let agrees : Agrees rules p (FitsItem rules p) (Held rules p) = built_agrees rules p built fits has_parts in
+      let agrees : Agrees rules p (FitsItem rules p) (Held rules p) = covered_agrees rules p covers has_parts in
       same_choices rules p (FitsItem rules p) (Held rules p) agrees (nothing_is_held_back rules d well) _ _
       (same_start rules p (FitsItem rules p) (Held rules p) agrees (nothing_is_held_back rules d well) (produced journal) (inputs_of rules p records)
       (inputs_are rules p journal records done.produced fit)
-      (inputs_fit rules p built fits journal start records done.history.legal done.produced fit))
+      (inputs_fit rules p fits journal start records done.history.legal done.produced fit))
       (replay setup journal) (is_run setup journal (works_are_networks rules p) done.history).0
 
   drained : IsDrained run
@@ -111,15 +115,19 @@ module _ (rules : Rules) (d : DraftView) (records : List Input) (journal : List 
       let long : length choices ≡ length (replay setup journal) = length-map (replay setup journal) (decoded_choice p) in
       omega (arith, is_short setup journal (works_are_networks rules p) done.history, done.few)
 
-  rests : (n : ℕ) → n < length p.kinds → IsQuery rules p records run n
-  rests n lt = plain_rests rules p fits records choices drained few n (all_plain p built fits n lt)
+  rests : (n : ℕ) → IsPlain p n → IsQuery rules p records run n
+  rests n plain = plain_rests rules p fits records choices drained few n plain
 
-  module _ (n : ℕ) (lt : n < length p.kinds) where
+  module _ (n : ℕ) (plain : IsPlain p n) where
     abbrev task : ℕ → TaskId
     task part = record { sub = sub_of p n; part = part }
 
     own : has_topic (number_of p (Changelog n)) (changelog_numbers p (sub_of p n)) ≡ true
-    own = let node = get_within p.kinds n lt in at_node (λ n k. has_topic (number_of p (Changelog n)) (changelog_numbers p (sub_of p n)) ≡ true) p.kinds (owned p built fits) n node.0 node.1
+    own =
+        let table = plain_table p n plain in
+        let node = get_within p.kinds n table.0 in
+        let is : NodeIs p covers n node.0 = at_node (NodeIs p covers) p.kinds (nodes_are p covers) n node.0 node.1 in
+        at_node (IsOwned p covers) p.kinds (owned p covers) n node.0 node.1 (sym (ap is_stream is.kind) ∙ table.1)
 
     -- the fold is the task's store
     fold_is : (part : ℕ) → history.fold settled_state (log_part p n part) ≡ (run_of setup journal).stores (task part) (number_of p (Changelog n))
@@ -132,7 +140,7 @@ module _ (rules : Rules) (d : DraftView) (records : List Input) (journal : List 
         let stores = (run_of setup journal).stores (task part) in
         ap (λ (m : Store). map_from by_bytes key_from (stored_from (kind_at p n)) (fin.entries m)) (fold_is part)
         ∙ sym (ap (λ c. map_from by_bytes key_from (stored_from (kind_at p n)) (cond c (fin.entries (stores (number_of p (Changelog n)))) [])) ((Decides-eqb (sub_of p n) (sub_of p n)).1 refl))
-        ∙ sym (ap (λ w. cond w fin.empty (map_from by_bytes key_from (stored_from (kind_at p n)) (pairs_of p (sub_of p n) stores (Changelog n)))) (kinds_count p.kinds built n).0)
+        ∙ sym (ap (λ w. cond w fin.empty (map_from by_bytes key_from (stored_from (kind_at p n)) (pairs_of p (sub_of p n) stores (Changelog n)))) (kinds_count p.kinds kinds n).0)
         ∙ sym (ap (λ (l : _). l.tables n) (same_run.stores (task part)))
 
     abbrev answer : Key → Option Row
@@ -142,36 +150,47 @@ module _ (rules : Rules) (d : DraftView) (records : List Input) (journal : List 
     only : (k : Key) (part : ℕ) → in_part p settled_state n k part ≡ cond (part == home rules p n k) (answer k) None
     only k part =
         ap (λ (m : FinMap by_bytes Stored). option_map shown (fin.get m k)) (table_is part)
-        ∙ rests n lt (task part) k
+        ∙ rests n plain (task part) k
         ∙ ap (λ b. cond (b && (part == home rules p n k)) (answer k) None) (eq-eqb (sub_of p n) (sub_of p n) refl)
 
     -- a key's row stands in a partition that there is
     none_past : (k : Key) → parts_of p n ≤ home rules p n k → answer k ≡ None
     none_past k le =
-        sym (rests n lt (task (home rules p n k)) k ∙ ap (λ b. cond b (answer k) None) (and_from (sub_of p n == sub_of p n) (home rules p n k == home rules p n k) (eq-eqb (sub_of p n) (sub_of p n) refl) (eq-eqb (home rules p n k) (home rules p n k) refl)))
+        sym (rests n plain (task (home rules p n k)) k ∙ ap (λ b. cond b (answer k) None) (and_from (sub_of p n == sub_of p n) (home rules p n k == home rules p n k) (eq-eqb (sub_of p n) (sub_of p n) refl) (eq-eqb (home rules p n k) (home rules p n k) refl)))
         ∙ by (fin.get ((run.stores (task (home rules p n k))).tables n) k) refl
       where
         by : (o : Option Stored) → fin.get ((run.stores (task (home rules p n k))).tables n) k ≡ o → option_map shown o ≡ None
         by None e = refl
         by (Some x) e = let below : home rules p n k < parts_of p n = (same_run.held (task (home rules p n k)) n k x e).1 in absurd (omega (arith, below, le))
 
-    rows_within : node_rows p settled_state n ≡ (query p records).tables n
-    rows_within = fin.same_map nat_list_cmp_total (slice_cmp-IsAntisymmetric nat_cmp-IsAntisymmetric) _ _ (λ k. rows_at_key p settled_state n k (home rules p n k) (answer k) (only k) (parts_of p n) (none_past k))
+    -- the rows of a node that is made plainly are the query's
+    rows_are : node_rows p settled_state n ≡ (query p records).tables n
+    rows_are = fin.same_map nat_list_cmp_total (slice_cmp-IsAntisymmetric nat_cmp-IsAntisymmetric) _ _ (λ k. rows_at_key p settled_state n k (home rules p n k) (answer k) (only k) (parts_of p n) (none_past k))
 
-  -- the rows of each node are the query's
-  rows_are : (n : ℕ) → node_rows p settled_state n ≡ (query p records).tables n
-  rows_are n = ⊎_elim (λ (lt : n < length p.kinds). rows_within n lt)
-      (λ (le : length p.kinds ≤ n). ap (λ j. rows_of p settled_state n (up_to j)) (no_parts p built n le) ∙ sym (no_rows p records built n le))
-      (cases_lt n (length p.kinds))
-
-  table_same : (name : Name) → folded_table d settled_state name ≡ table_at d (query p records) name
-  table_same name =
+  table_same : (name : Name) → node_rows p settled_state (node_number (known_nodes d) name) ≡ (query p records).tables (node_number (known_nodes d) name) → folded_table d settled_state name ≡ table_at d (query p records) name
+  table_same name rows =
       let n = node_number (known_nodes d) name in
-      ap (λ (m : FinMap by_bytes Row). record { name = name; rows = map plain_row (fin.entries m) }) (rows_are n)
-      ∙ sym (ap (λ w. record { name = name; rows = cond w (map window_row (fin.entries ((query p records).windows n))) (map plain_row (fin.entries ((query p records).tables n))) }) (kinds_count p.kinds built n).0)
+      ap (λ (m : FinMap by_bytes Row). record { name = name; rows = map plain_row (fin.entries m) }) rows
+      ∙ sym (ap (λ w. record { name = name; rows = cond w (map window_row (fin.entries ((query p records).windows n))) (map plain_row (fin.entries ((query p records).tables n))) }) (kinds_count p.kinds kinds n).0)
 
-  tables_same : folded_tables d settled_state ≡ job_tables d records
-  tables_same = map_same (folded_table d settled_state) (table_at d (query p records)) table_same d.print
+  plain_same : (names : List Name) → are_plain (plain_nodes p.kinds) d names ≡ true → map (folded_table d settled_state) names ≡ map (table_at d (query p records)) names
+  plain_same [] e = refl
+  plain_same (name ∷ names) e =
+      let both = and_parts (get_or (plain_nodes p.kinds) (node_number (known_nodes d) name) false) (are_plain (plain_nodes p.kinds) d names) e in
+      ap₂ (λ x xs. x ∷ xs) (table_same name (rows_are (node_number (known_nodes d) name) both.0)) (plain_same names both.1)
+
+pub plain_tables_are_the_query : PlainTablesAreTheQuery
+plain_tables_are_the_query rules d records journal has_parts well kinds spelled prints fit done = plain_same rules d records journal has_parts well kinds spelled fit done d.print prints
 
 pub tables_are_the_query : TablesAreTheQuery
-tables_are_the_query rules d records journal has_parts well built fit done = tables_same rules d records journal has_parts well built fit done
+tables_are_the_query rules d records journal has_parts well built fit done =
+    let p = plan_of d in
+    let fits : Fits p = well_formed_fits d well in
+    let kinds : IsCovered p = built_covered p.kinds built in
+    let spelled : FitKinds p.kinds = built_spelled p.kinds built in
+    let s = at (setup_of rules p) journal in
+    let rows : (n : ℕ) → node_rows p s n ≡ (query p records).tables n = λ n. ⊎_elim
+    (λ (lt : n < length p.kinds). rows_are rules d records journal has_parts well kinds spelled fit done n (all_plain p built fits n lt))
+    (λ (le : length p.kinds ≤ n). ap (λ j. rows_of p s n (up_to j)) (no_parts p built n le) ∙ sym (no_rows p records built n le))
+    (cases_lt n (length p.kinds)) in
+    map_same (folded_table d s) (table_at d (query p records)) (λ name. table_same rules d records journal has_parts well kinds spelled fit done name (rows (node_number (known_nodes d) name))) d.print

@@ -11,7 +11,7 @@ use Rattle.ks_row.specs.Parts.{same_part}
 use Rattle.ks_topo.specs.declared.node.Topic.{Topic}
 use Rattle.ks_topo.specs.declared.node.Topic.TheVariants.{Input as InputTopic, Repartition, Subscriptions, Responses, Changelog, HashChangelog}
 use Rattle.ks_topo.specs.Plan.{Plan, Kind}
-use Rattle.ks_topo.specs.Plan.Kind.{TableSource, TableAggregate}
+use Rattle.ks_topo.specs.Plan.Kind.{StreamSource, TableSource}
 use Rattle.ks_topo.specs.Layout.{same_topic, at, parts_of, parts_of_topic, topics_of, topic_at, number_of, sub_of, sub_count, reads, is_read, is_drained, is_source_of, any_source_of, source_of, tasks}
 use Rattle.ks_query.specs.Streams.{Input}
 use Rattle.ks_history.specs.declared.journal.Request.{Request}
@@ -25,9 +25,8 @@ use Rattle.ks_machine.specs.Messages.{Place, Rules}
 use Rattle.ks_machine.specs.Tasks.{part_of_key, item_of_input, stands_at, inputs_of}
 use Rattle.ks_machine.specs.Bytes.{rec_of, part_id, records_at}
 use Rattle.ks_machine.proofs.Names.{topic-is}
-use Rattle.ks_rest.proofs.Fits.{Fits, NodeFits, EachFits}
+use Rattle.ks_rest.proofs.Fits.{Fits, NodeFits, EachFits, Sourced}
 use Rattle.ks_work.specs.Work.{setup_of}
-use Rattle.ks_answer.specs.Built.{is_built_kind, are_built, IsBuilt}
 use Rattle.ks_answer.specs.Jobs.{produced_part, produced_rec, produced_of, produces_by, produces, FitsInput, FitInputs}
 use Rattle.ks_answer.proofs.Lists.{AllOf, all_both}
 use Rattle.ks_answer.proofs.Topics.{IsTopic, same_part-is, input_number, input_topic}
@@ -108,23 +107,25 @@ pub record SourceNode (p : Plan) (t : ℕ) (n len : ℕ) : Type 0 where
   pub sub : sub_of p (source_of p t) ≡ sub_of p node
   pub parts : at p.counts t ≡ parts_of p node
 
-find_source : (p : Plan) (t n : ℕ) (ks : List Kind) → EachFits p n ks → are_built ks ≡ true → any_source_of t ks ≡ true → SourceNode p t n (length ks)
-find_source p t n [] fit b h = absurd (true≢false (sym h))
-find_source p t n (k ∷ ks) fit b h =
-    let both = and_parts (is_built_kind k) (are_built ks) b in
-    ⊎_elim (λ (e : is_source_of t k ≡ true). here k both.0 fit.0 e)
-    (λ (g : any_source_of t ks ≡ true). later (find_source p t (suc n) ks fit.1 both.1 g))
+find_source : (p : Plan) (t n : ℕ) (ks : List Kind) → EachFits p n ks → any_source_of t ks ≡ true → SourceNode p t n (length ks)
+find_source p t n [] fit h = absurd (true≢false (sym h))
+find_source p t n (k ∷ ks) fit h =
+    ⊎_elim (λ (e : is_source_of t k ≡ true). here k fit.0 e)
+    (λ (g : any_source_of t ks ≡ true). later (find_source p t (suc n) ks fit.1 g))
     (or_cases (is_source_of t k) (any_source_of t ks) h)
   where
     later : SourceNode p t (suc n) (length ks) → SourceNode p t n (suc (length ks))
     later s = record { node = s.node; below = omega (arith, s.below); sub = s.sub; parts = s.parts }
 
-    here : (k : Kind) → is_built_kind k ≡ true → NodeFits p n k → is_source_of t k ≡ true → SourceNode p t n (suc (length ks))
-    here (TableSource u) b f e =
+    found : (u : ℕ) → Sourced p u n → nat_eq u t ≡ true → SourceNode p t n (suc (length ks))
+    found u f e =
         let is : u ≡ t = (Decides-eqb u t).0 e in
         record { node = n; below = omega arith; sub = subst (λ v. sub_of p (source_of p v) ≡ sub_of p n) is f.sub; parts = subst (λ v. at p.counts v ≡ parts_of p n) is f.parts }
-    here (TableAggregate g by field) b f e = absurd (true≢false (sym e))
-    here _ b f e = absurd cc
+
+    here : (k : Kind) → NodeFits p n k → is_source_of t k ≡ true → SourceNode p t n (suc (length ks))
+    here (StreamSource u) f e = found u f e
+    here (TableSource u) f e = found u f e
+    here _ f e = absurd cc
 
 module _ (rules : Rules) (p : Plan) where
   -- ---- the same records, spelled
@@ -171,13 +172,13 @@ module _ (rules : Rules) (p : Plan) where
   inputs_are journal records made h q topic = produced_is journal (part_id p q) ∙ ap (records_at (part_id p q)) made ∙ same_inputs q topic records (by_recursion (FitsInput p) records h)
 
   -- ---- they fit
-  module _ (all_built : IsBuilt p) (all_fit : Fits p) where
+  module _ (all_fit : Fits p) where
     abbrev stands_in : Input → Place
     stands_in r = record { topic = InputTopic r.topic; part = part_of_key rules p (InputTopic r.topic) r.key }
 
     one_fits : (r : Input) → FitsInput p r → IsPart (setup_of rules p) (produced_part rules p r) → is_read p r.topic ≡ true → FitsItem rules p (stands_in r) (item_of_input r)
     one_fits r h part read =
-        let source = find_source p r.topic 0 p.kinds all_fit all_built read in
+        let source = find_source p r.topic 0 p.kinds all_fit read in
         let topic : IsTopic p (InputTopic r.topic) = input_topic p r.topic h.topic read in
         let here : topic_at p r.topic ≡ Some (InputTopic r.topic) = ap (topic_at p) (sym (input_number p r.topic h.topic)) ∙ topic.there in
         let value : slice_index (map (parts_of_topic p) (topics_of p)) r.topic ≡ at p.counts r.topic =

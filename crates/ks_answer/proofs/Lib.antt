@@ -7,5 +7,6 @@ pub mod Steps
 pub mod Runs
 pub mod Inputs
 pub mod Rows
-pub mod Plain
+pub mod Built
+pub mod Made
 pub mod Answer

@@ -9,8 +9,8 @@ use Rattle.ks_topo.specs.declared.node.Topic.{Topic}
 use Rattle.ks_topo.specs.declared.node.Topic.TheVariants.{Input, Repartition, Changelog}
 use Rattle.ks_topo.specs.declared.node.Wiring.{Wiring}
 use Rattle.ks_topo.specs.declared.node.Wiring.TheVariants as wired
-use Rattle.ks_topo.specs.Plan.{Plan, Kind, wiring_of}
-use Rattle.ks_topo.specs.Plan.Kind.{TableSource, TableAggregate}
+use Rattle.ks_topo.specs.Plan.{Plan, Kind, wiring_of, is_stream}
+use Rattle.ks_topo.specs.Plan.Kind.{StreamSource, TableSource, StreamFilter, TableFilter, StreamMap, TableMap, KeySelected, StreamAggregate, TableAggregate, Windowed, KeyJoin, ForeignKeyJoin}
 use Rattle.ks_topo.specs.Layout.{same_topic, up_to, place_of, topics_of, number_of, topic_at, kind_at, no_kind, reads, is_read, is_drained, drain_order, inputs, changelogs, by_node, wired_through, through_topics, changelogs_of, input_topics, sub_of}
 use Rattle.ks_topo.specs.Infos.{input_numbers, changelog_numbers}
 use Rattle.ks_history.specs.Machine.{has_topic}
@@ -20,7 +20,7 @@ use Rattle.ks_machine.specs.Bytes.{part_id, has_number, is_own_number}
 use Rattle.ks_machine.proofs.Names.{topic-is, topic_itself}
 use Rattle.ks_machine.proofs.Numbers.{place-is}
 use Rattle.ks_rest.proofs.Fits.{Fits, NodeFits, EachFits}
-use Rattle.ks_answer.specs.Built.{is_built_kind, are_built, IsBuilt}
+use Rattle.ks_answer.specs.Plain.{is_covered_kind, are_covered, IsCovered, FitsKind, FitKinds}
 use Rattle.ks_answer.proofs.Lists.{AllOf, all_map, all_left, all_right, all_append, all_both, all_filter, all_kept, all_cond, all_unmapped, all_up_to, EachNode, each_node, each_both, each_map, of_nodes, by_nodes, all_numbered, Numbered, numbered}
 
 -- ---- places in a list of topics
@@ -173,10 +173,14 @@ module _ (p : Plan) where
   pub through_topic : EachNode (λ n k. AllOf (λ t. is_drained p t ≡ true → IsTopic t) (through_topics n k)) 0 p.kinds
   through_topic = of_nodes (λ t. is_drained p t ≡ true → IsTopic t) through_topics 0 p.kinds (all_right (λ t. is_drained p t ≡ true → IsTopic t) (input_topics p) (by_node through_topics 0 p.kinds) kept_topics)
 
--- ---- nodes of built kinds
-built_at : (before : List Kind) (k : Kind) (rest : List Kind) → are_built (before ++ k ∷ rest) ≡ true → is_built_kind k ≡ true
-built_at [] k rest e = (and_parts (is_built_kind k) (are_built rest) e).0
-built_at (x ∷ before) k rest e = built_at before k rest (and_parts (is_built_kind x) (are_built (before ++ k ∷ rest)) e).1
+-- ---- nodes of covered kinds
+covered_at : (before : List Kind) (k : Kind) (rest : List Kind) → are_covered (before ++ k ∷ rest) ≡ true → is_covered_kind k ≡ true
+covered_at [] k rest e = (and_parts (is_covered_kind k) (are_covered rest) e).0
+covered_at (x ∷ before) k rest e = covered_at before k rest (and_parts (is_covered_kind x) (are_covered (before ++ k ∷ rest)) e).1
+
+fits_at : (before : List Kind) (k : Kind) (rest : List Kind) → FitKinds (before ++ k ∷ rest) → FitsKind k
+fits_at [] k rest h = h.0
+fits_at (x ∷ before) k rest h = fits_at before k rest h.1
 
 get_end : (xs : List Kind) (x : Kind) (ys : List Kind) → get_or (xs ++ x ∷ ys) (length xs) no_kind ≡ x
 get_end [] x ys = refl
@@ -186,57 +190,93 @@ each_fits : (p : Plan) (n : ℕ) (ks : List Kind) → EachFits p n ks → EachNo
 each_fits p n [] h = tt
 each_fits p n (k ∷ ks) h = (h.0, each_fits p (suc n) ks h.1)
 
-module _ (p : Plan) (all_built : IsBuilt p) (all_fit : Fits p) where
+-- what a plan must be for its nodes to be covered
+pub record Covers (p : Plan) : Type 0 where
+  pub kinds : IsCovered p
+  pub spelled : FitKinds p.kinds
+  pub fits : Fits p
+
+module _ (p : Plan) (covers : Covers p) where
   pub record NodeIs (n : ℕ) (k : Kind) : Type 0 where
-    pub built : is_built_kind k ≡ true
+    pub covered : is_covered_kind k ≡ true
     pub kind : kind_at p n ≡ k
     pub within : n < length p.kinds
+    pub spelled : FitsKind k
     pub fits : NodeFits p n k
 
+  abbrev OneNode : ℕ → Kind → Type 0
+  OneNode n k = (is_covered_kind k ≡ true) × (kind_at p n ≡ k) × (n < length p.kinds) × FitsKind k
+
   pub nodes_are : EachNode NodeIs 0 p.kinds
-  nodes_are = each_map (λ n k. ((is_built_kind k ≡ true) × (kind_at p n ≡ k) × (n < length p.kinds)) × NodeFits p n k) NodeIs
-      (λ n k h. record { built = h.0.0; kind = h.0.1; within = h.0.2; fits = h.1 }) 0 p.kinds
-      (each_both (λ n k. (is_built_kind k ≡ true) × (kind_at p n ≡ k) × (n < length p.kinds)) (NodeFits p) 0 p.kinds
-      (each_node (λ n k. (is_built_kind k ≡ true) × (kind_at p n ≡ k) × (n < length p.kinds)) p.kinds
+  nodes_are = each_map (λ n k. OneNode n k × NodeFits p n k) NodeIs
+      (λ n k h. record { covered = h.0.0; kind = h.0.1; within = h.0.2; spelled = h.0.3; fits = h.1 }) 0 p.kinds
+      (each_both OneNode (NodeFits p) 0 p.kinds
+      (each_node OneNode p.kinds
       (λ before k rest e. (
-        built_at before k rest (ap are_built (sym e) ∙ all_built),
+        covered_at before k rest (ap are_covered (sym e) ∙ covers.kinds),
         ap (λ l. get_or l (length before) no_kind) e ∙ get_end before k rest,
         omega (arith, ap (λ (l : List Kind). length l) e, length-append before (k ∷ rest)),
+        fits_at before k rest (subst FitKinds e covers.spelled),
       )))
-      (each_fits p 0 p.kinds all_fit))
+      (each_fits p 0 p.kinds covers.fits))
 
-  -- a changelog of a node
-  abbrev pub IsNodeLog : Topic → Type 0
-  IsNodeLog (Changelog n) = n < length p.kinds
-  IsNodeLog _ = ⊥
+  -- a changelog of a table
+  abbrev pub IsTableLog : Topic → Type 0
+  IsTableLog (Changelog n) = (n < length p.kinds) × (is_stream (kind_at p n) ≡ false)
+  IsTableLog _ = ⊥
 
-  node_logs : (n : ℕ) (k : Kind) → is_built_kind k ≡ true → n < length p.kinds → AllOf IsNodeLog (changelogs_of n k)
-  node_logs n (TableSource t) b lt = (lt, tt)
-  node_logs n (TableAggregate f by field) b lt = (lt, tt)
-  node_logs n _ b lt = absurd cc
+  node_logs : (n : ℕ) (k : Kind) → NodeIs n k → AllOf IsTableLog (changelogs_of n k)
+  node_logs n (TableSource t) h = ((h.within, ap is_stream h.kind), tt)
+  node_logs n (TableFilter f x) h = ((h.within, ap is_stream h.kind), tt)
+  node_logs n (TableMap f s) h = ((h.within, ap is_stream h.kind), tt)
+  node_logs n (StreamAggregate f by field through) h = ((h.within, ap is_stream h.kind), tt)
+  node_logs n (TableAggregate f by field) h = ((h.within, ap is_stream h.kind), tt)
+  node_logs n (KeyJoin l r kind s) h = ((h.within, ap is_stream h.kind), tt)
+  node_logs n (StreamSource t) h = tt
+  node_logs n (StreamFilter f x) h = tt
+  node_logs n (StreamMap f s) h = tt
+  node_logs n (KeySelected f x) h = tt
+  node_logs n (Windowed f by w through) h = absurd (true≢false (sym h.covered))
+  node_logs n (ForeignKeyJoin l r fk kind s) h = absurd (true≢false (sym h.covered))
 
-  logs_are : AllOf IsNodeLog (by_node changelogs_of 0 p.kinds)
-  logs_are = by_nodes IsNodeLog changelogs_of 0 p.kinds (each_map NodeIs (λ n k. AllOf IsNodeLog (changelogs_of n k)) (λ n k h. node_logs n k h.built h.within) 0 p.kinds nodes_are)
+  logs_are : AllOf IsTableLog (by_node changelogs_of 0 p.kinds)
+  logs_are = by_nodes IsTableLog changelogs_of 0 p.kinds (each_map NodeIs (λ n k. AllOf IsTableLog (changelogs_of n k)) node_logs 0 p.kinds nodes_are)
 
-  -- a number of an own changelog is that of a node's
-  pub own_log : (sub : ℕ) (t : Topic) → is_own_number p sub (number_of p t) ≡ true → IsNodeLog t
+  -- a number of an own changelog is that of a table's
+  pub own_log : (sub : ℕ) (t : Topic) → is_own_number p sub (number_of p t) ≡ true → IsTableLog t
   own_log sub t h =
-      let x : Numbered (λ u. (At p u × IsNodeLog u) × (nat_eq (reads p u) sub ≡ true)) (number_of p) (number_of p t) =
-      numbered (λ u. (At p u × IsNodeLog u) × (nat_eq (reads p u) sub ≡ true)) (number_of p) (number_of p t) (changelogs p sub)
-      (all_filter (λ u. At p u × IsNodeLog u) (λ u. nat_eq (reads p u) sub) (by_node changelogs_of 0 p.kinds) (all_both (At p) IsNodeLog (by_node changelogs_of 0 p.kinds) (found_logs p) logs_are))
+      let x : Numbered (λ u. (At p u × IsTableLog u) × (nat_eq (reads p u) sub ≡ true)) (number_of p) (number_of p t) =
+      numbered (λ u. (At p u × IsTableLog u) × (nat_eq (reads p u) sub ≡ true)) (number_of p) (number_of p t) (changelogs p sub)
+      (all_filter (λ u. At p u × IsTableLog u) (λ u. nat_eq (reads p u) sub) (by_node changelogs_of 0 p.kinds) (all_both (At p) IsTableLog (by_node changelogs_of 0 p.kinds) (found_logs p) logs_are))
       (sym (number_is (number_of p t) (changelog_numbers p sub)) ∙ h) in
-      subst IsNodeLog (same_number p x.member t x.holds.0.0 (sym x.is)) x.holds.0.1
+      subst IsTableLog (same_number p x.member t x.holds.0.0 (sym x.is)) x.holds.0.1
 
-  -- each node's changelog is its subtopology's
-  own_of : (n : ℕ) (k : Kind) → is_built_kind k ≡ true → AllOf (λ t. (g : Topic → Bool) → g t ≡ true → has_topic (number_of p t) (map (number_of p) (filter g (by_node changelogs_of 0 p.kinds))) ≡ true) (changelogs_of n k) →
-      has_topic (number_of p (Changelog n)) (changelog_numbers p (sub_of p n)) ≡ true
-  own_of n (TableSource t) b h = h.0 (λ u. nat_eq (reads p u) (sub_of p n)) ((Decides-eqb (sub_of p n) (sub_of p n)).1 refl)
-  own_of n (TableAggregate f by field) b h = h.0 (λ u. nat_eq (reads p u) (sub_of p n)) ((Decides-eqb (sub_of p n) (sub_of p n)).1 refl)
-  own_of n _ b h = absurd cc
+  -- each table's changelog is its subtopology's
+  abbrev pub IsOwned : ℕ → Kind → Type 0
+  IsOwned n k = is_stream k ≡ false → has_topic (number_of p (Changelog n)) (changelog_numbers p (sub_of p n)) ≡ true
 
-  pub owned : EachNode (λ n k. has_topic (number_of p (Changelog n)) (changelog_numbers p (sub_of p n)) ≡ true) 0 p.kinds
+  abbrev Numbers : Topic → Type 0
+  Numbers t = (g : Topic → Bool) → g t ≡ true → has_topic (number_of p t) (map (number_of p) (filter g (by_node changelogs_of 0 p.kinds))) ≡ true
+
+  mine : (n : ℕ) → Numbers (Changelog n) → has_topic (number_of p (Changelog n)) (changelog_numbers p (sub_of p n)) ≡ true
+  mine n h = h (λ u. nat_eq (reads p u) (sub_of p n)) ((Decides-eqb (sub_of p n) (sub_of p n)).1 refl)
+
+  own_of : (n : ℕ) (k : Kind) → is_covered_kind k ≡ true → AllOf Numbers (changelogs_of n k) → IsOwned n k
+  own_of n (TableSource t) b h table = mine n h.0
+  own_of n (TableFilter f x) b h table = mine n h.0
+  own_of n (TableMap f s) b h table = mine n h.0
+  own_of n (StreamAggregate f by field through) b h table = mine n h.0
+  own_of n (TableAggregate f by field) b h table = mine n h.0
+  own_of n (KeyJoin l r kind s) b h table = mine n h.0
+  own_of n (StreamSource t) b h table = absurd (true≢false table)
+  own_of n (StreamFilter f x) b h table = absurd (true≢false table)
+  own_of n (StreamMap f s) b h table = absurd (true≢false table)
+  own_of n (KeySelected f x) b h table = absurd (true≢false table)
+  own_of n (Windowed f by w through) b h table = absurd (true≢false (sym b))
+  own_of n (ForeignKeyJoin l r fk kind s) b h table = absurd (true≢false (sym b))
+
+  pub owned : EachNode IsOwned 0 p.kinds
   owned =
-      let Numbers = λ (t : Topic). (g : Topic → Bool) → g t ≡ true → has_topic (number_of p t) (map (number_of p) (filter g (by_node changelogs_of 0 p.kinds))) ≡ true in
-      each_map (λ n k. NodeIs n k × AllOf Numbers (changelogs_of n k)) (λ n k. has_topic (number_of p (Changelog n)) (changelog_numbers p (sub_of p n)) ≡ true)
-      (λ n k h. own_of n k h.0.built h.1) 0 p.kinds
+      each_map (λ n k. NodeIs n k × AllOf Numbers (changelogs_of n k)) IsOwned
+      (λ n k h. own_of n k h.0.covered h.1) 0 p.kinds
       (each_both NodeIs (λ n k. AllOf Numbers (changelogs_of n k)) 0 p.kinds nodes_are (of_nodes Numbers changelogs_of 0 p.kinds (all_numbered (number_of p) (by_node changelogs_of 0 p.kinds))))

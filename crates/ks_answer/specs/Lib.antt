@@ -1,3 +1,4 @@
 pub mod Built
 pub mod Folded
 pub mod Jobs
+pub mod Plain

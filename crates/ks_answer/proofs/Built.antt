@@ -1,6 +1,6 @@
 -- Plans of built kinds: every node is made plainly, and a number past all nodes has no partition and no rows.
 use Rattle.std.proofs.Common.{◌≡◌, ℕ, zero, suc, ◌+◌, ◌<◌, ◌≤◌, Bool, true, false, cond, List, length, [], ◌∷◌, ◌++◌, get_or, fold, refl, ap, subst, ◌∙◌, arith, nat_eq, length-append, ⊎_elim}
-use Rattle.std.proofs.lemmas.Bool.{and_parts, cases_lt}
+use Rattle.std.proofs.lemmas.Bool.{and_parts, and_from, cases_lt}
 use Rattle.std.proofs.lemmas.Bool.Decides.{Decides-eqb}
 use Rattle.ks_topo.specs.Plan.{Plan, Kind, wiring_of}
 use Rattle.ks_topo.specs.Plan.Kind.{TableSource, TableAggregate}
@@ -10,7 +10,31 @@ use Rattle.ks_query.specs.Streams.{Input}
 use Rattle.ks_query.specs.Query.{Table, Answers, with_number, answer_node, answer_nodes, no_answers, query}
 use Rattle.ks_rest.specs.AtRest.{made_plainly, IsPlain}
 use Rattle.ks_rest.proofs.Fits.{Fits, NodeFits, EachFits}
+use Rattle.ks_answer.specs.Plain.{is_covered_kind, are_covered, FitsKind, FitKinds}
 use Rattle.ks_answer.specs.Built.{is_built_kind, are_built, IsBuilt}
+
+-- ---- they are covered
+pub built_covered : (ks : List Kind) → are_built ks ≡ true → are_covered ks ≡ true
+built_covered [] e = refl
+built_covered (k ∷ ks) e =
+    let both = and_parts (is_built_kind k) (are_built ks) e in
+    and_from (is_covered_kind k) (are_covered ks) (one k both.0) (built_covered ks both.1)
+  where
+    one : (k : Kind) → is_built_kind k ≡ true → is_covered_kind k ≡ true
+    one (TableSource t) e = refl
+    one (TableAggregate f by field) e = refl
+    one _ e = absurd cc
+
+pub built_spelled : (ks : List Kind) → are_built ks ≡ true → FitKinds ks
+built_spelled [] e = tt
+built_spelled (k ∷ ks) e =
+    let both = and_parts (is_built_kind k) (are_built ks) e in
+    (one k both.0, built_spelled ks both.1)
+  where
+    one : (k : Kind) → is_built_kind k ≡ true → FitsKind k
+    one (TableSource t) e = tt
+    one (TableAggregate f by field) e = tt
+    one _ e = absurd cc
 
 -- ---- flags
 abbrev grow : List Bool → Kind → List Bool
