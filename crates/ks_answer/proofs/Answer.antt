@@ -1,10 +1,10 @@
 -- The folds of a settled journal's changelogs are the query's tables.
-use Rattle.std.proofs.Common.{◌≡◌, ℕ, ◌+◌, ◌<◌, ◌≤◌, ◌^◌, true, false, cond, ◌&&◌, List, length, [], ◌∷◌, get_or, map, Option, Some, None, refl, sym, ap, ap₂, subst, ◌∙◌, arith, ⊎_elim}
+use Rattle.std.proofs.Common.{◌≡◌, ℕ, ◌+◌, ◌<◌, ◌≤◌, ◌^◌, true, false, cond, ◌&&◌, List, length, [], ◌∷◌, get_or, map, Option, Some, None, refl, sym, ap, ap₂, subst, ◌∙◌, arith}
 use Rattle.std.specs.Prelude.{option_map, ◌==◌}
 use Rattle.std.specs.Cmp.Lexicographic.{nat_list_cmp_total}
 use Rattle.std.specs.FinMap.{slice_cmp-IsAntisymmetric, nat_cmp-IsAntisymmetric}
 use Rattle.std.proofs.lemmas.List.{length-map}
-use Rattle.std.proofs.lemmas.Bool.{and_parts, and_from, eq-eqb, cases_lt}
+use Rattle.std.proofs.lemmas.Bool.{and_parts, and_from, eq-eqb}
 use Rattle.std.proofs.lemmas.Bool.Decides.{Decides-eqb}
 use Rattle.ks_row.specs.Texts.{key_from}
 use Rattle.ks_row.specs.declared.record.Rec.{Rec}
@@ -13,7 +13,7 @@ use Rattle.ks_expr.specs.Eval.{Row}
 use Rattle.ks_topo.specs.Drafts.{Name, DraftView}
 use Rattle.ks_topo.specs.Plan.{Plan, plan_of, known_nodes, node_number, is_stream}
 use Rattle.ks_topo.specs.declared.node.Topic.TheVariants.{Changelog}
-use Rattle.ks_topo.specs.Layout.{up_to, parts_of, kind_at, number_of, sub_of, reads}
+use Rattle.ks_topo.specs.Layout.{parts_of, kind_at, number_of, sub_of, reads}
 use Rattle.ks_topo.specs.Infos.{changelog_numbers}
 use Rattle.ks_map.specs.FinMap as fin
 use Rattle.ks_map.specs.FinMap.{FinMap}
@@ -43,8 +43,8 @@ use Rattle.ks_rest.proofs.PlainRest.{plain_rests}
 use Rattle.ks_work.specs.Work.{setup_of}
 use Rattle.ks_work.proofs.Networks.{works_are_networks}
 use Rattle.ks_work.proofs.Kept.{nothing_is_held_back}
-use Rattle.ks_answer.specs.Plain.{IsCovered, FitKinds, are_plain, PlainTablesAreTheQuery}
-use Rattle.ks_answer.specs.Folded.{log_part, fold_pairs, rows_of, node_rows, folded_table}
+use Rattle.ks_answer.specs.Plain.{IsCovered, FitKinds, PlainTablesAreTheQuery}
+use Rattle.ks_answer.specs.Folded.{log_part, fold_pairs, node_rows, folded_table}
 use Rattle.ks_answer.specs.Jobs.{HasParts, FitInputs, IsDone, TablesAreTheQuery}
 use Rattle.ks_answer.proofs.Lists.{AllOf, at_node}
 use Rattle.ks_answer.proofs.Topics.{Covers, NodeIs, nodes_are, IsOwned, owned}
@@ -53,12 +53,9 @@ use Rattle.ks_answer.proofs.Steps.{IsPlace, FitsItem, Held, covered_agrees, kind
 use Rattle.ks_answer.proofs.Runs.{decoded_choice, decoded_choices, Same, same_start, same_choices, taken_few}
 use Rattle.ks_answer.proofs.Inputs.{inputs_are, inputs_fit}
 use Rattle.ks_answer.proofs.Rows.{in_part, rows_at_key}
-use Rattle.ks_answer.proofs.Built.{built_covered, built_spelled, all_plain, no_parts, no_rows}
+use Rattle.ks_answer.proofs.Built.{built_covered, built_spelled}
 use Rattle.ks_answer.proofs.Made.{plain_table}
-
-map_same : {A B : Type 0} (f g : A → B) → ((x : A) → f x ≡ g x) → (xs : List A) → map f xs ≡ map g xs
-map_same f g h [] = refl
-map_same f g h (x ∷ xs) = ap₂ (λ y ys. y ∷ ys) (h x) (map_same f g h xs)
+use Rattle.ks_answer.proofs.Prints.{are_plain, prints_plain}
 
 module _ (rules : Rules) (d : DraftView) (records : List Input) (journal : List Entry) (has_parts : HasParts rules) (well : IsWellFormed d) (kinds : IsCovered (plan_of d)) (spelled : FitKinds (plan_of d).kinds)
     (fit : FitInputs (plan_of d) records) (done : IsDone rules d records journal) where
@@ -180,17 +177,8 @@ module _ (rules : Rules) (d : DraftView) (records : List Input) (journal : List 
       ap₂ (λ x xs. x ∷ xs) (table_same name (rows_are (node_number (known_nodes d) name) both.0)) (plain_same names both.1)
 
 pub plain_tables_are_the_query : PlainTablesAreTheQuery
-plain_tables_are_the_query rules d records journal has_parts well kinds spelled prints fit done = plain_same rules d records journal has_parts well kinds spelled fit done d.print prints
+plain_tables_are_the_query rules d records journal has_parts well kinds spelled fit done = plain_same rules d records journal has_parts well kinds spelled fit done d.print (prints_plain d well kinds)
 
 pub tables_are_the_query : TablesAreTheQuery
 tables_are_the_query rules d records journal has_parts well built fit done =
-    let p = plan_of d in
-    let fits : Fits p = well_formed_fits d well in
-    let kinds : IsCovered p = built_covered p.kinds built in
-    let spelled : FitKinds p.kinds = built_spelled p.kinds built in
-    let s = at (setup_of rules p) journal in
-    let rows : (n : ℕ) → node_rows p s n ≡ (query p records).tables n = λ n. ⊎_elim
-    (λ (lt : n < length p.kinds). rows_are rules d records journal has_parts well kinds spelled fit done n (all_plain p built fits n lt))
-    (λ (le : length p.kinds ≤ n). ap (λ j. rows_of p s n (up_to j)) (no_parts p built n le) ∙ sym (no_rows p records built n le))
-    (cases_lt n (length p.kinds)) in
-    map_same (folded_table d s) (table_at d (query p records)) (λ name. table_same rules d records journal has_parts well kinds spelled fit done name (rows (node_number (known_nodes d) name))) d.print
+    plain_tables_are_the_query rules d records journal has_parts well (built_covered (plan_of d).kinds built) (built_spelled (plan_of d).kinds built) fit done

@@ -9,4 +9,5 @@ pub mod Inputs
 pub mod Rows
 pub mod Built
 pub mod Made
+pub mod Prints
 pub mod Answer

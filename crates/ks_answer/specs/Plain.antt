@@ -1,7 +1,7 @@
 -- The same law for more kinds of nodes: all but windowed counts and joins on a foreign key.
-use Rattle.std.specs.Prelude.{◌≡◌, Bool, true, false, ◌&&◌, List, [], ◌∷◌, get_or}
-use Rattle.ks_topo.specs.Drafts.{Name, DraftView}
-use Rattle.ks_topo.specs.Plan.{Plan, Kind, plan_of, known_nodes, node_number}
+use Rattle.std.specs.Prelude.{◌≡◌, Bool, true, false, ◌&&◌, List, [], ◌∷◌}
+use Rattle.ks_topo.specs.Drafts.{DraftView}
+use Rattle.ks_topo.specs.Plan.{Plan, Kind, plan_of}
 use Rattle.ks_topo.specs.Plan.Kind.{StreamMap, TableMap, Windowed, KeyJoin, ForeignKeyJoin}
 use Rattle.ks_query.specs.Streams.{Input}
 use Rattle.ks_query.specs.Printed.{job_tables}
@@ -9,7 +9,6 @@ use Rattle.ks_machine.specs.Messages.{Rules}
 use Rattle.ks_history.specs.declared.journal.Entry.{Entry}
 use Rattle.ks_history.specs.History.{at}
 use Rattle.ks_rest.specs.WellFormed.{IsWellFormed}
-use Rattle.ks_rest.specs.AtRest.{plain_nodes}
 use Rattle.ks_work.specs.Spelled.{FitsSet}
 use Rattle.ks_work.specs.Work.{setup_of}
 use Rattle.ks_answer.specs.Folded.{folded_tables}
@@ -39,16 +38,8 @@ abbrev pub FitKinds : List Kind → Type 0
 FitKinds [] = Unit {0}
 FitKinds (k ∷ ks) = FitsKind k × FitKinds ks
 
--- the printed nodes are tables that are made plainly (`ks_rest`): without windows and joins on a foreign key among what they are made of
-abbrev pub are_plain : List Bool → DraftView → List Name → Bool
-are_plain flags d [] = true
-are_plain flags d (name ∷ names) = get_or flags (node_number (known_nodes d) name) false && are_plain flags d names
-
-abbrev pub PrintsPlain : DraftView → Type 0
-PrintsPlain d = are_plain (plain_nodes (plan_of d).kinds) d d.print ≡ true
-
 -- the folds of a settled journal are the query's tables
 abbrev pub PlainTablesAreTheQuery : Type 0
 PlainTablesAreTheQuery = (rules : Rules) (d : DraftView) (records : List Input) (journal : List Entry) → HasParts rules → IsWellFormed d → IsCovered (plan_of d) →
-    FitKinds (plan_of d).kinds → PrintsPlain d → FitInputs (plan_of d) records → IsDone rules d records journal →
+    FitKinds (plan_of d).kinds → FitInputs (plan_of d) records → IsDone rules d records journal →
     folded_tables d (at (setup_of rules (plan_of d)) journal) ≡ job_tables d records

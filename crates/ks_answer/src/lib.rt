@@ -11,7 +11,7 @@ pub fn tables_are_the_query()
 {}
 
 /// The same of topologies of all kinds of nodes but windowed counts and joins on a foreign key, where names and constants of their
-/// projections have a spelling and the printed nodes are tables that are made plainly.
+/// projections have a spelling.
 pub fn plain_tables_are_the_query()
     ensures { PlainTablesAreTheQuery }
 {}
