@@ -1,0 +1,12 @@
+pub mod Slots
+pub mod Gaining
+pub mod Free
+pub mod Epochs
+pub mod Faith
+pub mod Marking
+pub mod Entries
+pub mod Puts
+pub mod Written
+pub mod Starts
+pub mod Ends
+pub mod Finish

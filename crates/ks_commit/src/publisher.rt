@@ -1,0 +1,67 @@
+//! A worker that publishes.
+ghost use Rattle.std.specs.Prelude.{◌≡◌, ℕ, ◌≤◌, true, IfOk};
+ghost use Rattle.ks_history.specs.Machine.{IsNetwork};
+ghost use Rattle.ks_history.specs.State.{are_once};
+ghost use Rattle.ks_cluster.specs.Kept.{setup_of, state_of};
+ghost use Rattle.ks_commit.specs.Alone.{IsIdle};
+ghost use Rattle.ks_commit.specs.Committed.{IsReady, Started};
+ghost use Rattle.ks_commit.specs.Everything.{everything};
+
+use ks_cluster::{Cluster, Work};
+use ks_row::{Assignment, PartId, Seq, TaskId};
+use std::alloc::{AllocError, Global};
+
+/// A worker that publishes: its epoch, its generation, and how many records of its epoch it has put into each partition.
+#[derive(Drop)]
+pub struct Publisher {
+    pub(crate) worker: u8,
+    pub(crate) epoch: u64,
+    pub(crate) generation: u64,
+    pub(crate) numbers: Vec<(PartId, u64)>,
+}
+
+/// All tasks active at one worker.
+fn all_active(alloc: Global, worker: u8, tasks: &[TaskId]) -> Result<Assignment, AllocError>
+    ensures { IfOk result (λ a. a ≡ everything worker tasks.now) }
+{
+    let mut active = Vec::new(alloc);
+    for task in tasks {
+        active.push((*task, worker))?;
+    }
+    Ok(Assignment {
+        active: Seq::of(active),
+        standby: Seq::new(alloc),
+        warmup: Seq::new(alloc),
+    })
+}
+
+impl Publisher {
+    /// A worker begins an epoch, joins the group and is given every task, at a cluster between two transactions.
+    pub fn start<W: Work>(
+        alloc: Global,
+        cluster: &mut Cluster<W>,
+        worker: u8,
+        tasks: &[TaskId],
+    ) -> Result<Publisher, AllocError>
+        requires worker { worker ≤ 16 }
+        requires network { IsNetwork (W.plan cluster.old.work) }
+        requires idle { IsIdle (state_of W.plan cluster.old) }
+        requires tasks { tasks.now ≡ cluster.old.tasks }
+        requires once { are_once cluster.old.tasks ≡ true }
+        ensures ready { IfOk result (λ p. IsReady (setup_of W.plan cluster.new) (state_of W.plan cluster.new) p) }
+        ensures worker { IfOk result (λ p. p.worker ≡ worker) }
+        ensures started { IfOk result (λ p. Started W.plan cluster.old cluster.new) }
+    {
+        let _journal = cluster.journal();
+        let epoch = cluster.init(alloc, worker)?;
+        let generation = cluster.join(alloc, worker)?;
+        let all = all_active(alloc, worker, tasks)?;
+        let _assigned = cluster.assign(alloc, worker, generation, &all)?;
+        Ok(Publisher {
+            worker,
+            epoch,
+            generation,
+            numbers: Vec::new(alloc),
+        })
+    }
+}

@@ -1,0 +1,118 @@
+//! The work of tasks, put into a transaction that isn't decided yet.
+ghost use Rattle.std.specs.Prelude.{◌≡◌, ℕ, true, List, [], ◌∷◌, OnOk};
+ghost use Rattle.std.specs.List.{All};
+ghost use Rattle.ks_history.specs.State.{IsPart, has_task};
+ghost use Rattle.ks_cluster.specs.Kept.{setup_of, state_of};
+ghost use Rattle.ks_follow.specs.Views.{pending_work};
+ghost use Rattle.ks_commit.specs.Work.{work_view};
+ghost use Rattle.ks_commit.specs.Sending.{Sends, adds_in, puts_in, adds_of, puts_of, pendings_of};
+ghost use Rattle.ks_commit.specs.Committed.{IsSending, IsSame, IsOfCluster, EachOf, works_of};
+
+use crate::numbers::{number, renumbered};
+use crate::publisher::Publisher;
+use crate::work::Frozen;
+use ks_cluster::{Cluster, Work};
+use ks_row::{PartId, Rec, Seq, TaskId};
+use std::alloc::{AllocError, Global};
+
+/// Takes a partition into the transaction, and puts records of a task there.
+fn put<W: Work>(
+    alloc: Global,
+    cluster: &mut Cluster<W>,
+    publisher: &mut Publisher,
+    task: TaskId,
+    part: PartId,
+    recs: &[Rec],
+) -> Result<(), AllocError>
+    requires sending { IsSending (setup_of W.plan cluster.old) (state_of W.plan cluster.old) publisher.old }
+    requires part { IsPart (setup_of W.plan cluster.old) part }
+    requires task { has_task task (setup_of W.plan cluster.old).tasks ≡ true }
+    ensures sends { OnOk result (Sends W.plan cluster.old cluster.new publisher.old.worker (part ∷ []) ((task, part, recs.now) ∷ []) []) }
+    ensures sending { OnOk result (IsSending (setup_of W.plan cluster.new) (state_of W.plan cluster.new) publisher.new) }
+    ensures same { OnOk result (IsSame publisher.old publisher.new) }
+{
+    let (worker, epoch) = (publisher.worker, publisher.epoch);
+    let before = number(publisher.numbers.as_slice(), part);
+    let _added = cluster.add(alloc, worker, epoch, part)?;
+    let _offset = cluster.append(alloc, worker, epoch, before, task, part, recs)?;
+    let ends = cluster.ends(alloc, &[part])?;
+    // The new number fits, since it is at most the partition's end.
+    let _end = ends[0];
+    let now = before + recs.len() as u64;
+    let numbers = renumbered(alloc, publisher.numbers.as_slice(), part, now)?;
+    publisher.numbers = numbers;
+    Ok(())
+}
+
+/// Puts all outputs of a task.
+fn put_all<W: Work>(
+    alloc: Global,
+    cluster: &mut Cluster<W>,
+    publisher: &mut Publisher,
+    task: TaskId,
+    outputs: &[(PartId, Seq<Rec>)],
+) -> Result<(), AllocError>
+    requires sending { IsSending (setup_of W.plan cluster.old) (state_of W.plan cluster.old) publisher.old }
+    requires parts { All (λ out. IsPart (setup_of W.plan cluster.old) out.0) outputs.now }
+    requires task { has_task task (setup_of W.plan cluster.old).tasks ≡ true }
+    ensures sends { OnOk result (Sends W.plan cluster.old cluster.new publisher.old.worker (adds_in outputs.now) (puts_in task outputs.now) []) }
+    ensures sending { OnOk result (IsSending (setup_of W.plan cluster.new) (state_of W.plan cluster.new) publisher.new) }
+    ensures same { OnOk result (IsSame publisher.old publisher.new) }
+{
+    for out in outputs {
+        put(alloc, cluster, publisher, task, out.0, out.1.as_slice())?;
+    }
+    Ok(())
+}
+
+/// Puts the outputs of a work, and leaves its offsets pending.
+fn send<W: Work>(
+    alloc: Global,
+    cluster: &mut Cluster<W>,
+    publisher: &mut Publisher,
+    work: &Frozen,
+) -> Result<(), AllocError>
+    requires sending { IsSending (setup_of W.plan cluster.old) (state_of W.plan cluster.old) publisher.old }
+    requires work { IsOfCluster (setup_of W.plan cluster.old) (state_of W.plan cluster.old) (work_view work.now) }
+    ensures sends { OnOk result (Sends W.plan cluster.old cluster.new publisher.old.worker (adds_in work.now.outputs) (puts_in work.now.task work.now.outputs) (pending_work (work_view work.now) ∷ [])) }
+    ensures sending { OnOk result (IsSending (setup_of W.plan cluster.new) (state_of W.plan cluster.new) publisher.new) }
+    ensures same { OnOk result (IsSame publisher.old publisher.new) }
+{
+    put_all(
+        alloc,
+        cluster,
+        publisher,
+        work.task,
+        work.outputs.as_slice(),
+    )?;
+    let _sent = cluster.send_offsets(
+        alloc,
+        publisher.worker,
+        publisher.epoch,
+        publisher.generation,
+        work.task,
+        work.offsets.as_slice(),
+        work.order.as_slice(),
+        work.late,
+    )?;
+    Ok(())
+}
+
+/// Sends each work.
+pub fn send_all<W: Work>(
+    alloc: Global,
+    cluster: &mut Cluster<W>,
+    publisher: &mut Publisher,
+    works: &[Frozen],
+) -> Result<(), AllocError>
+    requires sending { IsSending (setup_of W.plan cluster.old) (state_of W.plan cluster.old) publisher.old }
+    requires works { EachOf (setup_of W.plan cluster.old) (state_of W.plan cluster.old) (works_of works.now) }
+    ensures sends { OnOk result (Sends W.plan cluster.old cluster.new publisher.old.worker (adds_of (works_of works.now)) (puts_of (works_of works.now)) (pendings_of (works_of works.now))) }
+    ensures sending { OnOk result (IsSending (setup_of W.plan cluster.new) (state_of W.plan cluster.new) publisher.new) }
+    ensures same { OnOk result (IsSame publisher.old publisher.new) }
+{
+    for work in works {
+        send(alloc, cluster, publisher, work)?;
+    }
+    Ok(())
+}
