@@ -1,0 +1,6 @@
+pub mod Orders
+pub mod Outputs
+pub mod Noding
+pub mod Stepping
+pub mod Building
+pub mod Subs
