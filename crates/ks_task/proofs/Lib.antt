@@ -4,3 +4,4 @@ pub mod Noding
 pub mod Stepping
 pub mod Building
 pub mod Subs
+pub mod Viewing

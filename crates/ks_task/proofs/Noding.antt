@@ -1,8 +1,8 @@
 -- The nodes and topics of a plan that has built kinds alone.
-use Rattle.std.proofs.Common.{◌≡◌, ℕ, zero, suc, ◌+◌, ◌<◌, ◌≤◌, Bool, true, false, cond, ◌&&◌, ◌||◌, not, List, [], ◌∷◌, ◌++◌, length, map, fold, get_or, Option, Some, None, refl, sym, ap, ap₂, subst, ◌∙◌, arith, nat_eq, length-append, ◌⊎◌, inl, inr}
+use Rattle.std.proofs.Common.{◌≡◌, ℕ, zero, suc, ◌+◌, ◌<◌, ◌≤◌, Bool, true, false, cond, ◌&&◌, ◌||◌, List, [], ◌∷◌, ◌++◌, length, map, fold, get_or, Option, Some, None, refl, sym, ap, subst, ◌∙◌, arith, nat_eq, length-append, ◌⊎◌, inl, inr}
 use Rattle.std.specs.Prelude.{slice_get, slice_index, ◌==◌}
 use Rattle.std.specs.List.{filter}
-use Rattle.std.proofs.lemmas.Bool.{and_parts, and_from, or_right, or_left, true≢false}
+use Rattle.std.proofs.lemmas.Bool.{and_parts, and_from, or_right, or_left}
 use Rattle.std.proofs.lemmas.Bool.Decides.{Decides-eqb}
 use Rattle.std.proofs.lemmas.Option.{get_or_from_slice_get}
 use Rattle.ks_row.specs.declared.record.TaskId.{TaskId}
@@ -11,14 +11,14 @@ use Rattle.ks_topo.specs.Faults.{fault_of}
 use Rattle.ks_topo.specs.Plan.{Plan, Kind, plan_of, wiring_of}
 use Rattle.ks_topo.specs.Plan.Kind.{StreamSource, TableSource, StreamFilter, TableFilter, StreamMap, TableMap, KeySelected, StreamAggregate, TableAggregate, Windowed, KeyJoin, ForeignKeyJoin}
 use Rattle.ks_topo.specs.declared.node.Topic.{Topic}
-use Rattle.ks_topo.specs.declared.node.Topic.TheVariants.{Input, Repartition, Subscriptions, Responses, Changelog, HashChangelog}
-use Rattle.ks_topo.specs.Layout.{at, up_to, wired_parts, node_parts, parts_of, parts_of_topic, sub_of, reads, topics_of, topic_at, number_of, by_node, through_topics, changelogs_of, changelogs, no_kind, tasks}
+use Rattle.ks_topo.specs.declared.node.Topic.TheVariants.{Input, Subscriptions, Responses, Changelog}
+use Rattle.ks_topo.specs.Layout.{at, up_to, wired_parts, node_parts, parts_of, parts_of_topic, sub_of, reads, topics_of, topic_at, number_of, by_node, through_topics, changelogs_of, no_kind, tasks}
 use Rattle.ks_topo.specs.Infos.{changelog_numbers}
 use Rattle.ks_machine.specs.Messages.{Rules}
-use Rattle.ks_machine.specs.Bytes.{has_number, is_own_number}
+use Rattle.ks_machine.specs.Bytes.{has_number}
 use Rattle.ks_machine.proofs.Numbers.{place-is, kept_at}
 use Rattle.ks_history.specs.Machine.{has_topic, part_of}
-use Rattle.ks_history.specs.State.{has_task, IsSetup, IsPart}
+use Rattle.ks_history.specs.State.{has_task, IsPart}
 use Rattle.ks_work.specs.Work.{setup_of}
 use Rattle.ks_work.proofs.Setups.{setups_are_made}
 use Rattle.ks_task.specs.Built.{is_built_kind, are_built, IsBuilt}

@@ -1,9 +1,8 @@
 -- One whole step of the task machine over bytes is what the program of its nodes makes, at the step's key alone.
-use Rattle.std.proofs.Common.{◌≡◌, ℕ, zero, suc, ◌+◌, ◌<◌, ◌≤◌, Bool, true, false, cond, not, List, [], ◌∷◌, ◌++◌, length, map, fold, get_or, Option, Some, None, refl, sym, ap, ap₂, subst, ◌∙◌, arith, nat_eq, append-nil, ⊎_elim, ◌⊎◌}
+use Rattle.std.proofs.Common.{◌≡◌, ℕ, zero, suc, ◌+◌, ◌<◌, ◌≤◌, Bool, true, false, cond, List, [], ◌∷◌, ◌++◌, map, get_or, Option, Some, None, refl, sym, ap, ap₂, subst, ◌∙◌, arith, nat_eq, append-nil, ⊎_elim, ◌⊎◌}
 use Rattle.std.specs.Prelude.{slice_get, ◌==◌, option_map, option_and_then}
 use Rattle.std.specs.List.{filter}
 use Rattle.std.proofs.Math.Path.{fun_ext}
-use Rattle.std.proofs.lemmas.List.{map-append}
 use Rattle.std.proofs.lemmas.Bool.{and_parts, true≢false}
 use Rattle.std.proofs.lemmas.Bool.Decides.{Decides-eqb}
 use Rattle.ks_row.specs.Texts.{key_from}
@@ -13,7 +12,7 @@ use Rattle.ks_row.specs.declared.record.PartId.{PartId}
 use Rattle.ks_row.specs.declared.record.TaskId.{TaskId}
 use Rattle.ks_map.specs.FinMap as fin
 use Rattle.ks_map.specs.FinMap.{FinMap}
-use Rattle.ks_map.specs.Bytes.{by_bytes, Store as ByteStore}
+use Rattle.ks_map.specs.Bytes.{by_bytes}
 use Rattle.ks_hash.specs.Partition.{part_of_key}
 use Rattle.ks_wire.specs.Reading.{delta_from}
 use Rattle.ks_wire.specs.declared.values.Delta.{Delta}
@@ -24,33 +23,32 @@ use Rattle.ks_topo.specs.Plan.{Plan, Kind, plan_of, is_windowed}
 use Rattle.ks_topo.specs.Plan.Kind.{StreamSource, TableSource, StreamFilter, TableFilter, StreamMap, TableMap, KeySelected, StreamAggregate, TableAggregate, Windowed, KeyJoin, ForeignKeyJoin}
 use Rattle.ks_topo.specs.declared.node.Topic.{Topic}
 use Rattle.ks_topo.specs.declared.node.Topic.TheVariants.{Input, Repartition, Subscriptions, Responses, Changelog, HashChangelog}
-use Rattle.ks_topo.specs.Layout.{same_topic, topic_at, number_of, reads, sub_of, sub_count, source_of, is_read, parts_of, kind_at, no_kind, tasks}
+use Rattle.ks_topo.specs.Layout.{same_topic, topic_at, number_of, reads, sub_of, sub_count, source_of, parts_of, kind_at, no_kind, tasks}
 use Rattle.ks_topo.specs.Infos.{input_numbers}
 use Rattle.ks_network.specs.Run.{Outcome}
 use Rattle.ks_query.specs.Streams.{Key, StreamItem}
 use Rattle.ks_query.specs.Aggregates.{table_parts}
-use Rattle.ks_machine.specs.Messages.{Place, Stored, shown, Message, Item, Store, Rules, same_option, same_stored}
+use Rattle.ks_machine.specs.Messages.{Place, Stored, shown, Item, Store, Rules, same_option, same_stored}
 use Rattle.ks_machine.specs.Messages.Message.{Given, Moved, Kept}
-use Rattle.ks_machine.specs.Step.{Arrival, Values, Sent, Written, step_key, arrived as arrived_at, taken_row, applied, row_in, value_at, counted_at, hash_changes, value_changes, sends_at, changes_at, over_nodes, late_over, items_from, olds_at, news_at, write_all}
+use Rattle.ks_machine.specs.Step.{Arrival, Values, Sent, Written, step_key, arrived as arrived_at, taken_row, applied, counted_at, hash_changes, value_changes, sends_at, changes_at, over_nodes, late_over, items_from, olds_at, news_at, write_all}
 use Rattle.ks_machine.specs.Tasks.{step, sent_item, written_item, taker}
-use Rattle.ks_machine.specs.Bytes.{ByteStores, byte_step, step_at, step_read, outcome_of, nothing_made, is_own, is_own_number, is_sent, spelled, part_id, rec_of, message_in, given_in, regrouped_in, if_there, store_from, table_from, pairs_of, map_from, stored_from, stored_bytes, stores_after, keep_all, taker_at, reader_number}
+use Rattle.ks_machine.specs.Bytes.{ByteStores, byte_step, step_at, step_read, nothing_made, is_own_number, is_sent, spelled, part_id, rec_of, message_in, given_in, regrouped_in, if_there, store_from, pairs_of, map_from, stored_from, stores_after, taker_at}
 use Rattle.ks_machine.proofs.Names.{topic-is}
 use Rattle.ks_machine.proofs.Keys.{key_read}
 use Rattle.ks_machine.proofs.Pairs.{get-map_from}
 use Rattle.ks_machine.proofs.Agree.{kind-is}
 use Rattle.ks_history.specs.Machine.{has_topic, part_of}
 use Rattle.ks_history.specs.State.{has_task}
-use Rattle.ks_rest.proofs.Fits.{Fits, NodeFits, each_at, node_stands}
+use Rattle.ks_rest.proofs.Fits.{Fits, each_at, node_stands}
 use Rattle.ks_rest.proofs.WellFormed.{well_formed_fits}
 use Rattle.ks_rest.proofs.Follow.{value_is}
-use Rattle.ks_work.specs.Work.{work_of}
 use Rattle.ks_work.proofs.Networks.{works_are_networks}
 use Rattle.ks_work.proofs.Kept.{nothing_is_held_back}
 use Rattle.ks_task.specs.declared.arrival.Said.{Said}
 use Rattle.ks_task.specs.declared.arrival.Said.TheVariants.{Became, Moves}
 use Rattle.ks_task.specs.declared.arrival.Arrived.{Arrived}
 use Rattle.ks_task.specs.Built.{is_built_kind, are_built, IsBuilt, rules_of}
-use Rattle.ks_task.specs.Program.{StepView, step_of, steps_from, steps_of, message_of, arrival_of, given_as, moved_said, arrived_as, arrived_in, old_at, new_at, value_after, PairView, pair_at, no_pair, part_in, sent_delta, delta_rec, sends_of, all_sends, change_of, change_rec, all_changes, made_of, made_or_none}
+use Rattle.ks_task.specs.Program.{StepView, step_of, steps_from, steps_of, message_of, given_as, moved_said, arrived_as, arrived_in, old_at, new_at, value_after, PairView, pair_at, no_pair, sent_delta, delta_rec, sends_of, all_sends, change_of, change_rec, all_changes, made_of, made_or_none}
 use Rattle.ks_task.specs.Views.{arrived_at_topic}
 use Rattle.ks_task.proofs.Noding.{built_at, kind_or_none, earlier_node, aggregate_parts, has_parts, is_plain, plain_at}
 

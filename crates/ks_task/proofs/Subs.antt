@@ -1,9 +1,9 @@
 -- A subtopology that a topology doesn't have has no inputs and no changelogs.
-use Rattle.std.proofs.Common.{◌≡◌, ℕ, zero, suc, ◌+◌, ◌<◌, ◌≤◌, Bool, true, false, cond, ◌||◌, List, [], ◌∷◌, ◌++◌, length, map, get_or, Option, Some, None, refl, sym, ap, subst, ◌∙◌, arith, nat_eq, length-append, ⊎_elim, ◌⊎◌, inl, inr}
+use Rattle.std.proofs.Common.{◌≡◌, ℕ, zero, suc, ◌+◌, ◌<◌, ◌≤◌, Bool, true, false, cond, ◌||◌, List, [], ◌∷◌, ◌++◌, length, map, get_or, Some, None, refl, sym, ap, subst, ◌∙◌, arith, nat_eq, length-append}
 use Rattle.std.specs.Prelude.{slice_get, nat_lt}
 use Rattle.std.proofs.lemmas.List.{length-map}
 use Rattle.std.specs.List.{filter}
-use Rattle.std.proofs.lemmas.Bool.{or_cases, true≢false, eqb-false, ltb-true, ltb-false}
+use Rattle.std.proofs.lemmas.Bool.{true≢false, eqb-false, ltb-true, ltb-false}
 use Rattle.std.proofs.lemmas.Bool.Decides.{Decides-eqb}
 use Rattle.std.proofs.lemmas.Option.{slice_get_within, get_or_from_slice_get}
 use Rattle.ks_expr.specs.declared.terms.JoinKind.{JoinKind}
@@ -13,8 +13,8 @@ use Rattle.ks_topo.specs.Faults.{fault_of}
 use Rattle.ks_topo.specs.Plan.{Plan, Kind, plan_of}
 use Rattle.ks_topo.specs.Plan.Kind.{StreamSource, TableSource, StreamFilter, TableFilter, StreamMap, TableMap, KeySelected, StreamAggregate, TableAggregate, Windowed, KeyJoin, ForeignKeyJoin}
 use Rattle.ks_topo.specs.declared.node.Topic.{Topic}
-use Rattle.ks_topo.specs.declared.node.Topic.TheVariants.{Input, Repartition, Subscriptions, Responses, Changelog, HashChangelog}
-use Rattle.ks_topo.specs.Layout.{up_to, is_source_of, any_source_of, first_source_of, is_read, source_of, sub_of, sub_count, reads, kind_at, right_of, is_drained, drain_order, input_topics, by_node, through_topics, changelogs_of, inputs, changelogs, number_of}
+use Rattle.ks_topo.specs.declared.node.Topic.TheVariants.{Input, Repartition}
+use Rattle.ks_topo.specs.Layout.{up_to, is_source_of, any_source_of, first_source_of, source_of, sub_of, sub_count, reads, kind_at, right_of, is_drained, input_topics, by_node, through_topics, changelogs_of, number_of}
 use Rattle.ks_topo.specs.Infos.{input_numbers, changelog_numbers, inputs_by_sub, changelogs_by_sub}
 use Rattle.ks_machine.proofs.Agree.{kind-is}
 use Rattle.ks_rest.proofs.Fits.{Fits, NodeFits, EachFits}

@@ -1,3 +1,4 @@
 pub mod Built
 pub mod Program
 pub mod Views
+pub mod Tasks

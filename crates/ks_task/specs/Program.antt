@@ -1,5 +1,5 @@
 -- One whole step of a task at one key, over the bytes of its stores: each node's stored value is looked up at the key alone.
-use Rattle.std.specs.Prelude.{ℕ, ◌+◌, ◌==◌, Bool, cond, nat_eq, List, [], ◌∷◌, ◌++◌, map, get_or, suc, Option, Some, None, option_map, option_and_then, is_none, if◌then◌else◌}
+use Rattle.std.specs.Prelude.{ℕ, ◌+◌, ◌==◌, Bool, cond, nat_eq, List, [], ◌∷◌, ◌++◌, map, get_or, suc, Option, Some, None, option_map, option_and_then, if◌then◌else◌}
 use Rattle.ks_row.specs.Texts.{key_from}
 use Rattle.ks_row.specs.Reading.{◌>>=◌, row_from}
 use Rattle.ks_row.specs.declared.record.Rec.{Rec}

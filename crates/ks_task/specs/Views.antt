@@ -1,5 +1,5 @@
 -- A task's inputs and changelogs as lists, and the view that they are.
-use Rattle.std.specs.Prelude.{◌≡◌, ℕ, ◌+◌, ◌==◌, ◌||◌, Bool, true, false, List, [], ◌∷◌, ◌++◌, map, cond, None, Option, Some, if◌then◌else◌}
+use Rattle.std.specs.Prelude.{◌≡◌, ℕ, ◌+◌, ◌==◌, Bool, true, false, List, [], ◌∷◌, ◌++◌, map, None, Option, Some, if◌then◌else◌}
 use Rattle.std.specs.List.{filter}
 use Rattle.ks_row.specs.declared.record.Rec.{Rec}
 use Rattle.ks_row.specs.declared.record.PartId.{PartId}
@@ -7,7 +7,7 @@ use Rattle.ks_row.specs.declared.record.TaskId.{TaskId}
 use Rattle.ks_row.specs.Parts.{same_part}
 use Rattle.ks_map.specs.Bytes.{Store, empty_store}
 use Rattle.ks_topo.specs.Drafts.{DraftView}
-use Rattle.ks_topo.specs.Plan.{Plan, plan_of}
+use Rattle.ks_topo.specs.Plan.{plan_of}
 use Rattle.ks_topo.specs.Layout.{tasks}
 use Rattle.ks_topo.specs.Infos.{input_numbers, changelog_numbers}
 use Rattle.ks_topo.specs.Faults.{fault_of}
@@ -23,11 +23,6 @@ use Rattle.ks_task.specs.declared.program.Step.{Step}
 use Rattle.ks_task.specs.declared.arrival.Arrived.{Arrived}
 use Rattle.ks_task.specs.Built.{IsBuilt}
 use Rattle.ks_task.specs.Program.{step_view, steps_of, arrived_in}
-
--- a task of a plan: what contracts see
-pub record PlannedTask : Type 0 where
-  pub plan : Plan
-  pub view : TaskView
 
 -- ---- inputs, by topic
 abbrev pub position_in : List Input → ℕ → ℕ

@@ -108,17 +108,13 @@ pub fn take_in_order(order: &mut Vec<(u16, u64)>, topic: u16) -> Result<(), Allo
     Ok(())
 }
 
-/// The position in each of these topics.
-pub fn offsets_of(
-    alloc: Global,
-    inputs: &[Input],
-    topics: &[u16],
-) -> Result<Vec<(u16, u64)>, AllocError>
-    ensures { IfOk result (λ v. v.items ≡ map (λ topic. (topic, position_in inputs.now topic)) topics.now) }
+/// The position in each input.
+pub fn offsets_of(alloc: Global, inputs: &[Input]) -> Result<Vec<(u16, u64)>, AllocError>
+    ensures { IfOk result (λ v. v.items ≡ map (λ topic. (topic, position_in inputs.now topic)) (topics_in inputs.now)) }
 {
     let mut offsets = Vec::new(alloc);
-    for topic in topics {
-        offsets.push((*topic, position_of(inputs, *topic)))?;
+    for input in inputs {
+        offsets.push((input.topic, position_of(inputs, input.topic)))?;
     }
     Ok(offsets)
 }

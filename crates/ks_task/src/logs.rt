@@ -99,11 +99,7 @@ fn keep_log(log: &mut Log, part: u8, made: &[(PartId, Rec)]) -> Result<(), Alloc
 }
 
 /// Each store takes the records for its changelog; after want of memory the stores are to be dropped.
-pub fn keep_logs(
-    logs: &mut Vec<Log>,
-    part: u8,
-    made: &[(PartId, Rec)],
-) -> Result<(), AllocError>
+pub fn keep_logs(logs: &mut Vec<Log>, part: u8, made: &[(PartId, Rec)]) -> Result<(), AllocError>
     ensures ok { OnOk result (logs.new.items ≡ map (log_after part made.now) logs.old.items) }
     ensures numbers { numbers_of logs.new.items ≡ numbers_of logs.old.items }
 {

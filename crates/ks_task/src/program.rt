@@ -12,7 +12,9 @@ use std::alloc::{AllocError, Global};
 #[derive(Drop)]
 pub enum Doing {
     /// A table source, with the number of its topic.
-    Source { topic: u16 },
+    Source {
+        topic: u16,
+    },
     /// A count or a sum of a table: the node that it reads, the field of its groups, and that of a sum.
     Aggregate {
         from: u8,

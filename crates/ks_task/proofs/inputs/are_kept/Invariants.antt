@@ -1,5 +1,5 @@
-use Rattle.std.proofs.Common.{◌≡◌, ◌++◌, ◌+◌, length, map, take, drop, IfOk, OnOk, option_map, get_or}
-use Rattle.ks_task.specs.Views.{position_in, topics_in, moved_to, kept_now, is_kept, stores_in, positions_in, numbers_of, log_after, ended}
+use Rattle.std.proofs.Common.{◌≡◌, length}
+use Rattle.ks_task.specs.Views.{is_kept}
 use Rattle.ks_task.proofs.inputs.are_kept.Given as goal
 
 abbrev pub invariant-loop-rest : goal.invariant-loop-rest
