@@ -1,7 +1,7 @@
 -- The ends that a commit answers are past the works' changelog records.
-use Rattle.std.proofs.Common.{◌≡◌, ◌≢◌, ℕ, ◌+◌, ◌≤◌, ◌<◌, Bool, true, false, cond, ◌&&◌, inl, List, [], ◌∷◌, ◌++◌, length, Option, Some, None, refl, sym, ap, ap₂, subst, ◌∙◌, arith, nat_lt}
+use Rattle.std.proofs.Common.{◌≡◌, ◌≢◌, ℕ, ◌+◌, ◌≤◌, ◌<◌, Bool, true, false, cond, ◌&&◌, inl, List, [], ◌∷◌, ◌++◌, length, Some, None, refl, sym, ap, subst, ◌∙◌, arith}
 use Rattle.std.specs.Prelude.{◌==◌, not}
-use Rattle.std.proofs.lemmas.Bool.{and_parts, and_from, eqb-true, eq-eqb, lt-ltb, true≢false}
+use Rattle.std.proofs.lemmas.Bool.{and_parts, eqb-true, eq-eqb, lt-ltb, true≢false}
 use Rattle.ks_row.specs.declared.record.Rec.{Rec}
 use Rattle.ks_row.specs.declared.record.PartId.{PartId}
 use Rattle.ks_row.specs.declared.record.TaskId.{TaskId}
@@ -9,14 +9,14 @@ use Rattle.ks_row.specs.Parts.{same_part}
 use Rattle.ks_history.specs.declared.partition.Slot.{Slot}
 use Rattle.ks_history.specs.declared.partition.Slot.TheVariants.{Plain, Sent, Mark}
 use Rattle.ks_history.specs.Partition.{Logged, stable, below, is_commit, decision, next_mark, decided_from}
-use Rattle.ks_history.specs.Machine.{part_of, has_topic}
+use Rattle.ks_history.specs.Machine.{part_of}
 use Rattle.ks_history.specs.State.{State, Setup, offset_in}
-use Rattle.ks_history.specs.Faithful.{decided, waiting_at, markers_of}
+use Rattle.ks_history.specs.Faithful.{waiting_at, markers_of}
 use Rattle.ks_history.specs.Reads.{end_of}
 use Rattle.ks_history.proofs.Names.{same_part-is}
 use Rattle.ks_replay.proofs.Slots.{Waiting}
 use Rattle.ks_follow.specs.Views.{WorkView, recs_at, names_part, is_empty, are_outputs, IsPast, AreEnds}
-use Rattle.ks_commit.specs.Committed.{MayCommit, EachMay, ends_in, ends_of_each, EachEnds}
+use Rattle.ks_commit.specs.Committed.{EachMay, ends_in, ends_of_each, EachEnds}
 
 -- each decided record stands before the end
 decided_within : (waiting : Waiting) (n at : ℕ) (slots : List Slot) → at + length slots ≤ n → below n (decided_from waiting at slots) ≡ decided_from waiting at slots

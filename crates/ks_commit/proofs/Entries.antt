@@ -1,9 +1,7 @@
 -- A journal that goes on, and what its new entries add, commit and write.
-use Rattle.std.proofs.Common.{◌≡◌, ℕ, ◌+◌, Bool, true, false, cond, List, [], ◌∷◌, ◌++◌, length, Option, Some, None, refl, sym, ap, ap₂, subst, ◌∙◌, arith, append-nil, append_assoc}
-use Rattle.std.specs.Prelude.{◌==◌}
+use Rattle.std.proofs.Common.{◌≡◌, ℕ, Bool, true, false, cond, List, [], ◌∷◌, ◌++◌, None, refl, sym, ap, ap₂, subst, ◌∙◌, append-nil, append_assoc}
 use Rattle.ks_row.specs.declared.record.PartId.{PartId}
 use Rattle.ks_row.specs.declared.record.TaskId.{TaskId}
-use Rattle.ks_row.specs.declared.assignment.Refused.{Refused}
 use Rattle.ks_history.specs.declared.journal.Entry.{Entry}
 use Rattle.ks_history.specs.declared.journal.Request.{Request}
 use Rattle.ks_history.specs.declared.journal.Reply.{Reply}
@@ -11,12 +9,12 @@ use Rattle.ks_history.specs.declared.transaction.Pending.{Pending}
 use Rattle.ks_history.specs.Machine.{Plan}
 use Rattle.ks_history.specs.State.{State, Setup, start}
 use Rattle.ks_history.specs.Step.{refusal, effect, state_by, after}
-use Rattle.ks_history.specs.History.{state_after, at}
+use Rattle.ks_history.specs.History.{state_after}
 use Rattle.ks_history.proofs.Histories.{state_after-append}
 use Rattle.ks_cluster.specs.Kept.{Kept, setup_of, state_of, Answers}
-use Rattle.ks_cluster.proofs.Entries.{answered_state, answered_setup}
+use Rattle.ks_cluster.proofs.Entries.{answered_state}
 use Rattle.ks_follow.specs.Commits.{commits_by, commits_for}
-use Rattle.ks_commit.specs.Sending.{Put, Gains, Marks, is_produce, produce_none, IsLonger, Sends, Marked}
+use Rattle.ks_commit.specs.Sending.{Put, Gains, is_produce, produce_none, IsLonger, Sends, Marked}
 use Rattle.ks_commit.proofs.Gaining.{gains_both, gains_nothing}
 use Rattle.ks_commit.proofs.Marking.{marks_both, marks_nothing}
 

@@ -1,7 +1,7 @@
 -- Producers beyond the last, and records of later epochs: what every history keeps.
-use Rattle.std.proofs.Common.{◌≡◌, ◌≢◌, ℕ, ◌+◌, ◌≤◌, ◌<◌, suc, Bool, true, false, cond, ◌&&◌, List, [], ◌∷◌, ◌++◌, length, Option, Some, None, refl, sym, ap, ap₂, subst, ◌∙◌, arith}
+use Rattle.std.proofs.Common.{◌≡◌, ℕ, ◌+◌, ◌≤◌, suc, Bool, true, false, cond, ◌&&◌, List, [], ◌∷◌, ◌++◌, Option, Some, None, refl, sym, ap, subst, ◌∙◌, arith}
 use Rattle.std.specs.Prelude.{◌==◌}
-use Rattle.std.proofs.lemmas.Bool.{and_parts, eqb-true, ne_eqb, true≢false}
+use Rattle.std.proofs.lemmas.Bool.{and_parts, eqb-true, ne_eqb}
 use Rattle.ks_row.specs.declared.record.Rec.{Rec}
 use Rattle.ks_row.specs.declared.record.PartId.{PartId}
 use Rattle.ks_row.specs.declared.record.TaskId.{TaskId}
@@ -10,16 +10,16 @@ use Rattle.ks_row.specs.declared.assignment.Marker.{Marker}
 use Rattle.ks_row.specs.declared.assignment.Refused.{Refused}
 use Rattle.ks_row.specs.Parts.{same_part}
 use Rattle.ks_history.specs.declared.partition.Slot.{Slot}
-use Rattle.ks_history.specs.declared.partition.Slot.TheVariants.{Plain, Sent, Mark}
+use Rattle.ks_history.specs.declared.partition.Slot.TheVariants.{Plain, Mark}
 use Rattle.ks_history.specs.declared.journal.Entry.{Entry}
 use Rattle.ks_history.specs.declared.journal.Request.{Request}
 use Rattle.ks_history.specs.declared.journal.Request.TheVariants.{Produce, Init, Add, Append, SendOffsets, Decide, MarkNext, Join, Expire, Hold, Probe, Assign, Park, Unpark}
 use Rattle.ks_history.specs.declared.transaction.Producer.{Producer}
 use Rattle.ks_history.specs.declared.transaction.Transaction.{Transaction}
 use Rattle.ks_history.specs.Partition.{count_sent, sent_slots}
-use Rattle.ks_history.specs.State.{State, Setup, start, new_producer, with_number, grown, without_number}
+use Rattle.ks_history.specs.State.{State, Setup, start, with_number, grown, without_number}
 use Rattle.ks_history.specs.Step.{refusal, effect, state_by, after, closed, can_expire, renewed, markers_for, fenced, without_part, out_of_sequence, or_else}
-use Rattle.ks_history.specs.History.{state_after, at, Each, Meets, IsStep}
+use Rattle.ks_history.specs.History.{state_after, Each, Meets, IsStep}
 use Rattle.ks_replay.specs.Law.{OfHistories}
 use Rattle.ks_replay.proofs.Refusals.{both_none, not_fenced}
 use Rattle.ks_commit.specs.Alone.{HasSeventeen, IsOfPast}

@@ -1,7 +1,7 @@
 -- A transaction with the works of some tasks, begun between two transactions, is faithful.
-use Rattle.std.proofs.Common.{◌≡◌, ◌≢◌, ℕ, ◌+◌, ◌≤◌, Bool, true, false, cond, ◌&&◌, ◌||◌, List, [], ◌∷◌, ◌++◌, length, Option, Some, None, refl, sym, ap, ap₂, subst, ◌∙◌, arith, append-nil}
+use Rattle.std.proofs.Common.{◌≡◌, ℕ, ◌+◌, ◌≤◌, Bool, true, false, cond, ◌&&◌, ◌||◌, List, [], ◌∷◌, ◌++◌, length, Option, Some, None, refl, sym, ap, ap₂, subst, ◌∙◌, arith, append-nil}
 use Rattle.std.specs.Prelude.{◌==◌}
-use Rattle.std.proofs.lemmas.Bool.{and_parts, eqb-true, eq-eqb, true≢false}
+use Rattle.std.proofs.lemmas.Bool.{eqb-true, true≢false}
 use Rattle.ks_row.specs.declared.record.Rec.{Rec}
 use Rattle.ks_row.specs.declared.record.PartId.{PartId}
 use Rattle.ks_row.specs.declared.record.TaskId.{TaskId}
@@ -15,15 +15,15 @@ use Rattle.ks_history.specs.Partition.{Logged, stable, readable, decided_from, d
 use Rattle.ks_history.specs.Machine.{Stores, latest, network, machine, part_of, has_topic}
 use Rattle.ks_history.specs.State.{State, Setup, has_task, are_once, pending_of, offset_in}
 use Rattle.ks_history.specs.Step.{tx_of, no_tx, pending_at}
-use Rattle.ks_history.specs.Faithful.{decided, waiting_at, markers_of, marker_among, folds, taken, outcome, capped, pending_offsets, count_in, IsFaithfulTask, IsFaithful}
+use Rattle.ks_history.specs.Faithful.{decided, waiting_at, markers_of, marker_among, folds, taken, outcome, capped, pending_offsets, IsFaithfulTask, IsFaithful}
 use Rattle.ks_history.proofs.Names.{same_task-is, same_task-refl}
-use Rattle.ks_replay.proofs.Slots.{Waiting, decided-append, marks_then, recs-append, stable-append, readable_decided, open_none}
+use Rattle.ks_replay.proofs.Slots.{Waiting, decided-append, recs-append, stable-append, readable_decided, open_none}
 use Rattle.ks_replay.proofs.Sound.{Sound}
 use Rattle.ks_replay.proofs.Commits.{pending_is}
 use Rattle.ks_replay.proofs.Quiet.{tx_is}
-use Rattle.ks_follow.specs.Views.{WorkView, IsWork, pending_work, recs_at}
+use Rattle.ks_follow.specs.Views.{WorkView, pending_work, recs_at}
 use Rattle.ks_commit.specs.Alone.{IsIdle}
-use Rattle.ks_commit.specs.Sending.{Put, put_for, puts_task, last_pending, Gains, adds_of, puts_in, puts_of, pendings_of}
+use Rattle.ks_commit.specs.Sending.{put_for, puts_task, last_pending, Gains, adds_of, puts_in, puts_of, pendings_of}
 use Rattle.ks_commit.specs.Committed.{MayCommit, EachMay, tasks_in, AreApart}
 use Rattle.ks_commit.proofs.Slots.{sent_next, sent_decided, sent_behind, open_append, complete_behind, idle_complete}
 use Rattle.ks_commit.proofs.Gaining.{put_for-append, puts_task-append}

@@ -1,11 +1,10 @@
 -- A commit of several works, from begin to end.
-use Rattle.std.proofs.Common.{◌≡◌, ◌≢◌, ℕ, ◌+◌, ◌≤◌, ◌<◌, Bool, true, false, cond, ◌&&◌, ◌||◌, List, [], ◌∷◌, ◌++◌, length, Option, Some, None, refl, sym, ap, ap₂, subst, ◌∙◌, arith, append-nil}
+use Rattle.std.proofs.Common.{◌≡◌, ◌≢◌, ℕ, ◌+◌, Bool, true, false, cond, ◌||◌, List, [], ◌∷◌, ◌++◌, length, Option, Some, None, refl, sym, ap, ap₂, subst, ◌∙◌, arith, append-nil}
 use Rattle.std.specs.Prelude.{◌==◌}
 use Rattle.std.proofs.lemmas.Bool.{eqb-true, true≢false}
 use Rattle.ks_row.specs.declared.record.Rec.{Rec}
 use Rattle.ks_row.specs.declared.record.PartId.{PartId}
 use Rattle.ks_row.specs.declared.record.TaskId.{TaskId}
-use Rattle.ks_row.specs.declared.assignment.Refused.{Refused}
 use Rattle.ks_row.specs.Parts.{same_part}
 use Rattle.ks_history.specs.declared.partition.Slot.{Slot}
 use Rattle.ks_history.specs.declared.journal.Entry.{Entry}
@@ -19,24 +18,23 @@ use Rattle.ks_history.specs.Machine.{Plan, IsNetwork}
 use Rattle.ks_history.specs.State.{State, Setup, has_part, has_task, pending_of, offset_in, committed_with}
 use Rattle.ks_history.specs.Step.{refusal, effect, fenced, none_undecided, tx_of, no_tx, pending_at, owner}
 use Rattle.ks_history.specs.Faithful.{IsFaithful}
-use Rattle.ks_history.specs.History.{at, IsHistory, CommitsFaithfully}
+use Rattle.ks_history.specs.History.{IsHistory, CommitsFaithfully}
 use Rattle.ks_history.proofs.Names.{same_task-refl}
 use Rattle.ks_replay.proofs.Quiet.{tx_is}
 use Rattle.ks_replay.proofs.Replays.{whole}
 use Rattle.ks_cluster.specs.Kept.{Kept, setup_of, state_of, Answers}
 use Rattle.ks_follow.specs.Views.{WorkView, names_part, pending_work}
-use Rattle.ks_follow.specs.Commits.{commit_by, commits_for}
-use Rattle.ks_commit.specs.declared.work.Frozen.{Frozen}
+use Rattle.ks_follow.specs.Commits.{commit_by}
 use Rattle.ks_commit.specs.declared.publisher.Publisher.{Publisher}
-use Rattle.ks_commit.specs.Alone.{IsIdle, IsAlone}
-use Rattle.ks_commit.specs.Sending.{Put, put_count, Gains, Sends, Marks, Marked, marks_part, adds_in, puts_in, adds_of, puts_of, pendings_of}
-use Rattle.ks_commit.specs.Committed.{works_of, IsReady, IsSame, IsSending, EachMay, EachOf, EachPlaced, AreApart, names_in, ends_of_each, EachEnds, Committed}
+use Rattle.ks_commit.specs.Alone.{IsIdle}
+use Rattle.ks_commit.specs.Sending.{put_count, Sends, Marked, adds_in, puts_in, adds_of, puts_of, pendings_of}
+use Rattle.ks_commit.specs.Committed.{IsReady, IsSame, IsSending, EachMay, EachOf, EachPlaced, AreApart, names_in, ends_of_each, EachEnds, Committed}
 use Rattle.ks_commit.proofs.Slots.{is_stable}
 use Rattle.ks_commit.proofs.Gaining.{has_part-append, put_count-append}
 use Rattle.ks_commit.proofs.Free.{none_then, not_fenced, has_tx, can_decide}
-use Rattle.ks_commit.proofs.Faith.{or_false, is_faithful, pending_now, no_wait}
+use Rattle.ks_commit.proofs.Faith.{or_false, is_faithful, pending_now}
 use Rattle.ks_commit.proofs.Marking.{Decides, decide_decides}
-use Rattle.ks_commit.proofs.Entries.{later_setup, longer_both, commits_both, produce_none-append, new_state, one_commits, one_quiet}
+use Rattle.ks_commit.proofs.Entries.{later_setup, longer_both, commits_both, produce_none-append, new_state, one_commits}
 use Rattle.ks_commit.proofs.Ends.{each_ends}
 
 -- ---- works
@@ -100,18 +98,19 @@ module _ {W : Type 0} (plan : W → Plan) (old sent : Kept W) (p q : Publisher) 
           has_tx ((state_of plan sent).producer p.worker) f.task (pending_work f)
           (pending_is f.task ∙ ap (λ l. pending_of f.task (pendings_of l)) e ∙ ap (λ b. cond b (Some (pending_work f)) (pending_of f.task (pendings_of gs))) (same_task-refl f.task))
 
-  module _ (decided new : Kept W) (reply : Reply) (some : fs ≢ []) (sending : IsSending (setup_of plan sent) (state_of plan sent) q) (decides : Answers plan sent decided (Decide q.worker q.epoch true) reply) (marked : Marked plan decided new q.worker)
+  pub decide_free : fs ≢ [] → IsSending (setup_of plan sent) (state_of plan sent) q → refusal (setup_of plan sent) (state_of plan sent) (Decide q.worker q.epoch true) ≡ None
+  decide_free some sending =
+      none_then (fenced ((state_of plan sent).producer q.worker) q.epoch) (none_undecided ((state_of plan sent).producer q.worker))
+      (not_fenced ((state_of plan sent).producer q.worker) q.epoch sending.epoch)
+      (can_decide ((state_of plan sent).producer q.worker) (is_open some).0 (ap (λ w. ((state_of plan sent).producer w).undecided) same.0 ∙ (is_open some).1))
+
+  module _ (decided new : Kept W) (reply : Reply) (some : fs ≢ []) (sending : IsSending (setup_of plan sent) (state_of plan sent) q) (free : refusal (setup_of plan sent) (state_of plan sent) (Decide q.worker q.epoch true) ≡ None) (decides : Answers plan sent decided (Decide q.worker q.epoch true) reply) (marked : Marked plan decided new q.worker)
       (done : ((state_of plan new).producer q.worker).waiting ≡ []) (after : IsHistory (setup_of plan new) new.journal) where
     abbrev tx : Transaction
     tx = (is_open some).0
 
     undecided : ((state_of plan sent).producer q.worker).undecided ≡ Some tx
     undecided = ap (λ w. ((state_of plan sent).producer w).undecided) same.0 ∙ (is_open some).1
-
-    free : refusal (setup_of plan sent) (state_of plan sent) (Decide q.worker q.epoch true) ≡ None
-    free =
-        none_then (fenced ((state_of plan sent).producer q.worker) q.epoch) (none_undecided ((state_of plan sent).producer q.worker))
-        (not_fenced ((state_of plan sent).producer q.worker) q.epoch sending.epoch) (can_decide ((state_of plan sent).producer q.worker) tx undecided)
 
     decided_is : state_of plan decided ≡ effect (state_of plan sent) (Decide q.worker q.epoch true)
     decided_is = new_state plan sent decided (Decide q.worker q.epoch true) reply decides free

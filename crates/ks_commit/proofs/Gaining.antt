@@ -1,18 +1,16 @@
 -- What each request adds to a transaction, and two additions one after another.
-use Rattle.std.proofs.Common.{◌≡◌, ℕ, ◌+◌, Bool, true, false, cond, ◌&&◌, ◌||◌, List, [], ◌∷◌, ◌++◌, length, Option, Some, None, refl, sym, ap, ap₂, subst, ◌∙◌, arith, append-nil, append_assoc, length-append}
+use Rattle.std.proofs.Common.{◌≡◌, ℕ, ◌+◌, Bool, true, false, cond, ◌&&◌, ◌||◌, List, [], ◌∷◌, ◌++◌, length, Option, Some, refl, sym, ap, ap₂, subst, ◌∙◌, arith, append-nil, append_assoc, length-append}
 use Rattle.std.specs.Prelude.{◌==◌}
-use Rattle.std.proofs.lemmas.Bool.{eqb-true, eq-eqb, true≢false}
+use Rattle.std.proofs.lemmas.Bool.{eq-eqb, true≢false}
 use Rattle.ks_row.specs.declared.record.Rec.{Rec}
 use Rattle.ks_row.specs.declared.record.PartId.{PartId}
 use Rattle.ks_row.specs.declared.record.TaskId.{TaskId}
 use Rattle.ks_row.specs.Parts.{same_part, same_task, part_lt, task_lt}
-use Rattle.ks_history.specs.declared.partition.Slot.{Slot}
 use Rattle.ks_history.specs.declared.journal.Request.TheVariants.{Add, Append, SendOffsets}
 use Rattle.ks_history.specs.declared.transaction.Pending.{Pending}
-use Rattle.ks_history.specs.declared.transaction.Transaction.{Transaction}
 use Rattle.ks_history.specs.declared.transaction.Producer.{Producer}
 use Rattle.ks_history.specs.Partition.{recs, open_from, sent_slots}
-use Rattle.ks_history.specs.State.{State, Setup, with_number, grown, insert_part, has_part, has_task, pending_of, with_pending}
+use Rattle.ks_history.specs.State.{State, with_number, insert_part, has_part, has_task, pending_of, with_pending}
 use Rattle.ks_history.specs.Step.{effect, tx_of, pending_at}
 use Rattle.ks_history.proofs.Names.{same_part-is, same_task-is}
 use Rattle.ks_replay.proofs.Slots.{recs-append}

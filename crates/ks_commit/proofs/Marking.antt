@@ -1,18 +1,16 @@
 -- A decision, and the markers that are written after it.
-use Rattle.std.proofs.Common.{◌≡◌, ℕ, ◌+◌, ◌<◌, Bool, true, false, cond, ◌&&◌, ◌||◌, List, [], ◌∷◌, ◌++◌, length, Option, Some, None, refl, sym, ap, ap₂, subst, ◌∙◌, arith}
+use Rattle.std.proofs.Common.{◌≡◌, ℕ, Bool, true, false, cond, ◌||◌, List, [], ◌∷◌, ◌++◌, Option, Some, None, refl, sym, ap, ◌∙◌, arith}
 use Rattle.std.specs.Prelude.{◌==◌}
-use Rattle.std.proofs.lemmas.Bool.{true≢false}
 use Rattle.ks_row.specs.declared.record.PartId.{PartId}
-use Rattle.ks_row.specs.declared.record.TaskId.{TaskId}
 use Rattle.ks_row.specs.declared.assignment.Marker.{Marker}
 use Rattle.ks_row.specs.Parts.{same_part}
 use Rattle.ks_history.specs.declared.partition.Slot.TheVariants.{Mark}
-use Rattle.ks_history.specs.declared.journal.Request.TheVariants.{Decide, MarkNext}
+use Rattle.ks_history.specs.declared.journal.Request.TheVariants.{Decide}
 use Rattle.ks_history.specs.declared.transaction.Transaction.{Transaction}
 use Rattle.ks_history.specs.declared.transaction.Producer.{Producer}
 use Rattle.ks_history.specs.Partition.{count_sent}
-use Rattle.ks_history.specs.State.{State, Setup, with_number, grown, has_part}
-use Rattle.ks_history.specs.Step.{effect, tx_of, closed, markers_for}
+use Rattle.ks_history.specs.State.{State, with_number, grown, has_part}
+use Rattle.ks_history.specs.Step.{effect, closed, markers_for}
 use Rattle.ks_replay.proofs.Commits.{closed_waiting}
 use Rattle.ks_replay.proofs.Refusals.{closed_undecided}
 use Rattle.ks_commit.specs.Sending.{Marks, marks_part}

@@ -1,5 +1,5 @@
 -- What a publisher sends, call by call.
-use Rattle.std.proofs.Common.{◌≡◌, ◌≢◌, ℕ, zero, suc, ◌+◌, ◌≤◌, ◌<◌, Bool, true, false, cond, ◌&&◌, ◌||◌, List, [], ◌∷◌, ◌++◌, length, take, get_or, Option, Some, None, refl, sym, ap, ap₂, subst, ◌∙◌, arith, append-nil, append_assoc, length-append, ⊎_elim, ◌⊎◌, leb}
+use Rattle.std.proofs.Common.{◌≡◌, ℕ, zero, suc, ◌+◌, ◌≤◌, ◌<◌, Bool, true, false, cond, ◌&&◌, ◌||◌, List, [], ◌∷◌, ◌++◌, length, take, get_or, Option, Some, None, refl, sym, ap, ap₂, subst, ◌∙◌, arith, append-nil, append_assoc, length-append, ⊎_elim, leb}
 use Rattle.std.specs.Prelude.{◌==◌, nat_le}
 use Rattle.std.specs.List.{All}
 use Rattle.std.proofs.lemmas.Bool.{and_parts, and_from, le-leb, true≢false}
@@ -17,7 +17,7 @@ use Rattle.ks_history.specs.declared.transaction.Producer.{Producer}
 use Rattle.ks_history.specs.Partition.{count_sent}
 use Rattle.ks_history.specs.Machine.{Plan, has_topic, part_of}
 use Rattle.ks_history.specs.State.{State, Setup, IsPart, has_part, has_task}
-use Rattle.ks_history.specs.Step.{refusal, fenced, markers_waiting, without_part, out_of_sequence, old_generation, not_assigned, unstable_beside, or_else, tx_of, owner}
+use Rattle.ks_history.specs.Step.{refusal, fenced, markers_waiting, without_part, out_of_sequence, old_generation, not_assigned, unstable_beside, or_else, tx_of}
 use Rattle.ks_history.specs.History.{are_offsets, names_topic}
 use Rattle.ks_history.specs.Reads.{end_of}
 use Rattle.ks_history.proofs.Names.{same_part-is, same_part-refl}
@@ -31,7 +31,7 @@ use Rattle.ks_commit.specs.Numbers.{without, renumber}
 use Rattle.ks_commit.specs.Sending.{Put, are_sent, put_count, Gains, Sends, adds_in, puts_in, adds_of, puts_of, pendings_of}
 use Rattle.ks_commit.specs.Committed.{IsSending, IsOfCluster, EachOf, EachPlaced, works_of}
 use Rattle.ks_commit.proofs.Slots.{sent_count, count_append, count_few}
-use Rattle.ks_commit.proofs.Gaining.{or_nothing, add_gains, append_gains, offsets_gains}
+use Rattle.ks_commit.proofs.Gaining.{add_gains, append_gains, offsets_gains}
 use Rattle.ks_commit.proofs.Free.{none_then, not_fenced, none_wait, has_its_part, in_sequence, now_generation, is_assigned, stable_beside}
 use Rattle.ks_commit.proofs.Entries.{later_setup, sends_one, sends_both}
 
@@ -82,46 +82,62 @@ module _ {W : Type 0} (plan : W → Plan) (old new : Kept W) (p : Publisher) (se
   pub numbers_stay : (adds : List PartId) (ps : List Pending) → Sends plan old new p.worker adds [] ps → IsNumbered (state_of plan new) p.worker p.epoch p.numbers.items
   numbers_stay adds ps s q = sending.numbers q ∙ omega (arith, gains_count (state_of plan old) (state_of plan new) p.worker adds [] ps s.gains p.epoch sending.epoch q)
 
+  pub add_free : (part : PartId) → refusal (setup_of plan old) (state_of plan old) (Add p.worker p.epoch part) ≡ None
+  add_free part =
+      none_then (fenced ((state_of plan old).producer p.worker) p.epoch) (markers_waiting ((state_of plan old).producer p.worker))
+      (not_fenced ((state_of plan old).producer p.worker) p.epoch sending.epoch) (none_wait ((state_of plan old).producer p.worker) sending.waiting)
+
   pub add_sends : (part : PartId) (reply : Reply) → Answers plan old new (Add p.worker p.epoch part) reply → Sends plan old new p.worker (part ∷ []) [] []
   add_sends part reply a =
-      sends_one plan old new p.worker (part ∷ []) [] [] (Add p.worker p.epoch part) reply a
-      (none_then (fenced ((state_of plan old).producer p.worker) p.epoch) (markers_waiting ((state_of plan old).producer p.worker)) (not_fenced ((state_of plan old).producer p.worker) p.epoch sending.epoch) (none_wait ((state_of plan old).producer p.worker) sending.waiting))
-      refl (λ t. refl) (add_gains (state_of plan old) p.worker p.epoch part)
+      sends_one plan old new p.worker (part ∷ []) [] [] (Add p.worker p.epoch part) reply a (add_free part) refl (λ t. refl) (add_gains (state_of plan old) p.worker p.epoch part)
+
+  pub offsets_free : (t : TaskId) (offsets order : List (ℕ × ℕ)) (late : ℕ) → has_task t (setup_of plan old).tasks ≡ true → refusal (setup_of plan old) (state_of plan old) (SendOffsets p.worker p.epoch p.generation t offsets order late) ≡ None
+  offsets_free t offsets order late has =
+      let s = state_of plan old in
+      let x = s.producer p.worker in
+      let last : Option Refused = unstable_beside s p.worker t in
+      none_then (fenced x p.epoch) (or_else (old_generation s p.generation) (or_else (not_assigned s p.worker t) (or_else (markers_waiting x) last))) (not_fenced x p.epoch sending.epoch)
+      (none_then (old_generation s p.generation) (or_else (not_assigned s p.worker t) (or_else (markers_waiting x) last)) (now_generation s p.generation sending.generation)
+      (none_then (not_assigned s p.worker t) (or_else (markers_waiting x) last) (is_assigned s p.worker t (sending.owns t has))
+      (none_then (markers_waiting x) last (none_wait x sending.waiting) (stable_beside s p.worker t sending.others))))
 
   pub offsets_sends : (t : TaskId) (offsets order : List (ℕ × ℕ)) (late : ℕ) (reply : Reply) → has_task t (setup_of plan old).tasks ≡ true → Answers plan old new (SendOffsets p.worker p.epoch p.generation t offsets order late) reply
       → Sends plan old new p.worker [] [] (record { task = t; offsets = offsets; order = order; late = late } ∷ [])
   offsets_sends t offsets order late reply has a =
-      let s = state_of plan old in
-      let x = s.producer p.worker in
-      let last : Option Refused = unstable_beside s p.worker t in
-      sends_one plan old new p.worker [] [] (record { task = t; offsets = offsets; order = order; late = late } ∷ []) (SendOffsets p.worker p.epoch p.generation t offsets order late) reply a
-      (none_then (fenced x p.epoch) (or_else (old_generation s p.generation) (or_else (not_assigned s p.worker t) (or_else (markers_waiting x) last))) (not_fenced x p.epoch sending.epoch)
-      (none_then (old_generation s p.generation) (or_else (not_assigned s p.worker t) (or_else (markers_waiting x) last)) (now_generation s p.generation sending.generation)
-      (none_then (not_assigned s p.worker t) (or_else (markers_waiting x) last) (is_assigned s p.worker t (sending.owns t has))
-      (none_then (markers_waiting x) last (none_wait x sending.waiting) (stable_beside s p.worker t sending.others)))))
-      refl (λ t. refl) (offsets_gains s p.worker p.epoch p.generation t offsets order late)
+      sends_one plan old new p.worker [] [] (record { task = t; offsets = offsets; order = order; late = late } ∷ []) (SendOffsets p.worker p.epoch p.generation t offsets order late) reply a (offsets_free t offsets order late has)
+      refl (λ t. refl) (offsets_gains (state_of plan old) p.worker p.epoch p.generation t offsets order late)
 
 -- ---- records that are put
 or_there : (a : Bool) → a || (true || false) ≡ true
 or_there true = refl
 or_there false = refl
 
-pub put_sends : {W : Type 0} (plan : W → Plan) (old mid new : Kept W) (p : Publisher) (t : TaskId) (part : PartId) (rs : List Rec) (before : ℕ) (first second : Reply) → IsSending (setup_of plan old) (state_of plan old) p → before ≡ number_in part p.numbers.items
-    → Answers plan old mid (Add p.worker p.epoch part) first → Answers plan mid new (Append p.worker p.epoch before t part rs) second → Sends plan old new p.worker (part ∷ []) ((t, part, rs) ∷ []) []
-put_sends plan old mid new p t part rs before first second sending is a b =
-    let one : Sends plan old mid p.worker (part ∷ []) [] [] = add_sends plan old mid p sending part first a in
-    let s = state_of plan mid in
-    let x = s.producer p.worker in
-    let epoch : x.epoch ≡ p.epoch = one.gains.epoch ∙ sending.epoch in
-    let there : has_part part (tx_of x).parts ≡ true =
-    one.gains.parts part ∙ ap (λ c. has_part part (tx_of ((state_of plan old).producer p.worker)).parts || (c || false)) (same_part-refl part) ∙ or_there _ in
-    let number : before ≡ count_sent p.worker p.epoch (s.partition part) =
-    is ∙ sending.numbers part ∙ omega (arith, gains_count (state_of plan old) s p.worker (part ∷ []) [] [] one.gains p.epoch sending.epoch part) in
-    sends_both plan old mid new p.worker (part ∷ []) [] [] ((t, part, rs) ∷ []) [] [] one
-    (sends_one plan mid new p.worker [] ((t, part, rs) ∷ []) [] (Append p.worker p.epoch before t part rs) second b
-    (none_then (fenced x p.epoch) (or_else (without_part x part) (out_of_sequence (s.partition part) p.worker p.epoch before)) (not_fenced x p.epoch epoch)
-    (none_then (without_part x part) (out_of_sequence (s.partition part) p.worker p.epoch before) (has_its_part x part there) (in_sequence (s.partition part) p.worker p.epoch before number)))
-    refl (λ t. refl) (append_gains s p.worker p.epoch before t part rs (sym epoch)))
+module _ {W : Type 0} (plan : W → Plan) (old mid : Kept W) (p : Publisher) (t : TaskId) (part : PartId) (rs : List Rec) (before : ℕ) (first : Reply) (sending : IsSending (setup_of plan old) (state_of plan old) p) (is : before ≡ number_in part p.numbers.items)
+    (a : Answers plan old mid (Add p.worker p.epoch part) first) where
+  one : Sends plan old mid p.worker (part ∷ []) [] []
+  one = add_sends plan old mid p sending part first a
+
+  epoch_is : ((state_of plan mid).producer p.worker).epoch ≡ p.epoch
+  epoch_is = one.gains.epoch ∙ sending.epoch
+
+  there : has_part part (tx_of ((state_of plan mid).producer p.worker)).parts ≡ true
+  there = one.gains.parts part ∙ ap (λ c. has_part part (tx_of ((state_of plan old).producer p.worker)).parts || (c || false)) (same_part-refl part) ∙ or_there _
+
+  number_is : before ≡ count_sent p.worker p.epoch ((state_of plan mid).partition part)
+  number_is = is ∙ sending.numbers part ∙ omega (arith, gains_count (state_of plan old) (state_of plan mid) p.worker (part ∷ []) [] [] one.gains p.epoch sending.epoch part)
+
+  pub append_free : refusal (setup_of plan mid) (state_of plan mid) (Append p.worker p.epoch before t part rs) ≡ None
+  append_free =
+      let s = state_of plan mid in
+      let x = s.producer p.worker in
+      none_then (fenced x p.epoch) (or_else (without_part x part) (out_of_sequence (s.partition part) p.worker p.epoch before)) (not_fenced x p.epoch epoch_is)
+      (none_then (without_part x part) (out_of_sequence (s.partition part) p.worker p.epoch before) (has_its_part x part there) (in_sequence (s.partition part) p.worker p.epoch before number_is))
+
+  pub put_sends : (new : Kept W) (second : Reply) → Answers plan mid new (Append p.worker p.epoch before t part rs) second → Sends plan old new p.worker (part ∷ []) ((t, part, rs) ∷ []) []
+  put_sends new second b =
+      sends_both plan old mid new p.worker (part ∷ []) [] [] ((t, part, rs) ∷ []) [] [] one
+      (sends_one plan mid new p.worker [] ((t, part, rs) ∷ []) [] (Append p.worker p.epoch before t part rs) second b append_free
+      refl (λ t. refl) (append_gains (state_of plan mid) p.worker p.epoch before t part rs (sym epoch_is)))
 
 pub put_counts : {W : Type 0} (plan : W → Plan) (old new : Kept W) (p : Publisher) (adds : List PartId) (puts : List Put) → IsSending (setup_of plan old) (state_of plan old) p → Sends plan old new p.worker adds puts [] → (q : PartId) →
     count_sent p.worker p.epoch ((state_of plan new).partition q) ≡ count_sent p.worker p.epoch ((state_of plan old).partition q) + put_count q puts

@@ -1,40 +1,35 @@
 -- A worker begins an epoch, joins the group and is given every task.
-use Rattle.std.proofs.Common.{◌≡◌, ◌≢◌, ℕ, zero, suc, ◌+◌, ◌≤◌, Bool, true, false, cond, ◌&&◌, ◌||◌, List, [], ◌∷◌, ◌++◌, length, Option, Some, None, refl, sym, ap, ap₂, subst, ◌∙◌, arith, append-nil}
+use Rattle.std.proofs.Common.{◌≡◌, ℕ, suc, ◌+◌, ◌≤◌, Bool, true, false, cond, ◌&&◌, ◌||◌, List, [], ◌∷◌, ◌++◌, Option, Some, None, refl, sym, ap, ap₂, subst, ◌∙◌, arith}
 use Rattle.std.specs.Prelude.{◌==◌, nat_le, nat_lt}
-use Rattle.std.proofs.lemmas.Bool.{and_parts, and_from, eqb-true, eq-eqb, le-leb, true≢false, or_left, or_right}
+use Rattle.std.proofs.lemmas.Bool.{and_from, eq-eqb, le-leb, true≢false, or_left, or_right}
 use Rattle.ks_row.specs.declared.record.TaskId.{TaskId}
 use Rattle.ks_row.specs.declared.record.PartId.{PartId}
 use Rattle.ks_row.specs.declared.assignment.Assignment.{Assignment}
 use Rattle.ks_row.specs.declared.assignment.Refused.{Refused}
 use Rattle.ks_row.specs.declared.assignment.Refused.TheVariants.{BadAssignment}
 use Rattle.ks_row.specs.Parts.{same_task}
-use Rattle.ks_history.specs.declared.journal.Entry.{Entry}
-use Rattle.ks_history.specs.declared.journal.Request.{Request}
 use Rattle.ks_history.specs.declared.journal.Request.TheVariants.{Init, Join, Assign}
 use Rattle.ks_history.specs.declared.journal.Reply.{Reply}
 use Rattle.ks_history.specs.declared.journal.Reply.TheVariants.{Number}
 use Rattle.ks_history.specs.declared.transaction.Producer.{Producer}
-use Rattle.ks_history.specs.declared.transaction.Transaction.{Transaction}
 use Rattle.ks_history.specs.Partition.{count_sent}
 use Rattle.ks_history.specs.Machine.{Plan, IsNetwork}
-use Rattle.ks_history.specs.State.{State, Setup, with_number, has_task, has_number, insert_number, are_once}
-use Rattle.ks_history.specs.Step.{refusal, effect, closed, renewed, old_generation, is_place, place_in, owner, places_of, lesser, badly_placed, bad_assignment, or_else}
-use Rattle.ks_history.specs.History.{at, are_places, IsHistory}
+use Rattle.ks_history.specs.State.{State, Setup, has_task, has_number, insert_number, are_once}
+use Rattle.ks_history.specs.Step.{refusal, effect, renewed, old_generation, is_place, place_in, owner, places_of, lesser, badly_placed, bad_assignment}
+use Rattle.ks_history.specs.History.{are_places, IsHistory}
 use Rattle.ks_history.proofs.Names.{same_task-is, same_task-refl}
 use Rattle.ks_replay.proofs.Refusals.{closed_undecided, closed_waiting}
 use Rattle.ks_replay.proofs.Quiet.{aborted_waiting}
 use Rattle.ks_cluster.specs.Kept.{Kept, setup_of, state_of, Answers}
-use Rattle.ks_follow.specs.Commits.{commits_by, commits_for}
-use Rattle.ks_commit.specs.declared.publisher.Publisher.{Publisher}
 use Rattle.ks_commit.specs.Alone.{IsIdle, IsAlone}
 use Rattle.ks_commit.specs.Everything.{at_worker, everything}
-use Rattle.ks_commit.specs.Sending.{is_produce, produce_none, IsLonger}
-use Rattle.ks_commit.specs.Committed.{IsReady, Started}
-use Rattle.ks_commit.proofs.Gaining.{at_it, beside_it}
+use Rattle.ks_commit.specs.Sending.{IsLonger}
+use Rattle.ks_commit.specs.Committed.{Started}
+use Rattle.ks_commit.proofs.Gaining.{at_it}
 use Rattle.ks_commit.proofs.Free.{none_then, now_generation}
 use Rattle.ks_commit.proofs.Faith.{once_parts}
 use Rattle.ks_commit.proofs.Epochs.{of_past}
-use Rattle.ks_commit.proofs.Entries.{later_setup, longer_both, commits_both, produce_none-append, new_state, one_commits, one_quiet}
+use Rattle.ks_commit.proofs.Entries.{later_setup, longer_both, commits_both, new_state, one_commits}
 
 -- ---- all tasks at one worker
 has_inserted : (n : ℕ) (ms : List ℕ) → has_number n (insert_number n ms) ≡ true
@@ -114,7 +109,7 @@ init_idle s w idle v = by (v == w)
 -- ---- the three calls
 module _ {W : Type 0} (plan : W → Plan) (old first second new : Kept W) (w epoch generation : ℕ) (a : Assignment) (reply : Reply)
     (few : w ≤ 16) (idle : IsIdle (state_of plan old)) (net : IsNetwork (plan old.work)) (history : IsHistory (setup_of plan old) old.journal) (once : are_once old.tasks ≡ true) (all : a ≡ everything w old.tasks)
-    (init : Answers plan old first (Init w) (Number epoch)) (join : Answers plan first second (Join w) (Number generation)) (assign : Answers plan second new (Assign w generation a) reply) where
+    (init : Answers plan old first (Init w) (Number epoch)) (join : Answers plan first second (Join w) (Number generation)) (free : refusal (setup_of plan second) (state_of plan second) (Assign w generation a) ≡ None) (assign : Answers plan second new (Assign w generation a) reply) where
   one : state_of plan first ≡ effect (state_of plan old) (Init w)
   one = new_state plan old first (Init w) (Number epoch) init refl
 
@@ -133,16 +128,8 @@ module _ {W : Type 0} (plan : W → Plan) (old first second new : Kept W) (w epo
   tasks_same : (setup_of plan second).tasks ≡ old.tasks
   tasks_same = ap (λ (setup : Setup). setup.tasks) (later_setup plan first second (record { request = Join w; reply = Number generation } ∷ []) join.journal ∙ later_setup plan old first (record { request = Init w; reply = Number epoch } ∷ []) init.journal)
 
-  not_refused : refusal (setup_of plan second) (state_of plan second) (Assign w generation a) ≡ None
-  not_refused =
-      none_then (old_generation (state_of plan second) generation) (bad_assignment (setup_of plan second).tasks (state_of plan second).members a.active)
-      (now_generation (state_of plan second) generation (ap (λ (s : State). s.generation) two ∙ sym its_generation))
-      (ap₂ (λ (ts : List TaskId) (b : Assignment). bad_assignment ts (state_of plan second).members b.active) tasks_same all
-      ∙ ap (λ (s : State). bad_assignment old.tasks s.members (at_worker w old.tasks)) two
-      ∙ good_assignment w (insert_number w (state_of plan old).members) (has_inserted w (state_of plan old).members) old.tasks once)
-
   three : state_of plan new ≡ effect (effect (effect (state_of plan old) (Init w)) (Join w)) (Assign w generation (everything w old.tasks))
-  three = new_state plan second new (Assign w generation a) reply assign not_refused ∙ ap₂ (λ (s : State) (b : Assignment). effect s (Assign w generation b)) two all
+  three = new_state plan second new (Assign w generation a) reply assign free ∙ ap₂ (λ (s : State) (b : Assignment). effect s (Assign w generation b)) two all
 
   joined : IsLonger old second ((record { request = Init w; reply = Number epoch } ∷ []) ++ (record { request = Join w; reply = Number generation } ∷ []))
   joined = longer_both old first second (record { request = Init w; reply = Number epoch } ∷ []) (record { request = Join w; reply = Number generation } ∷ []) init.journal join.journal
@@ -157,7 +144,7 @@ module _ {W : Type 0} (plan : W → Plan) (old first second new : Kept W) (w epo
         ∙ ap₂ (λ x y. x ++ y)
         (commits_both plan old first (record { request = Init w; reply = Number epoch } ∷ []) (record { request = Join w; reply = Number generation } ∷ []) t init.journal
         ∙ ap₂ (λ x y. x ++ y) (one_commits plan old (Init w) (Number epoch) t refl) (one_commits plan first (Join w) (Number generation) t refl))
-        (one_commits plan second (Assign w generation a) reply t not_refused);
+        (one_commits plan second (Assign w generation a) reply t free);
     partition = ap (λ (s : State). s.partition) three;
     committed = ap (λ (s : State). s.committed) three;
   }
@@ -185,3 +172,18 @@ assign_meets plan old first second w epoch generation a few all init join =
       ap (λ (b : Assignment). are_places (setup_of plan second) b.standby) all,
       ap (λ (b : Assignment). are_places (setup_of plan second) b.warmup) all,
     )
+
+-- what the last call asks is granted
+pub assign_free : {W : Type 0} (plan : W → Plan) (old first second : Kept W) (w epoch generation : ℕ) (a : Assignment) → are_once old.tasks ≡ true → a ≡ everything w old.tasks → Answers plan old first (Init w) (Number epoch) → Answers plan first second (Join w) (Number generation)
+    → refusal (setup_of plan second) (state_of plan second) (Assign w generation a) ≡ None
+assign_free plan old first second w epoch generation a once all init join =
+    let one : state_of plan first ≡ effect (state_of plan old) (Init w) = new_state plan old first (Init w) (Number epoch) init refl in
+    let two : state_of plan second ≡ effect (effect (state_of plan old) (Init w)) (Join w) = new_state plan first second (Join w) (Number generation) join refl ∙ ap (λ (s : State). effect s (Join w)) one in
+    let same : (setup_of plan second).tasks ≡ old.tasks = ap (λ (setup : Setup). setup.tasks) (later_setup plan first second (record { request = Join w; reply = Number generation } ∷ []) join.journal ∙ later_setup plan old first (record { request = Init w; reply = Number epoch } ∷ []) init.journal) in
+    let e : Number generation ≡ Number ((state_of plan first).generation + 1) = join.step in
+    let its : generation ≡ (state_of plan first).generation + 1 = cc in
+    none_then (old_generation (state_of plan second) generation) (bad_assignment (setup_of plan second).tasks (state_of plan second).members a.active)
+    (now_generation (state_of plan second) generation (ap (λ (s : State). s.generation) (new_state plan first second (Join w) (Number generation) join refl) ∙ sym its))
+    (ap₂ (λ (ts : List TaskId) (b : Assignment). bad_assignment ts (state_of plan second).members b.active) same all
+    ∙ ap (λ (s : State). bad_assignment old.tasks s.members (at_worker w old.tasks)) two
+    ∙ good_assignment w (insert_number w (state_of plan old).members) (has_inserted w (state_of plan old).members) old.tasks once)

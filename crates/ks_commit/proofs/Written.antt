@@ -1,5 +1,5 @@
 -- One marker that is written, if one waits.
-use Rattle.std.proofs.Common.{◌≡◌, ℕ, ◌+◌, Bool, true, false, cond, List, [], ◌∷◌, ◌++◌, length, Option, Some, None, refl, sym, ap, subst, ◌∙◌, arith}
+use Rattle.std.proofs.Common.{◌≡◌, ℕ, ◌+◌, Bool, true, false, cond, List, [], ◌∷◌, length, Option, Some, None, refl, sym, ap, subst, ◌∙◌, arith}
 use Rattle.std.specs.Option.{is_some}
 use Rattle.ks_row.specs.declared.record.PartId.{PartId}
 use Rattle.ks_row.specs.declared.assignment.Marker.{Marker}
@@ -11,7 +11,7 @@ use Rattle.ks_history.specs.declared.transaction.Producer.{Producer}
 use Rattle.ks_history.specs.Machine.{Plan}
 use Rattle.ks_history.specs.State.{State, with_number, grown}
 use Rattle.ks_history.specs.Step.{effect, answer}
-use Rattle.ks_cluster.specs.Kept.{Kept, setup_of, state_of, Answers}
+use Rattle.ks_cluster.specs.Kept.{Kept, state_of, Answers}
 use Rattle.ks_commit.specs.Sending.{Marks, Marked}
 use Rattle.ks_commit.proofs.Gaining.{at_it}
 use Rattle.ks_commit.proofs.Marking.{mark_marks, marks_nothing}

@@ -4,11 +4,10 @@ use Rattle.ks_row.specs.declared.record.PartId.{PartId}
 use Rattle.ks_row.specs.declared.record.TaskId.{TaskId}
 use Rattle.ks_row.specs.Parts.{same_part}
 use Rattle.ks_history.specs.declared.journal.Entry.{Entry}
-use Rattle.ks_history.specs.declared.transaction.Producer.{Producer}
 use Rattle.ks_history.specs.Partition.{stable, count_sent}
 use Rattle.ks_history.specs.State.{State, Setup, new_producer, has_task}
 use Rattle.ks_history.specs.Step.{owner}
-use Rattle.ks_history.specs.History.{at, IsHistory}
+use Rattle.ks_history.specs.History.{at}
 use Rattle.ks_history.specs.Reads.{end_of}
 
 -- nothing is undecided, and no marker waits

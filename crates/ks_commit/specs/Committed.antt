@@ -1,17 +1,16 @@
 -- What a worker's commit of several tasks' work makes of a cluster (KIP-98, KIP-447).
-use Rattle.std.specs.Prelude.{◌≡◌, ℕ, ◌==◌, ◌≤◌, Bool, true, false, if◌then◌else◌, ◌||◌, Option, Some, None, List, [], ◌∷◌, ◌++◌, map}
+use Rattle.std.specs.Prelude.{◌≡◌, ℕ, ◌==◌, ◌≤◌, Bool, true, false, if◌then◌else◌, ◌||◌, Some, None, List, [], ◌∷◌}
 use Rattle.std.specs.List.{All}
 use Rattle.ks_row.specs.declared.record.Rec.{Rec}
 use Rattle.ks_row.specs.declared.record.PartId.{PartId}
 use Rattle.ks_row.specs.declared.record.TaskId.{TaskId}
-use Rattle.ks_row.specs.Parts.{same_part}
 use Rattle.ks_history.specs.declared.journal.Entry.{Entry}
 use Rattle.ks_history.specs.Machine.{Plan}
 use Rattle.ks_history.specs.State.{State, Setup, IsPart, has_task, are_once, pending_of, committed_with}
 use Rattle.ks_history.specs.Step.{owner}
 use Rattle.ks_history.specs.History.{are_offsets}
 use Rattle.ks_history.specs.Reads.{end_of}
-use Rattle.ks_follow.specs.Views.{WorkView, IsWork, names_part, pending_work, AreEnds}
+use Rattle.ks_follow.specs.Views.{WorkView, IsWork, names_part, AreEnds}
 use Rattle.ks_follow.specs.Commits.{commits_for, commit_by}
 use Rattle.ks_cluster.specs.Kept.{Kept, setup_of, state_of}
 use Rattle.ks_commit.specs.declared.work.Frozen.{Frozen}

@@ -1,5 +1,5 @@
 -- What a producer's requests add to a transaction that isn't decided yet (KIP-98).
-use Rattle.std.specs.Prelude.{◌≡◌, ℕ, ◌+◌, ◌==◌, ◌&&◌, ◌||◌, Bool, true, false, if◌then◌else◌, Option, Some, None, List, [], ◌∷◌, ◌++◌, length}
+use Rattle.std.specs.Prelude.{◌≡◌, ℕ, ◌+◌, ◌==◌, ◌&&◌, ◌||◌, Bool, true, false, if◌then◌else◌, Option, Some, List, [], ◌∷◌, ◌++◌, length}
 use Rattle.ks_row.specs.declared.record.Rec.{Rec}
 use Rattle.ks_row.specs.declared.record.PartId.{PartId}
 use Rattle.ks_row.specs.declared.record.TaskId.{TaskId}
@@ -13,7 +13,7 @@ use Rattle.ks_history.specs.declared.journal.Entry.{Entry}
 use Rattle.ks_history.specs.declared.transaction.Pending.{Pending}
 use Rattle.ks_history.specs.Partition.{recs, open_from, count_sent}
 use Rattle.ks_history.specs.Machine.{Plan}
-use Rattle.ks_history.specs.State.{State, Setup, has_part, has_task, pending_of}
+use Rattle.ks_history.specs.State.{State, has_part, has_task, pending_of}
 use Rattle.ks_history.specs.Step.{tx_of, pending_at, owner}
 use Rattle.ks_follow.specs.Views.{WorkView, pending_work}
 use Rattle.ks_follow.specs.Commits.{commits_for}

@@ -6,6 +6,7 @@ ghost use Rattle.ks_history.specs.State.{IsPart};
 ghost use Rattle.ks_cluster.specs.Kept.{setup_of, state_of};
 ghost use Rattle.ks_commit.specs.Committed.{works_of, IsReady, IsSame, EachMay, EachPlaced, AreApart, Committed, ends_in, ends_of_each};
 
+use crate::accepted::decide;
 use crate::markers::write_markers;
 use crate::publisher::Publisher;
 use crate::sending::send_all;
@@ -69,7 +70,7 @@ pub fn commit<W: Work>(
 {
     let _before = cluster.journal();
     send_all(alloc, cluster, publisher, works)?;
-    let _decided = cluster.decide(alloc, publisher.worker, publisher.epoch, true)?;
+    decide(alloc, cluster, publisher.worker, publisher.epoch)?;
     write_markers(alloc, cluster, publisher.worker)?;
     let _after = cluster.journal();
     all_ends(alloc, cluster, works)

@@ -1,6 +1,7 @@
 //! What one worker does to publish the work of several tasks in one transaction (KIP-98, KIP-447).
 #![tactic(auto)]
 
+mod accepted;
 mod committing;
 pub mod laws;
 mod markers;

@@ -7,6 +7,7 @@ ghost use Rattle.ks_commit.specs.Alone.{IsIdle};
 ghost use Rattle.ks_commit.specs.Committed.{IsReady, Started};
 ghost use Rattle.ks_commit.specs.Everything.{everything};
 
+use crate::accepted::assign;
 use ks_cluster::{Cluster, Work};
 use ks_row::{Assignment, PartId, Seq, TaskId};
 use std::alloc::{AllocError, Global};
@@ -56,7 +57,7 @@ impl Publisher {
         let epoch = cluster.init(alloc, worker)?;
         let generation = cluster.join(alloc, worker)?;
         let all = all_active(alloc, worker, tasks)?;
-        let _assigned = cluster.assign(alloc, worker, generation, &all)?;
+        assign(alloc, cluster, worker, generation, &all)?;
         Ok(Publisher {
             worker,
             epoch,

@@ -8,6 +8,7 @@ ghost use Rattle.ks_commit.specs.Work.{work_view};
 ghost use Rattle.ks_commit.specs.Sending.{Sends, adds_in, puts_in, adds_of, puts_of, pendings_of};
 ghost use Rattle.ks_commit.specs.Committed.{IsSending, IsSame, IsOfCluster, EachOf, works_of};
 
+use crate::accepted::{add, append, send_offsets};
 use crate::numbers::{number, renumbered};
 use crate::publisher::Publisher;
 use crate::work::Frozen;
@@ -33,8 +34,8 @@ fn put<W: Work>(
 {
     let (worker, epoch) = (publisher.worker, publisher.epoch);
     let before = number(publisher.numbers.as_slice(), part);
-    let _added = cluster.add(alloc, worker, epoch, part)?;
-    let _offset = cluster.append(alloc, worker, epoch, before, task, part, recs)?;
+    add(alloc, cluster, worker, epoch, part)?;
+    append(alloc, cluster, worker, epoch, before, task, part, recs)?;
     let ends = cluster.ends(alloc, &[part])?;
     // The new number fits, since it is at most the partition's end.
     let _end = ends[0];
@@ -85,8 +86,9 @@ fn send<W: Work>(
         work.task,
         work.outputs.as_slice(),
     )?;
-    let _sent = cluster.send_offsets(
+    send_offsets(
         alloc,
+        cluster,
         publisher.worker,
         publisher.epoch,
         publisher.generation,

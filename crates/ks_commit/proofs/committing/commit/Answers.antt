@@ -1,4 +1,4 @@
-use Rattle.std.proofs.Common.{◌≡◌, ◌≢◌, ℕ, List, [], ◌∷◌, refl, sym, ap, ◌∙◌, subst}
+use Rattle.std.proofs.Common.{◌≡◌, ◌≢◌, List, [], ◌∷◌, refl, sym, ◌∙◌, subst}
 use Rattle.std.specs.Prelude.{Result, Ok, Err, IfOk, OnOk}
 use Rattle.ks_history.specs.State.{Setup}
 use Rattle.ks_cluster.specs.Kept.{setup_of, state_of}
@@ -6,7 +6,7 @@ use Rattle.ks_cluster.proofs.Entries.{answered_setup}
 use Rattle.ks_commit.specs.declared.work.Frozen.{Frozen}
 use Rattle.ks_commit.specs.Committed.{works_of, EachPlaced}
 use Rattle.ks_commit.proofs.Entries.{later_setup}
-use Rattle.ks_commit.proofs.Finish.{each_of, each_placed, commits_faithfully, now_ready, all_committed}
+use Rattle.ks_commit.proofs.Finish.{each_of, each_placed, commits_faithfully, decide_free, now_ready, all_committed}
 use Rattle.ks_commit.proofs.committing.commit.Goals as goal
 
 some_works : (works : List Frozen) → works ≢ [] → works_of works ≢ []
@@ -29,14 +29,19 @@ decide-requires-clause-faithful g c =
     commits_faithfully g.W.Work.plan c.args.cluster.now c.send_all.new.cluster c.args.publisher.now c.send_all.new.publisher (works_of c.args.works.now) c.requires.network c.journal-before.ensures.history c.requires.ready c.requires.apart c.requires.works
     c.in_ok-send_all.ensures.same c.in_ok-send_all.ensures.sends
 
+pub decide-requires-clause-free : goal.decide-requires-clause-free
+decide-requires-clause-free g c =
+    decide_free g.W.Work.plan c.args.cluster.now c.send_all.new.cluster c.args.publisher.now c.send_all.new.publisher (works_of c.args.works.now) c.requires.network c.journal-before.ensures.history c.requires.ready c.requires.apart c.requires.works
+    c.in_ok-send_all.ensures.same c.in_ok-send_all.ensures.sends (some_works c.args.works.now c.requires.some) c.in_ok-send_all.ensures.sending
+
 pub all_ends-requires : goal.all_ends-requires
 all_ends-requires g c =
     let plan = g.W.Work.plan in
     let marked = c.in_ok-write_markers.ensures.marked in
     let sends = c.in_ok-send_all.ensures.sends in
     let same : setup_of plan c.write_markers.new.cluster ≡ setup_of plan c.args.cluster.now =
-    later_setup plan c.decide.new.self c.write_markers.new.cluster marked.more marked.is
-    ∙ answered_setup plan c.send_all.new.cluster c.decide.new.self _ _ c.in_ok-_decided.ensures.ok
+    later_setup plan c.decide.new.cluster c.write_markers.new.cluster marked.more marked.is
+    ∙ answered_setup plan c.send_all.new.cluster c.decide.new.cluster _ _ c.in_ok-decide.ensures
     ∙ later_setup plan c.args.cluster.now c.send_all.new.cluster sends.more sends.is in
     subst (λ (setup : Setup). EachPlaced setup (works_of c.args.works.now)) (sym same)
     (each_placed (setup_of plan c.args.cluster.now) (state_of plan c.args.cluster.now) (works_of c.args.works.now) c.requires.works)
@@ -45,7 +50,8 @@ pub returns-clause-committed : goal.returns-clause-committed
 returns-clause-committed g c =
     if_ok _ _ c.all_ends.result
     (λ ends is. all_committed g.W.Work.plan c.args.cluster.now c.send_all.new.cluster c.args.publisher.now c.send_all.new.publisher (works_of c.args.works.now) c.requires.network c.journal-before.ensures.history c.requires.ready c.requires.apart c.requires.works
-    c.in_ok-send_all.ensures.same c.in_ok-send_all.ensures.sends c.decide.new.self c.write_markers.new.cluster _ (some_works c.args.works.now c.requires.some) c.in_ok-send_all.ensures.sending c.in_ok-_decided.ensures.ok c.in_ok-write_markers.ensures.marked
+    c.in_ok-send_all.ensures.same c.in_ok-send_all.ensures.sends c.decide.new.cluster c.write_markers.new.cluster _ (some_works c.args.works.now c.requires.some) c.in_ok-send_all.ensures.sending (decide_free g.W.Work.plan c.args.cluster.now c.send_all.new.cluster c.args.publisher.now c.send_all.new.publisher (works_of c.args.works.now) c.requires.network c.journal-before.ensures.history c.requires.ready c.requires.apart c.requires.works
+    c.in_ok-send_all.ensures.same c.in_ok-send_all.ensures.sends (some_works c.args.works.now c.requires.some) c.in_ok-send_all.ensures.sending) c.in_ok-decide.ensures c.in_ok-write_markers.ensures.marked
     c.in_ok-write_markers.ensures.done c.journal-after.ensures.history ends.items is)
     c.all_ends.ensures
 
@@ -53,5 +59,6 @@ pub returns-clause-ready : goal.returns-clause-ready
 returns-clause-ready g c =
     always_ok c.all_ends.result
     (now_ready g.W.Work.plan c.args.cluster.now c.send_all.new.cluster c.args.publisher.now c.send_all.new.publisher (works_of c.args.works.now) c.requires.network c.journal-before.ensures.history c.requires.ready c.requires.apart c.requires.works
-    c.in_ok-send_all.ensures.same c.in_ok-send_all.ensures.sends c.decide.new.self c.write_markers.new.cluster _ (some_works c.args.works.now c.requires.some) c.in_ok-send_all.ensures.sending c.in_ok-_decided.ensures.ok c.in_ok-write_markers.ensures.marked
+    c.in_ok-send_all.ensures.same c.in_ok-send_all.ensures.sends c.decide.new.cluster c.write_markers.new.cluster _ (some_works c.args.works.now c.requires.some) c.in_ok-send_all.ensures.sending (decide_free g.W.Work.plan c.args.cluster.now c.send_all.new.cluster c.args.publisher.now c.send_all.new.publisher (works_of c.args.works.now) c.requires.network c.journal-before.ensures.history c.requires.ready c.requires.apart c.requires.works
+    c.in_ok-send_all.ensures.same c.in_ok-send_all.ensures.sends (some_works c.args.works.now c.requires.some) c.in_ok-send_all.ensures.sending) c.in_ok-decide.ensures c.in_ok-write_markers.ensures.marked
     c.in_ok-write_markers.ensures.done c.journal-after.ensures.history)

@@ -1,4 +1,4 @@
-use Rattle.std.proofs.Common.{ℕ, List, [], ◌∷◌, refl, sym, ap, ◌∙◌, subst}
+use Rattle.std.proofs.Common.{ℕ, List, [], ◌∷◌, refl, ◌∙◌, subst}
 use Rattle.ks_row.specs.declared.record.Rec.{Rec}
 use Rattle.ks_commit.specs.Sending.{Sends}
 use Rattle.ks_commit.proofs.Entries.{sends_nothing}

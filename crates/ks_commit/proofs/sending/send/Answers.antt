@@ -1,22 +1,30 @@
-use Rattle.std.proofs.Common.{◌≡◌, true, ℕ, List, [], ◌∷◌, refl, sym, ap, ap₂, ◌∙◌, subst}
+use Rattle.std.proofs.Common.{◌≡◌, ℕ, List, [], ◌∷◌, refl, ap, ap₂, ◌∙◌, subst}
 use Rattle.ks_row.specs.declared.record.Rec.{Rec}
 use Rattle.ks_row.specs.declared.record.PartId.{PartId}
 use Rattle.ks_history.specs.declared.transaction.Pending.{Pending}
+use Rattle.ks_history.specs.declared.journal.Reply.TheVariants.{Done}
 use Rattle.ks_history.specs.History.{are_offsets}
 use Rattle.ks_cluster.specs.Kept.{setup_of, state_of}
 use Rattle.ks_follow.specs.Views.{pending_work}
 use Rattle.ks_commit.specs.Work.{work_view}
 use Rattle.ks_commit.specs.Sending.{Sends, adds_in, puts_in}
 use Rattle.ks_commit.specs.Committed.{IsOfCluster}
-use Rattle.ks_commit.proofs.Puts.{of_cluster_later, offsets_sends, work_sends, sending_more, numbers_stay}
+use Rattle.ks_commit.proofs.Puts.{of_cluster_later, offsets_free, offsets_sends, work_sends, sending_more, numbers_stay}
 use Rattle.ks_commit.proofs.sending.send.Goals as goal
 
-pub send_offsets-requires : goal.send_offsets-requires
-send_offsets-requires g c =
+pub send_offsets-requires-clause-meets : goal.send_offsets-requires-clause-meets
+send_offsets-requires-clause-meets g c =
     let f = work_view c.args.work.now in
     let later : IsOfCluster (setup_of g.W.Work.plan c.put_all.new.cluster) (state_of g.W.Work.plan c.put_all.new.cluster) f =
     of_cluster_later g.W.Work.plan c.args.cluster.now c.put_all.new.cluster c.args.publisher.now.worker _ _ _ f c.in_ok-put_all.ensures.sends c.requires.work in
     (c.in_ok-put_all.ensures.sending.worker, later.task, ap (are_offsets (setup_of g.W.Work.plan c.put_all.new.cluster) (state_of g.W.Work.plan c.put_all.new.cluster) c.args.work.now.task) c.as_slice-2.ensures ∙ later.offsets)
+
+pub send_offsets-requires-clause-free : goal.send_offsets-requires-clause-free
+send_offsets-requires-clause-free g c =
+    let f = work_view c.args.work.now in
+    let later : IsOfCluster (setup_of g.W.Work.plan c.put_all.new.cluster) (state_of g.W.Work.plan c.put_all.new.cluster) f =
+    of_cluster_later g.W.Work.plan c.args.cluster.now c.put_all.new.cluster c.args.publisher.now.worker _ _ _ f c.in_ok-put_all.ensures.sends c.requires.work in
+    offsets_free g.W.Work.plan c.put_all.new.cluster c.put_all.new.cluster c.put_all.new.publisher c.in_ok-put_all.ensures.sending c.args.work.now.task c.as_slice-2.result.now c.as_slice-3.result.now c.args.work.now.late later.task
 
 pub returns-clause-sends : goal.returns-clause-sends
 returns-clause-sends g c =
@@ -24,9 +32,9 @@ returns-clause-sends g c =
     let f = work_view c.args.work.now in
     let p = c.put_all.new.publisher in
     let mid = c.put_all.new.cluster in
-    let new = c.send_offsets.new.self in
+    let new = c.send_offsets.new.cluster in
     let later : IsOfCluster (setup_of plan mid) (state_of plan mid) f = of_cluster_later plan c.args.cluster.now mid c.args.publisher.now.worker _ _ _ f c.in_ok-put_all.ensures.sends c.requires.work in
-    let tail = offsets_sends plan mid new p c.in_ok-put_all.ensures.sending c.args.work.now.task c.as_slice-2.result.now c.as_slice-3.result.now c.args.work.now.late _ later.task c.in_ok-_sent.ensures.ok in
+    let tail = offsets_sends plan mid new p c.in_ok-put_all.ensures.sending c.args.work.now.task c.as_slice-2.result.now c.as_slice-3.result.now c.args.work.now.late Done later.task c.in_ok-send_offsets.ensures in
     let same : record { task = c.args.work.now.task; offsets = c.as_slice-2.result.now; order = c.as_slice-3.result.now; late = c.args.work.now.late } ≡ pending_work f =
     ap₂ {C = Pending} (λ (a b : List (ℕ × ℕ)). record { task = c.args.work.now.task; offsets = a; order = b; late = c.args.work.now.late }) c.as_slice-2.ensures c.as_slice-3.ensures in
     work_sends plan c.args.cluster.now mid new c.args.publisher.now.worker c.args.work.now.task c.args.work.now.outputs (pending_work f)
@@ -40,7 +48,7 @@ returns-clause-sending g c =
     let f = work_view c.args.work.now in
     let p = c.put_all.new.publisher in
     let mid = c.put_all.new.cluster in
-    let new = c.send_offsets.new.self in
+    let new = c.send_offsets.new.cluster in
     let later : IsOfCluster (setup_of plan mid) (state_of plan mid) f = of_cluster_later plan c.args.cluster.now mid c.args.publisher.now.worker _ _ _ f c.in_ok-put_all.ensures.sends c.requires.work in
-    let tail = offsets_sends plan mid new p c.in_ok-put_all.ensures.sending c.args.work.now.task c.as_slice-2.result.now c.as_slice-3.result.now c.args.work.now.late _ later.task c.in_ok-_sent.ensures.ok in
+    let tail = offsets_sends plan mid new p c.in_ok-put_all.ensures.sending c.args.work.now.task c.as_slice-2.result.now c.as_slice-3.result.now c.args.work.now.late Done later.task c.in_ok-send_offsets.ensures in
     sending_more plan mid new p c.in_ok-put_all.ensures.sending [] [] _ tail p refl refl refl (numbers_stay plan mid new p c.in_ok-put_all.ensures.sending [] _ tail)

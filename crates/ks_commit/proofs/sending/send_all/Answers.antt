@@ -1,4 +1,4 @@
-use Rattle.std.proofs.Common.{ℕ, List, [], ◌∷◌, refl, sym, ap, ◌∙◌, subst}
+use Rattle.std.proofs.Common.{ℕ, [], ◌∷◌, refl, ◌∙◌, subst}
 use Rattle.ks_cluster.specs.Kept.{setup_of, state_of}
 use Rattle.ks_follow.specs.Views.{pending_work}
 use Rattle.ks_commit.specs.Work.{work_view}
