@@ -5,3 +5,4 @@ pub mod Stepping
 pub mod Building
 pub mod Subs
 pub mod Viewing
+pub mod Counting

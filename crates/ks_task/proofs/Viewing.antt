@@ -108,7 +108,7 @@ stores_ended : (ends : List (ℕ × ℕ)) (ls : List Log) (n : ℕ) → stores_i
 stores_ended ends [] n = refl
 stores_ended ends (l ∷ ls) n = ap (λ (s : Store). if n == l.number then l.store else s) (stores_ended ends ls n)
 
-own_offset : (ns : List ℕ) (topic old : ℕ) (ends : List (ℕ × ℕ)) → offset_in old topic (own_ends ns ends) ≡ cond (has_topic topic ns) (offset_in old topic ends) old
+pub own_offset : (ns : List ℕ) (topic old : ℕ) (ends : List (ℕ × ℕ)) → offset_in old topic (own_ends ns ends) ≡ cond (has_topic topic ns) (offset_in old topic ends) old
 own_offset ns topic old [] = sym (both (has_topic topic ns) old)
 own_offset ns topic old (e ∷ es) =
     let more = own_offset ns topic old es in

@@ -10,5 +10,7 @@ mod program;
 mod step;
 mod task;
 mod values;
+mod work;
 
 pub use task::Task;
+pub use work::{TaskWork, ends_of_others};
