@@ -1,5 +1,5 @@
 //! Requests that aren't refused.
-ghost use Rattle.std.specs.Prelude.{◌≡◌, true, None, OnOk, IfOk};
+ghost use Rattle.std.specs.Prelude.{◌≡◌, true, None, OnOk, IfOk, OnErr};
 ghost use Rattle.ks_history.specs.declared.journal.Request.TheVariants.{Add, Append, SendOffsets, Decide, Assign};
 ghost use Rattle.ks_history.specs.declared.journal.Reply.TheVariants.{Done, Number, Truth};
 ghost use Rattle.ks_history.specs.Step.{refusal};
@@ -20,7 +20,8 @@ pub fn add<W: Work>(
 ) -> Result<(), AllocError>
     requires meets { Meets (setup_of W.plan cluster.old) (state_of W.plan cluster.old) (Add w epoch part) }
     requires free { refusal (setup_of W.plan cluster.old) (state_of W.plan cluster.old) (Add w epoch part) ≡ None }
-    ensures { OnOk result (Answers W.plan cluster.old cluster.new (Add w epoch part) Done) }
+    ensures ok { OnOk result (Answers W.plan cluster.old cluster.new (Add w epoch part) Done) }
+    ensures err { OnErr result (cluster.new ≡ cluster.old) }
 {
     match cluster.add(alloc, w, epoch, part)? {
         Ok(()) => Ok(()),
@@ -41,7 +42,8 @@ pub fn append<W: Work>(
 ) -> Result<u64, AllocError>
     requires meets { Meets (setup_of W.plan cluster.old) (state_of W.plan cluster.old) (Append w epoch number task part recs.now) }
     requires free { refusal (setup_of W.plan cluster.old) (state_of W.plan cluster.old) (Append w epoch number task part recs.now) ≡ None }
-    ensures { IfOk result (λ n. Answers W.plan cluster.old cluster.new (Append w epoch number task part recs.now) (Number n)) }
+    ensures ok { IfOk result (λ n. Answers W.plan cluster.old cluster.new (Append w epoch number task part recs.now) (Number n)) }
+    ensures err { OnErr result (cluster.new ≡ cluster.old) }
 {
     match cluster.append(alloc, w, epoch, number, task, part, recs)? {
         Ok(offset) => Ok(offset),
@@ -63,7 +65,8 @@ pub fn send_offsets<W: Work>(
 ) -> Result<(), AllocError>
     requires meets { Meets (setup_of W.plan cluster.old) (state_of W.plan cluster.old) (SendOffsets w epoch generation task offsets.now order.now late) }
     requires free { refusal (setup_of W.plan cluster.old) (state_of W.plan cluster.old) (SendOffsets w epoch generation task offsets.now order.now late) ≡ None }
-    ensures { OnOk result (Answers W.plan cluster.old cluster.new (SendOffsets w epoch generation task offsets.now order.now late) Done) }
+    ensures ok { OnOk result (Answers W.plan cluster.old cluster.new (SendOffsets w epoch generation task offsets.now order.now late) Done) }
+    ensures err { OnErr result (cluster.new ≡ cluster.old) }
 {
     match cluster.send_offsets(alloc, w, epoch, generation, task, offsets, order, late)? {
         Ok(()) => Ok(()),
@@ -81,7 +84,8 @@ pub fn decide<W: Work>(
     requires meets { Meets (setup_of W.plan cluster.old) (state_of W.plan cluster.old) (Decide w epoch true) }
     requires faithful { CommitsFaithfully (setup_of W.plan cluster.old) (state_of W.plan cluster.old) (Decide w epoch true) }
     requires free { refusal (setup_of W.plan cluster.old) (state_of W.plan cluster.old) (Decide w epoch true) ≡ None }
-    ensures { OnOk result (Answers W.plan cluster.old cluster.new (Decide w epoch true) Done) }
+    ensures ok { OnOk result (Answers W.plan cluster.old cluster.new (Decide w epoch true) Done) }
+    ensures err { OnErr result (cluster.new ≡ cluster.old) }
 {
     match cluster.decide(alloc, w, epoch, true)? {
         Ok(()) => Ok(()),
@@ -99,7 +103,8 @@ pub fn assign<W: Work>(
 ) -> Result<bool, AllocError>
     requires meets { Meets (setup_of W.plan cluster.old) (state_of W.plan cluster.old) (Assign w generation a.now) }
     requires free { refusal (setup_of W.plan cluster.old) (state_of W.plan cluster.old) (Assign w generation a.now) ≡ None }
-    ensures { IfOk result (λ b. Answers W.plan cluster.old cluster.new (Assign w generation a.now) (Truth b)) }
+    ensures ok { IfOk result (λ b. Answers W.plan cluster.old cluster.new (Assign w generation a.now) (Truth b)) }
+    ensures err { OnErr result (cluster.new ≡ cluster.old) }
 {
     match cluster.assign(alloc, w, generation, a)? {
         Ok(first) => Ok(first),

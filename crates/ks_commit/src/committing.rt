@@ -1,9 +1,10 @@
 //! A transaction with the work of several tasks.
-ghost use Rattle.std.specs.Prelude.{◌≡◌, ◌≢◌, ℕ, [], OnOk, IfOk};
+ghost use Rattle.std.specs.Prelude.{◌≡◌, ◌≢◌, ℕ, [], OnOk, IfOk, OnErr};
 ghost use Rattle.std.specs.List.{All};
 ghost use Rattle.ks_history.specs.Machine.{IsNetwork};
 ghost use Rattle.ks_history.specs.State.{IsPart};
 ghost use Rattle.ks_cluster.specs.Kept.{setup_of, state_of};
+ghost use Rattle.ks_commit.specs.Sending.{Longer};
 ghost use Rattle.ks_commit.specs.Committed.{works_of, IsReady, IsSame, EachMay, EachPlaced, AreApart, Committed, ends_in, ends_of_each};
 
 use crate::accepted::decide;
@@ -67,6 +68,7 @@ pub fn commit<W: Work>(
     ensures committed { IfOk result (λ ends. Committed W.plan cluster.old cluster.new publisher.old.worker (works_of works.now) ends.items) }
     ensures ready { OnOk result (IsReady (setup_of W.plan cluster.new) (state_of W.plan cluster.new) publisher.new) }
     ensures same { OnOk result (IsSame publisher.old publisher.new) }
+    ensures err { OnErr result (Longer cluster.old cluster.new) }
 {
     let _before = cluster.journal();
     send_all(alloc, cluster, publisher, works)?;

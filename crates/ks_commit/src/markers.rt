@@ -1,7 +1,7 @@
 //! The markers of a decided transaction.
-ghost use Rattle.std.specs.Prelude.{◌≡◌, ℕ, ◌≤◌, None, [], OnOk};
+ghost use Rattle.std.specs.Prelude.{◌≡◌, ℕ, ◌≤◌, None, [], OnOk, OnErr};
 ghost use Rattle.ks_cluster.specs.Kept.{state_of};
-ghost use Rattle.ks_commit.specs.Sending.{Marked};
+ghost use Rattle.ks_commit.specs.Sending.{Longer, Marked};
 
 use ks_cluster::{Cluster, Work};
 use std::alloc::{AllocError, Global};
@@ -15,6 +15,7 @@ pub fn write_markers<W: Work>(
     requires { worker ≤ 16 }
     ensures marked { OnOk result (Marked W.plan cluster.old cluster.new worker) }
     ensures done { OnOk result (((state_of W.plan cluster.new).producer worker).waiting ≡ []) }
+    ensures err { OnErr result (Longer cluster.old cluster.new) }
 {
     let mut waits = true;
     while waits {

@@ -1,10 +1,11 @@
 //! A worker that publishes.
-ghost use Rattle.std.specs.Prelude.{◌≡◌, ℕ, ◌≤◌, true, IfOk};
+ghost use Rattle.std.specs.Prelude.{◌≡◌, ℕ, ◌≤◌, true, IfOk, OnErr};
 ghost use Rattle.ks_history.specs.Machine.{IsNetwork};
 ghost use Rattle.ks_history.specs.State.{are_once};
 ghost use Rattle.ks_cluster.specs.Kept.{setup_of, state_of};
 ghost use Rattle.ks_commit.specs.Alone.{IsIdle};
 ghost use Rattle.ks_commit.specs.Committed.{IsReady, Started};
+ghost use Rattle.ks_commit.specs.Sending.{Longer};
 ghost use Rattle.ks_commit.specs.Everything.{everything};
 
 use crate::accepted::assign;
@@ -52,6 +53,7 @@ impl Publisher {
         ensures ready { IfOk result (λ p. IsReady (setup_of W.plan cluster.new) (state_of W.plan cluster.new) p) }
         ensures worker { IfOk result (λ p. p.worker ≡ worker) }
         ensures started { IfOk result (λ p. Started W.plan cluster.old cluster.new) }
+        ensures err { OnErr result (Longer cluster.old cluster.new) }
     {
         let _journal = cluster.journal();
         let epoch = cluster.init(alloc, worker)?;

@@ -1,11 +1,11 @@
 //! The work of tasks, put into a transaction that isn't decided yet.
-ghost use Rattle.std.specs.Prelude.{◌≡◌, ℕ, true, List, [], ◌∷◌, OnOk};
+ghost use Rattle.std.specs.Prelude.{◌≡◌, ℕ, true, List, [], ◌∷◌, OnOk, OnErr};
 ghost use Rattle.std.specs.List.{All};
 ghost use Rattle.ks_history.specs.State.{IsPart, has_task};
 ghost use Rattle.ks_cluster.specs.Kept.{setup_of, state_of};
 ghost use Rattle.ks_follow.specs.Views.{pending_work};
 ghost use Rattle.ks_commit.specs.Work.{work_view};
-ghost use Rattle.ks_commit.specs.Sending.{Sends, adds_in, puts_in, adds_of, puts_of, pendings_of};
+ghost use Rattle.ks_commit.specs.Sending.{Longer, Sends, adds_in, puts_in, adds_of, puts_of, pendings_of};
 ghost use Rattle.ks_commit.specs.Committed.{IsSending, IsSame, IsOfCluster, EachOf, works_of};
 
 use crate::accepted::{add, append, send_offsets};
@@ -31,6 +31,7 @@ fn put<W: Work>(
     ensures sends { OnOk result (Sends W.plan cluster.old cluster.new publisher.old.worker (part ∷ []) ((task, part, recs.now) ∷ []) []) }
     ensures sending { OnOk result (IsSending (setup_of W.plan cluster.new) (state_of W.plan cluster.new) publisher.new) }
     ensures same { OnOk result (IsSame publisher.old publisher.new) }
+    ensures err { OnErr result (Longer cluster.old cluster.new) }
 {
     let (worker, epoch) = (publisher.worker, publisher.epoch);
     let before = number(publisher.numbers.as_slice(), part);
@@ -59,6 +60,7 @@ fn put_all<W: Work>(
     ensures sends { OnOk result (Sends W.plan cluster.old cluster.new publisher.old.worker (adds_in outputs.now) (puts_in task outputs.now) []) }
     ensures sending { OnOk result (IsSending (setup_of W.plan cluster.new) (state_of W.plan cluster.new) publisher.new) }
     ensures same { OnOk result (IsSame publisher.old publisher.new) }
+    ensures err { OnErr result (Longer cluster.old cluster.new) }
 {
     for out in outputs {
         put(alloc, cluster, publisher, task, out.0, out.1.as_slice())?;
@@ -78,6 +80,7 @@ fn send<W: Work>(
     ensures sends { OnOk result (Sends W.plan cluster.old cluster.new publisher.old.worker (adds_in work.now.outputs) (puts_in work.now.task work.now.outputs) (pending_work (work_view work.now) ∷ [])) }
     ensures sending { OnOk result (IsSending (setup_of W.plan cluster.new) (state_of W.plan cluster.new) publisher.new) }
     ensures same { OnOk result (IsSame publisher.old publisher.new) }
+    ensures err { OnErr result (Longer cluster.old cluster.new) }
 {
     put_all(
         alloc,
@@ -112,6 +115,7 @@ pub fn send_all<W: Work>(
     ensures sends { OnOk result (Sends W.plan cluster.old cluster.new publisher.old.worker (adds_of (works_of works.now)) (puts_of (works_of works.now)) (pendings_of (works_of works.now))) }
     ensures sending { OnOk result (IsSending (setup_of W.plan cluster.new) (state_of W.plan cluster.new) publisher.new) }
     ensures same { OnOk result (IsSame publisher.old publisher.new) }
+    ensures err { OnErr result (Longer cluster.old cluster.new) }
 {
     for work in works {
         send(alloc, cluster, publisher, work)?;

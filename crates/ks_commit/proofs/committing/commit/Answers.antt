@@ -41,7 +41,7 @@ all_ends-requires g c =
     let sends = c.in_ok-send_all.ensures.sends in
     let same : setup_of plan c.write_markers.new.cluster ≡ setup_of plan c.args.cluster.now =
     later_setup plan c.decide.new.cluster c.write_markers.new.cluster marked.more marked.is
-    ∙ answered_setup plan c.send_all.new.cluster c.decide.new.cluster _ _ c.in_ok-decide.ensures
+    ∙ answered_setup plan c.send_all.new.cluster c.decide.new.cluster _ _ c.in_ok-decide.ensures.ok
     ∙ later_setup plan c.args.cluster.now c.send_all.new.cluster sends.more sends.is in
     subst (λ (setup : Setup). EachPlaced setup (works_of c.args.works.now)) (sym same)
     (each_placed (setup_of plan c.args.cluster.now) (state_of plan c.args.cluster.now) (works_of c.args.works.now) c.requires.works)
@@ -51,7 +51,7 @@ returns-clause-committed g c =
     if_ok _ _ c.all_ends.result
     (λ ends is. all_committed g.W.Work.plan c.args.cluster.now c.send_all.new.cluster c.args.publisher.now c.send_all.new.publisher (works_of c.args.works.now) c.requires.network c.journal-before.ensures.history c.requires.ready c.requires.apart c.requires.works
     c.in_ok-send_all.ensures.same c.in_ok-send_all.ensures.sends c.decide.new.cluster c.write_markers.new.cluster _ (some_works c.args.works.now c.requires.some) c.in_ok-send_all.ensures.sending (decide_free g.W.Work.plan c.args.cluster.now c.send_all.new.cluster c.args.publisher.now c.send_all.new.publisher (works_of c.args.works.now) c.requires.network c.journal-before.ensures.history c.requires.ready c.requires.apart c.requires.works
-    c.in_ok-send_all.ensures.same c.in_ok-send_all.ensures.sends (some_works c.args.works.now c.requires.some) c.in_ok-send_all.ensures.sending) c.in_ok-decide.ensures c.in_ok-write_markers.ensures.marked
+    c.in_ok-send_all.ensures.same c.in_ok-send_all.ensures.sends (some_works c.args.works.now c.requires.some) c.in_ok-send_all.ensures.sending) c.in_ok-decide.ensures.ok c.in_ok-write_markers.ensures.marked
     c.in_ok-write_markers.ensures.done c.journal-after.ensures.history ends.items is)
     c.all_ends.ensures
 
@@ -60,5 +60,5 @@ returns-clause-ready g c =
     always_ok c.all_ends.result
     (now_ready g.W.Work.plan c.args.cluster.now c.send_all.new.cluster c.args.publisher.now c.send_all.new.publisher (works_of c.args.works.now) c.requires.network c.journal-before.ensures.history c.requires.ready c.requires.apart c.requires.works
     c.in_ok-send_all.ensures.same c.in_ok-send_all.ensures.sends c.decide.new.cluster c.write_markers.new.cluster _ (some_works c.args.works.now c.requires.some) c.in_ok-send_all.ensures.sending (decide_free g.W.Work.plan c.args.cluster.now c.send_all.new.cluster c.args.publisher.now c.send_all.new.publisher (works_of c.args.works.now) c.requires.network c.journal-before.ensures.history c.requires.ready c.requires.apart c.requires.works
-    c.in_ok-send_all.ensures.same c.in_ok-send_all.ensures.sends (some_works c.args.works.now c.requires.some) c.in_ok-send_all.ensures.sending) c.in_ok-decide.ensures c.in_ok-write_markers.ensures.marked
+    c.in_ok-send_all.ensures.same c.in_ok-send_all.ensures.sends (some_works c.args.works.now c.requires.some) c.in_ok-send_all.ensures.sending) c.in_ok-decide.ensures.ok c.in_ok-write_markers.ensures.marked
     c.in_ok-write_markers.ensures.done c.journal-after.ensures.history)

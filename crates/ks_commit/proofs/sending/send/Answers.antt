@@ -34,7 +34,7 @@ returns-clause-sends g c =
     let mid = c.put_all.new.cluster in
     let new = c.send_offsets.new.cluster in
     let later : IsOfCluster (setup_of plan mid) (state_of plan mid) f = of_cluster_later plan c.args.cluster.now mid c.args.publisher.now.worker _ _ _ f c.in_ok-put_all.ensures.sends c.requires.work in
-    let tail = offsets_sends plan mid new p c.in_ok-put_all.ensures.sending c.args.work.now.task c.as_slice-2.result.now c.as_slice-3.result.now c.args.work.now.late Done later.task c.in_ok-send_offsets.ensures in
+    let tail = offsets_sends plan mid new p c.in_ok-put_all.ensures.sending c.args.work.now.task c.as_slice-2.result.now c.as_slice-3.result.now c.args.work.now.late Done later.task c.in_ok-send_offsets.ensures.ok in
     let same : record { task = c.args.work.now.task; offsets = c.as_slice-2.result.now; order = c.as_slice-3.result.now; late = c.args.work.now.late } ≡ pending_work f =
     ap₂ {C = Pending} (λ (a b : List (ℕ × ℕ)). record { task = c.args.work.now.task; offsets = a; order = b; late = c.args.work.now.late }) c.as_slice-2.ensures c.as_slice-3.ensures in
     work_sends plan c.args.cluster.now mid new c.args.publisher.now.worker c.args.work.now.task c.args.work.now.outputs (pending_work f)
@@ -50,5 +50,5 @@ returns-clause-sending g c =
     let mid = c.put_all.new.cluster in
     let new = c.send_offsets.new.cluster in
     let later : IsOfCluster (setup_of plan mid) (state_of plan mid) f = of_cluster_later plan c.args.cluster.now mid c.args.publisher.now.worker _ _ _ f c.in_ok-put_all.ensures.sends c.requires.work in
-    let tail = offsets_sends plan mid new p c.in_ok-put_all.ensures.sending c.args.work.now.task c.as_slice-2.result.now c.as_slice-3.result.now c.args.work.now.late Done later.task c.in_ok-send_offsets.ensures in
+    let tail = offsets_sends plan mid new p c.in_ok-put_all.ensures.sending c.args.work.now.task c.as_slice-2.result.now c.as_slice-3.result.now c.args.work.now.late Done later.task c.in_ok-send_offsets.ensures.ok in
     sending_more plan mid new p c.in_ok-put_all.ensures.sending [] [] _ tail p refl refl refl (numbers_stay plan mid new p c.in_ok-put_all.ensures.sending [] _ tail)
