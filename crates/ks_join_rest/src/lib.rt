@@ -1,0 +1,4 @@
+//! Quiescence of joins on a foreign key, and of all tables of a topology.
+//!
+//! Laws alone: each public function has an empty body, and its contract is the law.
+#![tactic(auto)]
