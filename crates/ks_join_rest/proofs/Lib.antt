@@ -1,1 +1,4 @@
 pub mod Waits
+pub mod Quiet
+pub mod Parts
+pub mod Steps

@@ -37,7 +37,7 @@ answers r = record { hash = r.hash; row = r.right }
 -- the subscriptions of the foreign key b and the left key k among these messages
 abbrev pub asked_by : Key → Key → List Message → List Subscription
 asked_by b k [] = []
-asked_by b k (Asked c q s ∷ ms) = cond (same_bytes b c && same_bytes k q) (asks s ∷ asked_by b k ms) (asked_by b k ms)
+asked_by b k (Asked c q s ∷ ms) = cond (same_bytes c b && same_bytes k q) (asks s ∷ asked_by b k ms) (asked_by b k ms)
 asked_by b k (m ∷ ms) = asked_by b k ms
 
 -- the responses to the left key k
