@@ -6,19 +6,25 @@ use Rattle.std.specs.Cmp.Lexicographic.{nat_list_cmp_total}
 use Rattle.ks_row.specs.declared.record.TaskId.{TaskId}
 use Rattle.ks_row.specs.Parts.{same_task}
 use Rattle.ks_expr.specs.Eval.{Row, same_bytes}
+use Rattle.std.proofs.lemmas.Bool.{and_parts}
+use Rattle.ks_topo.specs.declared.node.Topic.{Topic}
+use Rattle.ks_topo.specs.declared.node.Topic.TheVariants.{Subscriptions}
+use Rattle.ks_topo.specs.Layout.{same_topic}
 use Rattle.ks_topo.specs.Plan.{Plan}
 use Rattle.ks_map.specs.FinMap as fin
 use Rattle.ks_map.specs.FinMap.{FinMap}
 use Rattle.ks_map.specs.Bytes.{by_bytes}
 use Rattle.ks_map.proofs.Tables.{get-write}
 use Rattle.ks_query.specs.Streams.{Key, StreamItem}
-use Rattle.ks_network.specs.Run.{Machine, RunState, take_first}
+use Rattle.ks_network.specs.Run.{same_channel, sent_to, take_first}
 use Rattle.ks_machine.specs.Messages.{Place, Stored, shown, Message, Item, Store, Rules, same_row, same_option}
-use Rattle.ks_machine.specs.Step.{Arrival, Values, row_in, changed, step_key, items_from, olds_at, news_at, values_from, tables_after}
-use Rattle.ks_machine.specs.Tasks.{machine, step}
-use Rattle.ks_machine.proofs.Names.{same_task-is}
+use Rattle.ks_machine.specs.Step.{Arrival, Values, row_in, changed, step_key, items_from, olds_at, news_at, values_from, tables_after, whole_step, subscribe_at, hashes_after}
+use Rattle.ks_machine.specs.Tasks.{machine, step, is_changelog}
+use Rattle.ks_machine.proofs.Names.{same_task-is, same_place-is, topic_itself}
 use Rattle.ks_machine.proofs.Same.{row-is, option-is}
 use Rattle.ks_rest.specs.States.{State, row_at}
+use Rattle.ks_rest.specs.Taken.{messages}
+use Rattle.ks_rest.proofs.Mixed.{messages-append, picked, made_is}
 use Rattle.ks_rest.proofs.OneKey.{keys_decided}
 
 of_not : (b : Bool) → not b ≡ false → b ≡ true
@@ -96,3 +102,45 @@ module _ (rules : Rules) (p : Plan) (st : State) (s : Option TaskId) (q : Place)
   pub row_then : (c : Key) → step_key x.message ≡ Some c → (u : TaskId) (n : ℕ) (k : Key) → (changed (olds c) (news c) n ≡ true → same_bytes k c ≡ true → u ≡ taker_of) →
       row_at next u n k ≡ cond (changed (olds c) (news c) n && same_bytes k c) (row_in (news c) n) (row_at st u n k)
   row_then c is u n k own = value_then c is u n k (option_map shown) (changed (olds c) (news c) n) own (λ e. unchanged (olds c) (news c) n e)
+
+  -- what waits of a task at a partition, as a view sees it that goes through lists
+  pub list_then : {A : Type 0} (view : List Message → List A) → ((xs ys : List Message) → view (xs ++ ys) ≡ view xs ++ view ys) → view [] ≡ [] → (u : TaskId) (at : Place) → is_changelog at.topic ≡ false →
+      view (messages (next.waiting (Some u) at))
+      ≡ view (messages (cond (same_channel (machine rules p) (Some u) at s q) rest (st.waiting (Some u) at))) ++ cond (same_task u taker_of) (view (picked rules p at (whole_step rules p now arr).sends)) []
+  list_then view view-append none u at list =
+      let m = machine rules p in
+      let before = cond (same_channel m (Some u) at s q) rest (st.waiting (Some u) at) in
+      ap view (messages-append before (cond (same_task u taker_of) (sent_to m at (step rules p taker_of now q x).made) []))
+      ∙ view-append (messages before) (messages (cond (same_task u taker_of) (sent_to m at (step rules p taker_of now q x).made) []))
+      ∙ ap (λ l. view (messages before) ++ l) (elim (same_task u taker_of) as (λ b. view (messages (cond b (sent_to m at (step rules p taker_of now q x).made) [])) ≡ cond b (view (picked rules p at (whole_step rules p now arr).sends)) []) [
+        | true ↦ ap view (made_is rules p taker_of now q at x list)
+        | false ↦ none
+      ])
+
+  -- a list of another topic than the record's
+  pub other_channel : (u : Option TaskId) (to : Topic) (j : ℕ) → same_topic q.topic to ≡ false → same_channel (machine rules p) u (record { topic = to; part = j }) s q ≡ false
+  other_channel u to j other = elim (same_channel (machine rules p) u (record { topic = to; part = j }) s q) as (λ b. same_channel (machine rules p) u (record { topic = to; part = j }) s q ≡ b → b ≡ false) [
+    | true ↦ λ b.
+        let is : record { topic = to; part = j } ≡ q = (same_place-is (record { topic = to; part = j }) q).0 (and_parts _ _ b).1 in
+        let yes : same_topic q.topic to ≡ true = sym (ap (λ (v : Place). same_topic v.topic to) is) ∙ topic_itself to in
+        sym yes ∙ other
+    | false ↦ λ b. refl
+  ] refl
+
+  pub list_grows : {A : Type 0} (view : List Message → List A) → ((xs ys : List Message) → view (xs ++ ys) ≡ view xs ++ view ys) → view [] ≡ [] → (u : TaskId) (to : Topic) (j : ℕ) → is_changelog to ≡ false → same_topic q.topic to ≡ false →
+      view (messages (next.waiting (Some u) (record { topic = to; part = j })))
+      ≡ view (messages (st.waiting (Some u) (record { topic = to; part = j }))) ++ cond (same_task u taker_of) (view (picked rules p (record { topic = to; part = j }) (whole_step rules p now arr).sends)) []
+  list_grows view view-append none u to j list other = list_then view view-append none u (record { topic = to; part = j }) list
+      ∙ ap (λ b. view (messages (cond b rest (st.waiting (Some u) (record { topic = to; part = j })))) ++ cond (same_task u taker_of) (view (picked rules p (record { topic = to; part = j }) (whole_step rules p now arr).sends)) []) (other_channel (Some u) to j other)
+
+  -- the hashes of a task
+  pub hash_then : (u : TaskId) (n : ℕ) (b k : Key) → fin.get ((next.stores u).hashes n b) k ≡ cond (same_task u taker_of) (fin.get (hashes_after arr now n b) k) (fin.get ((st.stores u).hashes n b) k)
+  hash_then u n b k = elim (same_task u taker_of) as (λ t. fin.get ((cond t (step rules p taker_of now q x).store (st.stores u)).hashes n b) k ≡ cond t (fin.get (hashes_after arr now n b) k) (fin.get ((st.stores u).hashes n b) k)) [ true ↦ refl | false ↦ refl ]
+
+  pub hash_kept : (n : ℕ) → same_topic q.topic (Subscriptions n) ≡ false → (u : TaskId) (b k : Key) → fin.get ((next.stores u).hashes n b) k ≡ fin.get ((st.stores u).hashes n b) k
+  hash_kept n other u b k = hash_then u n b k
+      ∙ ap (λ t. cond (same_task u taker_of) (fin.get (subscribe_at (cond t (Some x.message) None) (now.hashes n) b) k) (fin.get ((st.stores u).hashes n b) k)) other
+      ∙ elim (same_task u taker_of) as (λ t. same_task u taker_of ≡ t → cond t (fin.get (now.hashes n b) k) (fin.get ((st.stores u).hashes n b) k) ≡ fin.get ((st.stores u).hashes n b) k) [
+        | true ↦ λ t. ap (λ v. fin.get ((st.stores v).hashes n b) k) (sym ((same_task-is u taker_of).0 t))
+        | false ↦ λ t. refl
+      ] refl
