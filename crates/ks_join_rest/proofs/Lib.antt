@@ -2,3 +2,4 @@ pub mod Waits
 pub mod Quiet
 pub mod Parts
 pub mod Steps
+pub mod Assembled
