@@ -3,3 +3,5 @@ pub mod Quiet
 pub mod Parts
 pub mod Steps
 pub mod Assembled
+pub mod Past
+pub mod Simulated
