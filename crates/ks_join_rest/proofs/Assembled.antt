@@ -1,5 +1,5 @@
 -- States of the protocol of one left key, put together field by field.
-use Rattle.std.proofs.Common.{◌≡◌, ◌≢◌, ℕ, Bool, true, false, cond, ◌&&◌, List, [], ◌∷◌, ◌++◌, Option, Some, None, fold, refl, sym, ap, ap₂, subst, ◌∙◌, nat_eq, append-nil}
+use Rattle.std.proofs.Common.{◌≡◌, ℕ, Bool, true, false, cond, ◌&&◌, List, [], ◌∷◌, ◌++◌, Option, Some, None, fold, refl, sym, ap, ◌∙◌, nat_eq, append-nil}
 use Rattle.std.specs.Prelude.{option_map, is_none}
 use Rattle.std.proofs.lemmas.Bool.Decides.{Decides-eqb}
 use Rattle.ks_row.specs.Parts.{same_task}
@@ -12,14 +12,13 @@ use Rattle.ks_wire.specs.declared.values.Response.{Response as Answer}
 use Rattle.ks_topo.specs.Plan.{Plan}
 use Rattle.ks_topo.specs.Layout.{sub_of}
 use Rattle.ks_query.specs.Streams.{Key}
-use Rattle.ks_machine.specs.Messages.{Stored, shown, Rules, Subscription as Asking, Instruction, same_option}
+use Rattle.ks_machine.specs.Messages.{Stored, shown, Rules, Instruction, same_option}
 use Rattle.ks_machine.specs.Messages.Instruction.{Delete, DeleteAndAnswer, Answer as AnswerAlways, AnswerIfThere}
-use Rattle.ks_machine.specs.Foreign.{key_of_row, is_direct, direct_row, respond, hash_by}
+use Rattle.ks_machine.specs.Foreign.{respond, hash_by}
 use Rattle.ks_machine.specs.Step.{of_row, direct as direct_value, set_result}
 use Rattle.ks_machine.specs.Rest.{home}
 use Rattle.ks_rest.specs.States.{home_task}
-use Rattle.ks_rest.specs.ForeignJoin.{Subscription, Response, Event, Join, with_at, same_key, apply, key_of, sent_to_key, direct, now_had, answer, answer_to, accept, subscription_comes, response_comes, happens}
-use Rattle.ks_rest.specs.ForeignJoin.Subscription.{Forget, ForgetAndAnswer, Ask}
+use Rattle.ks_rest.specs.ForeignJoin.{Subscription, Response, Event, Join, with_at, same_key, apply, sent_to_key, direct, now_had, answer, answer_to, accept, subscription_comes, response_comes, happens}
 use Rattle.ks_rest.specs.ForeignJoin.Event.{LeftChanges, RightChanges, SubscriptionComes, ResponseComes}
 use Rattle.ks_rest.proofs.Derived.{shown_row}
 use Rattle.ks_join_rest.specs.Seen.{asking, answers, right_task, joined_with, right_part}
@@ -69,19 +68,39 @@ module _ (rules : Rules) (p : Plan) (r : ℕ) (fk : List ℕ) (kind : JoinKind) 
       ((i : ℕ) → k.responses i ≡ j.responses i ++ cond (right && nat_eq i (right_part rules p r c)) (right_sent (j.stored c) y) []) →
       k ≡ fold happen j (both_events left right w c y)
   rows_change true true j k w c y row result had rights stored asked answered = λ i. record {
-    row = row i; result = result i; had = had i; right = λ b. rights b i; stored = λ b. stored b i; subscriptions = λ b. asked b i;
+    row = row i;
+    result = result i;
+    had = had i;
+    right = λ b. rights b i;
+    stored = λ b. stored b i;
+    subscriptions = λ b. asked b i;
     responses = λ n. (answered n ∙ appended_at j.responses (right_part rules p r c) (right_sent (j.stored c) y) n) i;
   }
   rows_change true false j k w c y row result had rights stored asked answered = λ i. record {
-    row = row i; result = result i; had = had i; right = λ b. rights b i; stored = λ b. stored b i; subscriptions = λ b. asked b i;
+    row = row i;
+    result = result i;
+    had = had i;
+    right = λ b. rights b i;
+    stored = λ b. stored b i;
+    subscriptions = λ b. asked b i;
     responses = λ n. (answered n ∙ append-nil (j.responses n)) i;
   }
   rows_change false true j k w c y row result had rights stored asked answered = λ i. record {
-    row = row i; result = result i; had = had i; right = λ b. rights b i; stored = λ b. stored b i; subscriptions = λ b. (asked b ∙ append-nil (j.subscriptions b)) i;
+    row = row i;
+    result = result i;
+    had = had i;
+    right = λ b. rights b i;
+    stored = λ b. stored b i;
+    subscriptions = λ b. (asked b ∙ append-nil (j.subscriptions b)) i;
     responses = λ n. (answered n ∙ appended_at j.responses (right_part rules p r c) (right_sent (j.stored c) y) n) i;
   }
   rows_change false false j k w c y row result had rights stored asked answered = λ i. record {
-    row = row i; result = result i; had = had i; right = λ b. rights b i; stored = λ b. stored b i; subscriptions = λ b. (asked b ∙ append-nil (j.subscriptions b)) i;
+    row = row i;
+    result = result i;
+    had = had i;
+    right = λ b. rights b i;
+    stored = λ b. stored b i;
+    subscriptions = λ b. (asked b ∙ append-nil (j.subscriptions b)) i;
     responses = λ n. (answered n ∙ append-nil (j.responses n)) i;
   }
 
@@ -89,7 +108,13 @@ module _ (rules : Rules) (p : Plan) (r : ℕ) (fk : List ℕ) (kind : JoinKind) 
   pub nothing_happens : (j k : Protocol) → k.row ≡ j.row → k.result ≡ j.result → k.had ≡ j.had → ((b : Key) → k.right b ≡ j.right b) → ((b : Key) → k.stored b ≡ j.stored b) →
       ((b : Key) → k.subscriptions b ≡ j.subscriptions b) → ((i : ℕ) → k.responses i ≡ j.responses i) → k ≡ j
   nothing_happens j k row result had rights stored asked answered = λ i. record {
-    row = row i; result = result i; had = had i; right = λ b. rights b i; stored = λ b. stored b i; subscriptions = λ b. asked b i; responses = λ n. answered n i;
+    row = row i;
+    result = result i;
+    had = had i;
+    right = λ b. rights b i;
+    stored = λ b. stored b i;
+    subscriptions = λ b. asked b i;
+    responses = λ n. answered n i;
   }
 
   -- a response comes
@@ -99,7 +124,13 @@ module _ (rules : Rules) (p : Plan) (r : ℕ) (fk : List ℕ) (kind : JoinKind) 
       ((i : ℕ) → k.responses i ≡ with_at nat_eq j.responses n rest i) → k ≡ happen j (ResponseComes n)
   response_happens j k n y rest e row result had rights stored asked answered =
       let first : k ≡ response_comes same_bytes (field_key fk) rules.hash (right_part rules p r) (joined_with kind set) j n (y ∷ rest) = λ i. record {
-        row = row i; result = result i; had = had i; right = λ b. rights b i; stored = λ b. stored b i; subscriptions = λ b. asked b i; responses = λ n. answered n i;
+        row = row i;
+        result = result i;
+        had = had i;
+        right = λ b. rights b i;
+        stored = λ b. stored b i;
+        subscriptions = λ b. asked b i;
+        responses = λ n. answered n i;
       } in
       first ∙ ap (response_comes same_bytes (field_key fk) rules.hash (right_part rules p r) (joined_with kind set) j n) (sym e)
 
@@ -112,7 +143,12 @@ module _ (rules : Rules) (p : Plan) (r : ℕ) (fk : List ℕ) (kind : JoinKind) 
   subscription_happens j k c y rest e row result had rights stored asked answered =
       let sent = answer_to same_bytes (field_key fk) rules.hash (right_part rules p r) (joined_with kind set) y (j.right c) in
       let first : k ≡ subscription_comes same_bytes (field_key fk) rules.hash (right_part rules p r) (joined_with kind set) j c (y ∷ rest) = λ i. record {
-        row = row i; result = result i; had = had i; right = λ b. rights b i; stored = λ b. stored b i; subscriptions = λ b. asked b i;
+        row = row i;
+        result = result i;
+        had = had i;
+        right = λ b. rights b i;
+        stored = λ b. stored b i;
+        subscriptions = λ b. asked b i;
         responses = λ n. (answered n ∙ appended_at j.responses (right_part rules p r c) sent n) i;
       } in
       first ∙ ap (subscription_comes same_bytes (field_key fk) rules.hash (right_part rules p r) (joined_with kind set) j c) (sym e)

@@ -5,3 +5,6 @@ pub mod Steps
 pub mod Assembled
 pub mod Past
 pub mod Simulated
+pub mod Seeing
+pub mod HashesPlaced
+pub mod JoinsRest

@@ -1,14 +1,13 @@
 -- What the parts of a join send, as one left key sees it.
-use Rattle.std.proofs.Common.{◌≡◌, ◌≢◌, ℕ, Bool, true, false, cond, ◌&&◌, List, [], ◌∷◌, ◌++◌, T, Option, Some, None, refl, sym, ap, ap₂, subst, ◌∙◌, nat_eq, append-nil, ⊎_elim}
+use Rattle.std.proofs.Common.{◌≡◌, ℕ, Bool, true, false, cond, ◌&&◌, List, [], ◌∷◌, ◌++◌, T, Option, Some, None, refl, sym, ap, ap₂, ◌∙◌, nat_eq, append-nil}
 use Rattle.std.proofs.lemmas.Bool.Decides.{Decides-eqb}
-use Rattle.std.specs.Ordering.{eq_by_cmp}
 use Rattle.std.specs.Cmp.{eq_by_cmp_equiv}
 use Rattle.std.specs.Cmp.Lexicographic.{nat_list_cmp_total}
 use Rattle.std.specs.FinMap.Entries.{find, is_sorted}
 use Rattle.ks_row.specs.FieldKeys.{field_key}
 use Rattle.ks_expr.specs.declared.terms.JoinKind.{JoinKind}
 use Rattle.ks_expr.specs.Terms.{Set}
-use Rattle.ks_expr.specs.Eval.{Row, same_bytes, joined}
+use Rattle.ks_expr.specs.Eval.{Row, same_bytes}
 use Rattle.ks_wire.specs.declared.values.Response.{Response as Answer}
 use Rattle.ks_topo.specs.declared.node.Topic.TheVariants.{Subscriptions, Responses}
 use Rattle.ks_topo.specs.Plan.{Plan}
@@ -23,8 +22,7 @@ use Rattle.ks_machine.specs.Messages.Instruction.{Delete, DeleteAndAnswer, Answe
 use Rattle.ks_machine.specs.Messages.Message.{Given, Keyed, Moved, Asked, Answered, Kept, KeptCount, KeptTime, KeptHash}
 use Rattle.ks_machine.specs.Foreign.{key_of_row, subscribe, subscriptions, answer_all, answer_by}
 use Rattle.ks_machine.specs.Step.{send_subscriptions, send_responses, answer_of}
-use Rattle.ks_machine.specs.Rest.{home}
-use Rattle.ks_rest.specs.ForeignJoin.{Subscription, Response, Join, same_key, key_of, sent_to_key, answer, answer_to}
+use Rattle.ks_rest.specs.ForeignJoin.{Subscription, Response, same_key, sent_to_key, answer, answer_to}
 use Rattle.ks_rest.specs.ForeignJoin.Subscription.{Forget, ForgetAndAnswer, Ask}
 use Rattle.ks_rest.proofs.Mixed.{picked}
 use Rattle.ks_rest.proofs.OneKey.{same_key-is, keys_decided}
@@ -121,9 +119,9 @@ module _ (rules : Rules) (p : Plan) (a r : ℕ) (fk : List ℕ) (kind : JoinKind
             ∙ ap (λ t. cond (t && same_bytes k c) (asks s.1 ∷ asked_by b k more) (asked_by b k more)) e
             ∙ ap (λ l. cond (same_bytes k c) (asks s.1 ∷ l) l) (asked_sent b k c ss)
         | false ↦ λ e. elim (same_place (asking_place rules p a r b) at) as (λ t. asked_by b k (cond t (Asked s.0 c s.1 ∷ more) more) ≡ for_key b (same_bytes k c) ss) [
-            | true ↦ ap (λ t. cond (t && same_bytes k c) (asks s.1 ∷ asked_by b k more) (asked_by b k more)) e ∙ asked_sent b k c ss
-            | false ↦ asked_sent b k c ss
-          ]
+          | true ↦ ap (λ t. cond (t && same_bytes k c) (asks s.1 ∷ asked_by b k more) (asked_by b k more)) e ∙ asked_sent b k c ss
+          | false ↦ asked_sent b k c ss
+        ]
       ] refl
 
   abbrev sent : Key → Option Key → Option Row → List Subscription
@@ -169,9 +167,9 @@ module _ (rules : Rules) (p : Plan) (a r : ℕ) (fk : List ℕ) (kind : JoinKind
             ∙ ap (λ t. cond t (answers e.1 ∷ answered_to k more) (answered_to k more)) t
             ∙ ap (λ l. answers e.1 ∷ l) (answered_sent k es)
         | false ↦ λ t. elim (same_place (answers_place rules p a k) at) as (λ u. answered_to k (cond u (Answered e.0 e.1 ∷ more) more) ≡ to_left k es) [
-            | true ↦ ap (λ u. cond u (answers e.1 ∷ answered_to k more) (answered_to k more)) t ∙ answered_sent k es
-            | false ↦ answered_sent k es
-          ]
+          | true ↦ ap (λ u. cond u (answers e.1 ∷ answered_to k more) (answered_to k more)) t ∙ answered_sent k es
+          | false ↦ answered_sent k es
+        ]
       ] refl
 
   abbrev pub answer_for : Option ℕ → Option Row → List (Response Row)

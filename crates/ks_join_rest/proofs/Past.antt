@@ -1,5 +1,5 @@
 -- A left row that changes is written into the past of its changelog.
-use Rattle.std.proofs.Common.{◌≡◌, ◌≢◌, ℕ, suc, ◌+◌, ◌<◌, ◌≤◌, Bool, true, false, cond, ◌&&◌, List, length, [], ◌∷◌, ◌++◌, map, Option, Some, None, refl, sym, ap, ap₂, subst, ◌∙◌, arith, nat_eq, inl, inr, ⊎_elim}
+use Rattle.std.proofs.Common.{◌≡◌, ℕ, suc, ◌+◌, ◌<◌, ◌≤◌, true, false, cond, ◌&&◌, List, length, [], ◌∷◌, ◌++◌, map, Option, Some, None, refl, sym, ap, ap₂, subst, ◌∙◌, arith, nat_eq, inl, inr, ⊎_elim}
 use Rattle.std.specs.Prelude.{option_map}
 use Rattle.std.proofs.lemmas.Bool.{cases_lt}
 use Rattle.std.proofs.lemmas.Bool.Decides.{Decides-eqb}
@@ -7,7 +7,6 @@ use Rattle.ks_row.specs.declared.record.TaskId.{TaskId}
 use Rattle.ks_expr.specs.Eval.{Row, same_bytes}
 use Rattle.ks_topo.specs.declared.node.Topic.TheVariants.{Changelog, HashChangelog, Subscriptions}
 use Rattle.ks_topo.specs.Plan.{Plan, Kind}
-use Rattle.ks_topo.specs.Layout.{sub_of}
 use Rattle.ks_query.specs.Streams.{Key, StreamItem}
 use Rattle.ks_network.specs.Run.{sent_to}
 use Rattle.ks_network.proofs.Runs.{sent_to-append}

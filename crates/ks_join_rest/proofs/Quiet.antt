@@ -1,8 +1,7 @@
 -- A response changes no row before its join: no node before it takes anything.
-use Rattle.std.proofs.Common.{◌≡◌, ◌≢◌, ℕ, suc, ◌<◌, Bool, true, false, cond, ◌||◌, List, [], ◌∷◌, Option, Some, None, refl, sym, ap, ap₂, subst, ◌∙◌, arith, nat_eq, ne_eqb, ⊎_elim}
+use Rattle.std.proofs.Common.{◌≡◌, ◌≢◌, ℕ, suc, ◌<◌, Bool, true, false, cond, ◌||◌, List, [], ◌∷◌, Option, Some, None, refl, sym, ap, ap₂, ◌∙◌, arith, nat_eq, ne_eqb}
 use Rattle.std.specs.Prelude.{option_and_then}
 use Rattle.std.proofs.lemmas.Bool.Decides.{Decides-eqb}
-use Rattle.std.proofs.lemmas.Bool.{cases_eq}
 use Rattle.ks_expr.specs.Eval.{joined}
 use Rattle.ks_topo.specs.declared.node.Topic.{Topic}
 use Rattle.ks_topo.specs.declared.node.Topic.TheVariants.{Input as InputTopic, Repartition, Responses}
@@ -11,8 +10,8 @@ use Rattle.ks_topo.specs.Plan.Kind.{StreamSource, TableSource, StreamFilter, Tab
 use Rattle.ks_topo.specs.Layout.{same_topic}
 use Rattle.ks_query.specs.Streams.{StreamItem, filter_item, map_item, rekey_item}
 use Rattle.ks_query.specs.Query.{with_number}
-use Rattle.ks_machine.specs.Messages.{Stored, Message, Rules}
-use Rattle.ks_machine.specs.Step.{Arrival, Values, row_in, changed, arrived, item_given, item_keyed, item_at, item_into, items_from, kept_row, of_row, taken_row, added, applied, responded, direct, value_at, values_from}
+use Rattle.ks_machine.specs.Messages.{Stored, Rules}
+use Rattle.ks_machine.specs.Step.{Arrival, Values, row_in, changed, arrived, item_given, item_keyed, item_at, item_into, items_from, of_row, taken_row, added, applied, responded, direct, value_at, values_from}
 use Rattle.ks_rest.proofs.Fits.{NodeFits, EachFits}
 use Rattle.ks_join_rest.proofs.Waits.{stays_unchanged}
 

@@ -1,7 +1,6 @@
 -- Each step of the machine is none, one or two events of a left key's protocol.
-use Rattle.std.proofs.Common.{◌≡◌, ◌≢◌, ℕ, ◌+◌, ◌<◌, Bool, true, false, cond, not, ◌&&◌, List, length, [], ◌∷◌, ◌++◌, Option, Some, None, fold, refl, sym, ap, ap₂, subst, ◌∙◌, arith, nat_eq, append-nil, ◌⊎◌, inl, inr, ⊎_elim}
+use Rattle.std.proofs.Common.{◌≡◌, ℕ, ◌+◌, ◌<◌, Bool, true, false, cond, not, ◌&&◌, List, length, [], ◌∷◌, ◌++◌, Option, Some, None, fold, refl, sym, ap, ap₂, subst, ◌∙◌, nat_eq, append-nil, ◌⊎◌, inl, inr, ⊎_elim}
 use Rattle.std.specs.Prelude.{option_map}
-use Rattle.std.proofs.lemmas.Bool.{and_parts}
 use Rattle.std.proofs.lemmas.Bool.Decides.{Decides-eqb}
 use Rattle.ks_row.specs.declared.record.TaskId.{TaskId}
 use Rattle.ks_row.specs.Parts.{same_task}
@@ -13,11 +12,11 @@ use Rattle.ks_topo.specs.declared.node.Topic.{Topic}
 use Rattle.ks_topo.specs.declared.node.Topic.TheVariants.{Subscriptions, Responses, Changelog}
 use Rattle.ks_topo.specs.Plan.{Plan, Kind}
 use Rattle.ks_topo.specs.Plan.Kind.{ForeignKeyJoin}
-use Rattle.ks_topo.specs.Layout.{same_topic, sub_of, parts_of, parts_of_topic}
+use Rattle.ks_topo.specs.Layout.{same_topic, sub_of, parts_of_topic}
 use Rattle.ks_map.specs.FinMap as fin
 use Rattle.ks_query.specs.Streams.{Key, StreamItem}
-use Rattle.ks_network.specs.Run.{Machine, is_from, same_channel, sent_to, take_first}
-use Rattle.ks_machine.specs.Messages.{Place, same_place, Stored, shown, Message, Item, Store, Rules, same_row, same_option, Subscription as Asking}
+use Rattle.ks_network.specs.Run.{same_channel, sent_to}
+use Rattle.ks_machine.specs.Messages.{Place, shown, Message, Item, Store, Rules, same_row, same_option, Subscription as Asking}
 use Rattle.ks_machine.specs.Messages.Message.{Asked, Answered}
 use Rattle.ks_wire.specs.declared.values.Response.{Response as Answer}
 use Rattle.ks_map.specs.Bytes.{by_bytes}
@@ -27,7 +26,7 @@ use Rattle.std.specs.Cmp.Lexicographic.{nat_list_cmp_total}
 use Rattle.ks_network.proofs.Runs.{at_channel, same_channel_refl}
 use Rattle.ks_machine.specs.Collision.{past, rows_had, In}
 use Rattle.ks_machine.specs.Foreign.{subscriptions, answer_all, answer_to as to_answer, subscribed, respond}
-use Rattle.ks_machine.specs.Step.{Arrival, Values, row_in, changed, arrived, step_key, whole_step, values_from, direct as direct_value, responded, answer_one, send_subscriptions, send_responses, olds_at, news_at, set_result, hashes_after, subscribe_at, answer_of}
+use Rattle.ks_machine.specs.Step.{Arrival, Values, row_in, changed, arrived, step_key, whole_step, direct as direct_value, responded, answer_one, send_subscriptions, send_responses, olds_at, news_at, set_result, hashes_after, subscribe_at, answer_of}
 use Rattle.ks_machine.specs.Tasks.{machine, step, is_changelog}
 use Rattle.ks_machine.specs.Rest.{home}
 use Rattle.ks_machine.proofs.Names.{names, same_task-is, same_place-is, topic-is, topic_itself}
@@ -36,11 +35,11 @@ use Rattle.ks_rest.specs.Taken.{messages}
 use Rattle.ks_rest.specs.ForeignJoin.{Event, Join, apply, accept, answer_to}
 use Rattle.ks_rest.specs.ForeignJoin as join
 use Rattle.ks_rest.proofs.Each.{Each, each_parts}
-use Rattle.ks_rest.proofs.Fits.{Fits, Beside, each_at, stands_within}
+use Rattle.ks_rest.proofs.Fits.{Fits, each_at, stands_within}
 use Rattle.ks_rest.proofs.Follow.{value_is}
 use Rattle.ks_rest.proofs.Mixed.{Stands_at, picked, step_sends_own, apart_asked, apart_answered}
 use Rattle.ks_rest.proofs.OneKey.{keys_decided}
-use Rattle.ks_rest.proofs.Placed.{FitsAt, Placed}
+use Rattle.ks_rest.proofs.Placed.{FitsAt}
 use Rattle.ks_join_rest.specs.Seen.{asks, answers, asked_by, answered_to, right_task, answers_place, asking_place, seen, right_part, joined_with}
 use Rattle.ks_join_rest.proofs.Waits.{owner, left_home, beside, asking_parts, taken_by_right, asking_part, answering_part, asked_is, answered_is, Waits, IsAsked, IsAnswered, IsAsking, IsAnswer, stays_unchanged}
 use Rattle.ks_join_rest.proofs.Parts.{same_itself, same_turned, one_answers, asked-append, answered-append, for_key, for_other, asked_sent, for_own, answered_sent, all_answers}
@@ -517,10 +516,10 @@ module _ (rules : Rules) (p : Plan) (fits : Fits p) (a l r : ℕ) (fk : List ℕ
           let here : st.waiting s (record { topic = Subscriptions a; part = q.part }) ≡ x ∷ rest = ap (λ v. st.waiting s (record { topic = v; part = q.part })) (sym at) ∙ waits in
           asking_any at x.message refl (each_parts (IsAsked rules p fits a l r fk kind set stands s) x.message (messages rest) (subst (λ ms. Each (IsAsked rules p fits a l r fk kind set stands s) (messages ms)) here (h.asked s q.part))).0
       | false ↦ λ b. elim (same_topic q.topic (Responses a)) as (λ c. same_topic q.topic (Responses a) ≡ c → Step k had st next) [
-          | true ↦ λ c.
-              let at = topic-is q.topic (Responses a) c in
-              let here : st.waiting s (record { topic = Responses a; part = q.part }) ≡ x ∷ rest = ap (λ v. st.waiting s (record { topic = v; part = q.part })) (sym at) ∙ waits in
-              answer_any at x.message refl (each_parts (IsAnswered rules p fits a l r fk kind set stands s) x.message (messages rest) (subst (λ ms. Each (IsAnswered rules p fits a l r fk kind set stands s) (messages ms)) here (h.answered s q.part))).0
-          | false ↦ λ c. other_comes b c (step_key x.message) refl
-        ] refl
+        | true ↦ λ c.
+            let at = topic-is q.topic (Responses a) c in
+            let here : st.waiting s (record { topic = Responses a; part = q.part }) ≡ x ∷ rest = ap (λ v. st.waiting s (record { topic = v; part = q.part })) (sym at) ∙ waits in
+            answer_any at x.message refl (each_parts (IsAnswered rules p fits a l r fk kind set stands s) x.message (messages rest) (subst (λ ms. Each (IsAnswered rules p fits a l r fk kind set stands s) (messages ms)) here (h.answered s q.part))).0
+        | false ↦ λ c. other_comes b c (step_key x.message) refl
+      ] refl
     ] refl

@@ -1,11 +1,10 @@
 -- One step of the machine: what becomes of each row, each hash and each list that one left key of a join sees.
-use Rattle.std.proofs.Common.{◌≡◌, ◌≢◌, ℕ, Bool, true, false, cond, not, ◌&&◌, List, [], ◌∷◌, ◌++◌, Option, Some, None, refl, sym, ap, ap₂, subst, ◌∙◌, nat_eq, append-nil, ⊎_elim}
+use Rattle.std.proofs.Common.{◌≡◌, ℕ, Bool, true, false, cond, not, ◌&&◌, List, [], ◌∷◌, ◌++◌, Option, Some, None, refl, sym, ap, ap₂, ◌∙◌}
 use Rattle.std.specs.Prelude.{option_map}
-use Rattle.std.proofs.lemmas.Bool.Decides.{Decides-eqb}
 use Rattle.std.specs.Cmp.Lexicographic.{nat_list_cmp_total}
 use Rattle.ks_row.specs.declared.record.TaskId.{TaskId}
 use Rattle.ks_row.specs.Parts.{same_task}
-use Rattle.ks_expr.specs.Eval.{Row, same_bytes}
+use Rattle.ks_expr.specs.Eval.{same_bytes}
 use Rattle.std.proofs.lemmas.Bool.{and_parts}
 use Rattle.ks_topo.specs.declared.node.Topic.{Topic}
 use Rattle.ks_topo.specs.declared.node.Topic.TheVariants.{Subscriptions}
@@ -13,11 +12,10 @@ use Rattle.ks_topo.specs.Layout.{same_topic}
 use Rattle.ks_topo.specs.Plan.{Plan}
 use Rattle.ks_map.specs.FinMap as fin
 use Rattle.ks_map.specs.FinMap.{FinMap}
-use Rattle.ks_map.specs.Bytes.{by_bytes}
 use Rattle.ks_map.proofs.Tables.{get-write}
 use Rattle.ks_query.specs.Streams.{Key, StreamItem}
 use Rattle.ks_network.specs.Run.{same_channel, sent_to, take_first}
-use Rattle.ks_machine.specs.Messages.{Place, Stored, shown, Message, Item, Store, Rules, same_row, same_option}
+use Rattle.ks_machine.specs.Messages.{Place, Stored, shown, Message, Item, Store, Rules, same_row}
 use Rattle.ks_machine.specs.Step.{Arrival, Values, row_in, changed, step_key, items_from, olds_at, news_at, values_from, tables_after, whole_step, subscribe_at, hashes_after}
 use Rattle.ks_machine.specs.Tasks.{machine, step, is_changelog}
 use Rattle.ks_machine.proofs.Names.{same_task-is, same_place-is, topic_itself}

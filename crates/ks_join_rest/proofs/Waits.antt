@@ -1,10 +1,10 @@
 -- What waits for a join on a foreign key: a subscription comes from its left key's task, a response from a task of the right side.
-use Rattle.std.proofs.Common.{◌≡◌, ◌≢◌, ℕ, suc, ◌+◌, ◌<◌, Bool, true, false, cond, not, ◌&&◌, ◌||◌, List, [], ◌∷◌, ◌++◌, map, get_or, Option, Some, None, refl, sym, ap, ap₂, subst, ◌∙◌, arith, append-nil, nat_eq, ◌⊎◌, inl, inr, ⊎_elim, ne_eqb}
+use Rattle.std.proofs.Common.{◌≡◌, ℕ, suc, ◌+◌, ◌<◌, true, false, cond, not, List, [], ◌∷◌, ◌++◌, get_or, Option, Some, None, refl, sym, ap, ap₂, subst, ◌∙◌, arith, append-nil, inl, ⊎_elim}
 use Rattle.std.specs.Prelude.{option_map}
 use Rattle.std.specs.Ordering.{is_eq}
 use Rattle.std.specs.Cmp.{tied_itself, int_cmp_total}
 use Rattle.std.specs.Cmp.Lexicographic.{nat_list_cmp_total}
-use Rattle.std.proofs.lemmas.Bool.{and_parts, and_from}
+use Rattle.std.proofs.lemmas.Bool.{and_from}
 use Rattle.ks_row.specs.declared.row.Field.{Field}
 use Rattle.ks_row.specs.declared.row.Field.TheVariants.{Int, Text}
 use Rattle.ks_row.specs.declared.record.TaskId.{TaskId}
@@ -15,7 +15,7 @@ use Rattle.ks_expr.specs.Terms.{Set}
 use Rattle.ks_expr.specs.Eval.{Row, same_field, same_bytes}
 use Rattle.ks_wire.specs.declared.values.Response.{Response}
 use Rattle.ks_topo.specs.declared.node.Topic.{Topic}
-use Rattle.ks_topo.specs.declared.node.Topic.TheVariants.{Input as InputTopic, Repartition, Subscriptions, Responses}
+use Rattle.ks_topo.specs.declared.node.Topic.TheVariants.{Subscriptions, Responses}
 use Rattle.ks_topo.specs.Plan.{Plan, Kind}
 use Rattle.ks_topo.specs.Plan.Kind.{ForeignKeyJoin}
 use Rattle.ks_topo.specs.Layout.{same_topic, sub_of, parts_of, parts_of_topic, kind_at, no_kind, right_of}
@@ -23,18 +23,18 @@ use Rattle.ks_map.specs.FinMap as fin
 use Rattle.ks_query.specs.Streams.{Key, Input, StreamItem}
 use Rattle.ks_network.specs.Run.{Machine, RunState, is_from, same_channel, sent_to, take_first, initial, run}
 use Rattle.ks_network.proofs.Runs.{at_channel, kept_by_run}
-use Rattle.ks_machine.specs.Messages.{Place, same_place, Stored, shown, Instruction, Subscription, Message, Item, Store, Rules, same_row, same_option}
+use Rattle.ks_machine.specs.Messages.{Place, same_place, shown, Instruction, Subscription, Message, Item, Store, Rules, same_row, same_option}
 use Rattle.ks_machine.specs.Messages.Instruction.{Delete, DeleteAndAnswer, Answer, AnswerIfThere}
 use Rattle.ks_machine.specs.Messages.Message.{Given, Keyed, Moved, Asked, Answered, Kept, KeptCount, KeptTime, KeptHash}
 use Rattle.ks_machine.specs.Foreign.{subscriptions, subscribe, key_of_row, answer_all, answer_by, answer_to}
-use Rattle.ks_machine.specs.Step.{Arrival, Sent, Values, row_in, changed, arrived, step_key, sends_at, join_sends, send_subscriptions, send_responses, answer_of, answer_one, over_nodes, whole_step, items_from, olds_at, news_at, values_from}
-use Rattle.ks_machine.specs.Tasks.{machine, step, taker, is_changelog, inputs_of}
-use Rattle.ks_machine.proofs.Names.{names, same_task-is, same_place-is, topic-is}
+use Rattle.ks_machine.specs.Step.{Arrival, Sent, Values, row_in, changed, arrived, step_key, join_sends, send_subscriptions, send_responses, answer_of, answer_one, whole_step, items_from, olds_at, news_at, values_from}
+use Rattle.ks_machine.specs.Tasks.{machine, step, is_changelog, inputs_of}
+use Rattle.ks_machine.proofs.Names.{names, same_task-is, topic-is}
 use Rattle.ks_rest.specs.Taken.{messages}
 use Rattle.ks_rest.specs.States.{home_task}
 use Rattle.ks_rest.proofs.Each.{Each, each_nothing, each_first, each_parts, Each-append, Each-cond}
 use Rattle.ks_rest.proofs.Fits.{Fits, Beside, each_at}
-use Rattle.ks_rest.proofs.Mixed.{messages-append, Stands_at, picked, picked-append, picked_none, made_is, step_sends_own, apart_asked, apart_answered}
+use Rattle.ks_rest.proofs.Mixed.{messages-append, Stands_at, picked, picked-append, made_is, step_sends_own, apart_asked, apart_answered}
 use Rattle.ks_rest.proofs.Placed.{FitsAt, Owned, Placed, values_owned, items_owned, fits_key, placed_step, placed_run}
 use Rattle.ks_join_rest.specs.Seen.{right_task}
 

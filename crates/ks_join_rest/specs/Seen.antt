@@ -1,13 +1,12 @@
 -- A state of a run as one left key of a join on a foreign key sees it (KIP-213).
 use Rattle.std.specs.Prelude.{ℕ, List, [], ◌∷◌, Option, Some, None, cond, ◌&&◌}
 use Rattle.ks_row.specs.declared.record.TaskId.{TaskId}
-use Rattle.ks_row.specs.FieldKeys.{field_key}
 use Rattle.ks_expr.specs.declared.terms.JoinKind.{JoinKind}
 use Rattle.ks_expr.specs.Terms.{Set}
 use Rattle.ks_expr.specs.Eval.{Row, same_bytes, joined}
 use Rattle.ks_wire.specs.declared.values.Response.{Response as Answer}
 use Rattle.ks_topo.specs.Plan.{Plan}
-use Rattle.ks_topo.specs.Layout.{sub_of, parts_of}
+use Rattle.ks_topo.specs.Layout.{sub_of}
 use Rattle.ks_topo.specs.declared.node.Topic.TheVariants.{Subscriptions, Responses}
 use Rattle.ks_map.specs.FinMap as map
 use Rattle.ks_query.specs.Streams.{Key}

@@ -2,3 +2,7 @@
 //!
 //! Laws alone: each public function has an empty body, and its contract is the law.
 #![tactic(auto)]
+
+mod joins;
+
+pub use joins::joins_rest;
