@@ -25,7 +25,7 @@ use Rattle.ks_task.specs.declared.logs.Log.{Log}
 use Rattle.ks_task.specs.declared.program.Step.{Step}
 use Rattle.ks_task.specs.Built.{rules_of}
 use Rattle.ks_task.specs.Program.{StepView, kind_of, step_view, steps_from, steps_of, made_or_none}
-use Rattle.ks_task.specs.Views.{position_in, kept_in, topics_in, moved_to, kept_now, stores_in, positions_in, numbers_of, log_after, ended, own_ends, arrived_at_topic, view_of, IsTask, is_kept, grouped}
+use Rattle.ks_task.specs.Views.{position_in, kept_in, topics_in, moved_to, kept_now, stores_in, positions_in, numbers_of, log_after, ended, own_ends, arrived_at_topic, view_of, IsTask, are_kept_in, grouped}
 use Rattle.ks_task.proofs.Stepping.{step_is}
 use Rattle.ks_task.proofs.Outputs.{grouped_once, grouped_recs}
 
@@ -92,12 +92,32 @@ topics_kept : (xs : List Input) → topics_in (map kept_now xs) ≡ topics_in xs
 topics_kept [] = refl
 topics_kept (x ∷ xs) = ap (λ ns. x.topic ∷ ns) (topics_kept xs)
 
-pub clean_is : (xs : List Input) → is_kept xs ≡ true → (q : ℕ) → position_in xs q ≡ kept_in xs q
-clean_is [] h q = refl
-clean_is (x ∷ xs) h q = elim (x.position == x.kept) as (λ b. (x.position == x.kept) ≡ b → (if b then is_kept xs else false) ≡ true → (if q == x.topic then x.position else position_in xs q) ≡ (if q == x.topic then x.kept else kept_in xs q)) [
-  | true ↦ λ e g. ap₂ (λ (a b : ℕ). if q == x.topic then a else b) (eq_is x.position x.kept e) (clean_is xs g q)
+clean_in : (all xs : List Input) → are_kept_in all xs ≡ true → (q : ℕ) → has_topic q (topics_in xs) ≡ true → position_in all q ≡ kept_in all q
+clean_in all [] h q there = absurd (true≢false (sym there))
+clean_in all (x ∷ xs) h q there = elim (position_in all x.topic == kept_in all x.topic) as (λ b. (position_in all x.topic == kept_in all x.topic) ≡ b → (if b then are_kept_in all xs else false) ≡ true → position_in all q ≡ kept_in all q) [
+  | true ↦ λ e g. elim (q == x.topic) as (λ b. (q == x.topic) ≡ b → (b || has_topic q (topics_in xs)) ≡ true → position_in all q ≡ kept_in all q) [
+    | true ↦ λ f t. subst (λ n. position_in all n ≡ kept_in all n) (sym (eq_is q x.topic f)) (eq_is (position_in all x.topic) (kept_in all x.topic) e)
+    | false ↦ λ f t. clean_in all xs g q t
+  ] refl there
   | false ↦ λ e g. absurd (true≢false (sym g))
 ] refl h
+
+absent : (xs : List Input) (q : ℕ) → has_topic q (topics_in xs) ≡ false → position_in xs q ≡ kept_in xs q
+absent [] q none = refl
+absent (x ∷ xs) q none = elim (q == x.topic) as (λ b. (b || has_topic q (topics_in xs)) ≡ false → (if b then x.position else position_in xs q) ≡ (if b then x.kept else kept_in xs q)) [
+  | true ↦ λ t. absurd (true≢false t)
+  | false ↦ λ t. absent xs q t
+] none
+
+pub clean_is : (xs : List Input) → are_kept_in xs xs ≡ true → (q : ℕ) → position_in xs q ≡ kept_in xs q
+clean_is xs h q = elim (has_topic q (topics_in xs)) as (λ b. has_topic q (topics_in xs) ≡ b → position_in xs q ≡ kept_in xs q) [
+  | true ↦ λ e. clean_in xs xs h q e
+  | false ↦ λ e. absent xs q e
+] refl
+
+pub is_clean : (all xs : List Input) → ((q : ℕ) → position_in all q ≡ kept_in all q) → are_kept_in all xs ≡ true
+is_clean all [] h = refl
+is_clean all (x ∷ xs) h = ap (λ b. if b then are_kept_in all xs else false) ((Decides-eqb (position_in all x.topic) (kept_in all x.topic)).1 (h x.topic)) ∙ is_clean all xs h
 
 -- ---- changelogs
 numbers_ended : (ends : List (ℕ × ℕ)) (ls : List Log) → numbers_of (map (ended ends) ls) ≡ numbers_of ls

@@ -91,10 +91,10 @@ pub record IsTask (d : DraftView) (id : TaskId) (steps : List Step) (inputs : Li
   pub inputs_are : topics_in inputs ≡ input_numbers (plan_of d) id.sub
   pub logs_are : numbers_of logs ≡ changelog_numbers (plan_of d) id.sub
 
--- each position is its committed offset
-abbrev pub is_kept : List Input → Bool
-is_kept [] = true
-is_kept (x ∷ xs) = if x.position == x.kept then is_kept xs else false
+-- in each topic of these inputs, the position among all is the committed offset among all
+abbrev pub are_kept_in : List Input → List Input → Bool
+are_kept_in all [] = true
+are_kept_in all (x ∷ xs) = if position_in all x.topic == kept_in all x.topic then are_kept_in all xs else false
 
 -- ---- records by partition
 abbrev pub with_output : PartId → Rec → List (PartId × List Rec) → List (PartId × List Rec)

@@ -14,7 +14,7 @@ ghost use Rattle.ks_follow.specs.Views.{fresh_view, take_view, skip_view, commit
 ghost use Rattle.ks_commit.specs.Work.{work_view};
 ghost use Rattle.ks_task.specs.Built.{IsBuilt, rules_of};
 ghost use Rattle.ks_task.specs.Program.{step_view, made_or_none, kind_of};
-ghost use Rattle.ks_task.specs.Views.{stores_in, arrived_at_topic, own_ends, numbers_of, topics_in, position_in, view_of, is_kept};
+ghost use Rattle.ks_task.specs.Views.{stores_in, arrived_at_topic, own_ends, numbers_of, topics_in, position_in, view_of};
 ghost use Rattle.ks_task.specs.Tasks.{task_view, IsTaskOf};
 
 use crate::arrival::{Arrived, read_arrived};
@@ -191,6 +191,7 @@ impl Task {
     /// memory.
     pub fn is_clean(&self) -> bool
         ensures yes { result ≡ true → (topic : ℕ) → (task_view self.now).inputs topic ≡ (task_view self.now).kept topic }
+        ensures no { ((topic : ℕ) → (task_view self.now).inputs topic ≡ (task_view self.now).kept topic) → result ≡ true }
     {
         are_kept(&self.inputs)
     }
