@@ -8,3 +8,5 @@ pub mod Simulated
 pub mod Seeing
 pub mod HashesPlaced
 pub mod JoinsRest
+pub mod TableInputs
+pub mod TablesRest

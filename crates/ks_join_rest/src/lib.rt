@@ -4,5 +4,7 @@
 #![tactic(auto)]
 
 mod joins;
+mod tables;
 
 pub use joins::joins_rest;
+pub use tables::tables_rest;
