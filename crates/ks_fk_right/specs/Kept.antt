@@ -1,6 +1,6 @@
 -- What the store of the right side keeps: for each foreign key the left keys that asked for it, each with the hash of its row
 -- (KIP-213: the subscription store, whose keys begin with the foreign key).
-use Rattle.std.specs.Prelude.{ℕ, List, Option, Some, None, option_map}
+use Rattle.std.specs.Prelude.{ℕ, List, Option, Some}
 use Rattle.ks_row.specs.Reading.{◌>>=◌}
 use Rattle.ks_map.specs.Bytes.{Store}
 use Rattle.ks_wire.specs.Spelling.{long_key}

@@ -9,6 +9,7 @@ ghost use Rattle.ks_query.specs.Streams.{some_of};
 ghost use Rattle.ks_machine.specs.Messages.{subscription_of, instruction_of};
 ghost use Rattle.ks_machine.specs.Foreign.{subscribed, answer_to, answer_all};
 ghost use Rattle.ks_fk_right.specs.Kept.{kept_in, kept_under};
+ghost use Rattle.ks_fk_right.specs.Decoded.{KeptIsDecoded};
 
 use ks_row::{Blob, Change, Key, Row};
 use ks_store::KvStore;
@@ -135,3 +136,9 @@ pub fn on_right<S: KvStore>(
     }
     Ok(answers)
 }
+
+/// A law: what the store keeps under a foreign key, where its keys are bytes, is what the task machine's subscription store, read
+/// from the same bytes, has at that key, in order.
+pub fn kept_is_decoded()
+    ensures { KeptIsDecoded }
+{}
