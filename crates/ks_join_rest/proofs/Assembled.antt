@@ -22,7 +22,7 @@ use Rattle.ks_rest.specs.ForeignJoin.{Subscription, Response, Event, Join, with_
 use Rattle.ks_rest.specs.ForeignJoin.Event.{LeftChanges, RightChanges, SubscriptionComes, ResponseComes}
 use Rattle.ks_rest.proofs.Derived.{shown_row}
 use Rattle.ks_join_rest.specs.Seen.{asking, answers, right_task, joined_with, right_part}
-use Rattle.ks_join_rest.proofs.Waits.{IsAsking, IsAnswer}
+use Rattle.ks_join_rest.specs.Joins.{IsAsking, IsAnswer}
 
 pub appended_at : {A : Type 0} (f : ℕ → List A) (i : ℕ) (xs : List A) (j : ℕ) → f j ++ cond (nat_eq j i) xs [] ≡ with_at nat_eq f i (f i ++ xs) j
 appended_at f i xs j = elim (nat_eq j i) as (λ b. nat_eq j i ≡ b → f j ++ cond b xs [] ≡ cond b (f i ++ xs) (f j)) [

@@ -10,3 +10,4 @@ pub mod HashesPlaced
 pub mod JoinsRest
 pub mod TableInputs
 pub mod TablesRest
+pub mod Settling

@@ -27,7 +27,7 @@ use Rattle.ks_rest.specs.ForeignJoin.Subscription.{Forget, ForgetAndAnswer, Ask}
 use Rattle.ks_rest.proofs.Mixed.{picked}
 use Rattle.ks_rest.proofs.OneKey.{same_key-is, keys_decided}
 use Rattle.ks_join_rest.specs.Seen.{asking, asks, answers, asked_by, answered_to, asking_place, answers_place, joined_with, right_part}
-use Rattle.ks_join_rest.proofs.Waits.{IsAsking}
+use Rattle.ks_join_rest.specs.Joins.{IsAsking}
 
 pub same_turned : (a b : Key) → same_bytes a b ≡ same_bytes b a
 same_turned a b = (eq_by_cmp_equiv nat_list_cmp_total).symm a b

@@ -41,7 +41,8 @@ use Rattle.ks_rest.proofs.Mixed.{Stands_at, picked, step_sends_own, apart_asked,
 use Rattle.ks_rest.proofs.OneKey.{keys_decided}
 use Rattle.ks_rest.proofs.Placed.{FitsAt}
 use Rattle.ks_join_rest.specs.Seen.{asks, answers, asked_by, answered_to, right_task, answers_place, asking_place, seen, right_part, joined_with}
-use Rattle.ks_join_rest.proofs.Waits.{owner, left_home, beside, asking_parts, taken_by_right, asking_part, answering_part, asked_is, answered_is, Waits, IsAsked, IsAnswered, IsAsking, IsAnswer, stays_unchanged}
+use Rattle.ks_join_rest.specs.Joins.{IsAsking, IsAnswer}
+use Rattle.ks_join_rest.proofs.Waits.{owner, left_home, beside, asking_parts, taken_by_right, asking_part, answering_part, asked_is, answered_is, Waits, IsAsked, IsAnswered, stays_unchanged}
 use Rattle.ks_join_rest.proofs.Parts.{same_itself, same_turned, one_answers, asked-append, answered-append, for_key, for_other, asked_sent, for_own, answered_sent, all_answers}
 use Rattle.ks_join_rest.proofs.Steps as steps
 use Rattle.ks_join_rest.proofs.Steps.{either_same, unchanged}

@@ -36,6 +36,7 @@ use Rattle.ks_rest.proofs.Each.{Each, each_nothing, each_first, each_parts, Each
 use Rattle.ks_rest.proofs.Fits.{Fits, Beside, each_at}
 use Rattle.ks_rest.proofs.Mixed.{messages-append, Stands_at, picked, picked-append, made_is, step_sends_own, apart_asked, apart_answered}
 use Rattle.ks_rest.proofs.Placed.{FitsAt, Owned, Placed, values_owned, items_owned, fits_key, placed_step, placed_run}
+use Rattle.ks_join_rest.specs.Joins.{IsAsking, IsAnswer}
 use Rattle.ks_join_rest.specs.Seen.{right_task}
 
 -- ---- a row is the same as itself
@@ -74,18 +75,6 @@ picked_each rules p P q (s ∷ xs) e =
     (each_first P s.message (picked rules p q xs) parts.0 (picked_each rules p P q xs parts.1)) (picked_each rules p P q xs parts.1)
 
 -- ---- what a subscription and a response hold
-abbrev pub IsAsking : Instruction → Option ℕ → Type 0
-IsAsking Delete h = Unit {0}
-IsAsking DeleteAndAnswer h = Unit {0}
-IsAsking Answer None = ⊥
-IsAsking Answer (Some h) = Unit {0}
-IsAsking AnswerIfThere h = ⊥
-
-abbrev pub IsAnswer : Option ℕ → Option Row → Type 0
-IsAnswer None None = Unit {0}
-IsAnswer None (Some y) = ⊥
-IsAnswer (Some h) y = Unit {0}
-
 abbrev IsAskingTo : Key × Subscription → Type 0
 IsAskingTo s = IsAsking s.1.instruction s.1.hash
 
