@@ -11,3 +11,4 @@ pub mod JoinsRest
 pub mod TableInputs
 pub mod TablesRest
 pub mod Settling
+pub mod Told
