@@ -39,7 +39,7 @@ module _ (rules : Rules) (p : Plan) (fits : Fits p) (a l r : ℕ) (fk : List ℕ
   abbrev st : State
   st = state_of rules p records schedule
 
-  none_here : NoCollision rules p st → (k : Key) → NoneCollides rules.hash (left_past rules p fits a l r fk kind set stands k st)
+  pub none_here : NoCollision rules p st → (k : Key) → NoneCollides rules.hash (left_past rules p fits a l r fk kind set stands k st)
   none_here none k =
       let n = node_is 0 p.kinds a (ForeignKeyJoin l r fk kind set) stands in
       let is : a ≡ n.0 = (let e = n.1 in omega arith) in
@@ -67,7 +67,7 @@ module _ (rules : Rules) (p : Plan) (fits : Fits p) (a l r : ℕ) (fk : List ℕ
     pub result_rests : mine.result ≡ join.query same_bytes (field_key fk) rules.hash (right_part rules p r) (joined_with kind set) mine.row mine.right
     result_rests = result_at_rest same_bytes keys_decided (field_key fk) rules.hash (right_part rules p r) (joined_with kind set) mine (sees_sound rules p fits a l r fk kind set stands k st sees (none_here none k)) no_asking no_answers
 
-  wanted_is : (row : Option Row) (b : Key) → join.wanted same_bytes (field_key fk) rules.hash (right_part rules p r) (joined_with kind set) row b ≡ option_and_then (hash_for rules fk b) row
+  pub wanted_is : (row : Option Row) (b : Key) → join.wanted same_bytes (field_key fk) rules.hash (right_part rules p r) (joined_with kind set) row b ≡ option_and_then (hash_for rules fk b) row
   wanted_is None b = refl
   wanted_is (Some v) b = by_key (field_key fk v)
     where

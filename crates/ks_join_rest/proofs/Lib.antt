@@ -12,3 +12,5 @@ pub mod TableInputs
 pub mod TablesRest
 pub mod Settling
 pub mod Told
+pub mod Paired
+pub mod EachState

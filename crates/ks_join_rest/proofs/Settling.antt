@@ -1,5 +1,5 @@
 -- What a sound state says of a present row.
-use Rattle.std.proofs.Common.{◌≡◌, ℕ, Bool, List, [], Option, Some, None, fold, refl, sym, ap, ◌∙◌, Decides}
+use Rattle.std.proofs.Common.{◌≡◌, ℕ, Bool, [], Option, Some, None, fold, ap, ◌∙◌, Decides}
 use Rattle.ks_rest.specs.ForeignJoin.{Join, accept, key_of}
 use Rattle.ks_rest.proofs.OneKey.{Sound}
 

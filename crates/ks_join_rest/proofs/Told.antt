@@ -1,5 +1,5 @@
 -- What each state of a join's protocol tells: whose hashes are stored and wait, and that a row that went is told.
-use Rattle.std.proofs.Common.{◌≡◌, ◌≢◌, ℕ, Bool, true, false, cond, List, [], ◌∷◌, ◌++◌, Option, Some, None, fold, refl, sym, ap, subst, ◌∙◌, ◌⊎◌, inl, inr, ⊎_elim, nat_eq, Decides}
+use Rattle.std.proofs.Common.{◌≡◌, ℕ, Bool, true, false, cond, List, [], ◌∷◌, ◌++◌, Option, Some, None, fold, refl, sym, ap, subst, ◌∙◌, ◌⊎◌, inl, inr, ⊎_elim, nat_eq, Decides}
 use Rattle.std.proofs.lemmas.Bool.Decides.{Decides-eqb}
 use Rattle.std.proofs.lemmas.Bool.{cases_eq}
 use Rattle.ks_machine.specs.Collision.{In}
@@ -59,9 +59,9 @@ module _ {K X Y Z : Type 0} (alike : K → K → Bool) (decides : (a b : K) → 
       (elim (same_key alike (foreign_key v) (Some b)) as (λ u. same_key alike (foreign_key v) (Some b) ≡ u → In (Ask h) (cond u (Ask (hash v) ∷ []) (cond k (Forget ∷ []) [])) → HadHash (v ∷ had) b h) [
         | true ↦ λ u i. ⊎_elim (λ (e : Ask h ≡ Ask (hash v)). let same : h ≡ hash v = cc in (v, inl refl, sym same, same_key-is alike decides (foreign_key v) (Some b) u)) (λ j. absurd j) i
         | false ↦ λ u. elim k as (λ t. In (Ask h) (cond t (Forget ∷ []) []) → HadHash (v ∷ had) b h) [
-            | true ↦ λ i. ⊎_elim (λ (e : Ask h ≡ Forget). cc) (λ j. absurd j) i
-            | false ↦ λ i. absurd i
-          ]
+          | true ↦ λ i. ⊎_elim (λ (e : Ask h ≡ Forget). cc) (λ j. absurd j) i
+          | false ↦ λ i. absurd i
+        ]
       ]) refl
 
   gone_left : (st : Join K X Y Z) (w : Option X) → w ≡ None → Gone (happens alike foreign_key hash part joined st (LeftChanges w))

@@ -12,11 +12,11 @@ use Rattle.ks_topo.specs.Plan.{Plan, plan_of}
 use Rattle.ks_topo.specs.Plan.Kind.{ForeignKeyJoin}
 use Rattle.ks_query.specs.Streams.{Key, Input}
 use Rattle.ks_machine.specs.Messages.{Place, Instruction, Message, Rules}
-use Rattle.ks_machine.specs.Messages.Instruction.{Delete, DeleteAndAnswer, Answer, AnswerIfThere}
+use Rattle.ks_machine.specs.Messages.Instruction.{Delete, DeleteAndAnswer, Answer}
 use Rattle.ks_machine.specs.Messages.Message.{Asked, Answered}
 use Rattle.ks_machine.specs.Collision.{In, IsNode, NoCollision, past, rows_had}
 use Rattle.ks_machine.specs.Rest.{home}
-use Rattle.ks_rest.specs.ForeignJoin.{Subscription, Response, Join, apply, accept, same_key}
+use Rattle.ks_rest.specs.ForeignJoin.{Response, Join, apply, accept, same_key}
 use Rattle.ks_rest.specs.ForeignJoin.Subscription.{Forget, ForgetAndAnswer, Ask}
 use Rattle.ks_rest.specs.States.{State, state_of, home_task}
 use Rattle.ks_rest.specs.Taken.{messages}
@@ -105,7 +105,7 @@ OthersAreForgotten rules r fk kind set p j = (b : Key) → option_and_then (fiel
     ((last (j.subscriptions b) ≡ Some Forget) ⊎ (last (j.subscriptions b) ≡ Some ForgetAndAnswer)) ⊎ ((j.subscriptions b ≡ []) × (j.stored b ≡ None))
 
 -- the row of the last response with this hash
-abbrev pub last_with : ℕ → List (Response Row) → Option (Option Row)
+abbrev pub last_with : {Y : Type 0} → ℕ → List (Response Y) → Option (Option Y)
 last_with h [] = None
 last_with h (y ∷ ys) = option_or (last_with h ys) (cond (same_key nat_eq (Some h) y.hash) (Some y.row) None)
 

@@ -4,7 +4,9 @@
 #![tactic(auto)]
 
 mod joins;
+mod states;
 mod tables;
 
 pub use joins::joins_rest;
+pub use states::{join_messages_stand, joins_in_each_state};
 pub use tables::tables_rest;

@@ -1,0 +1,16 @@
+use Rattle.ks_topo.specs.Plan.{plan_of}
+use Rattle.ks_topo.specs.Plan.Kind.{ForeignKeyJoin}
+use Rattle.ks_rest.proofs.Fits.{node_stands}
+use Rattle.ks_rest.proofs.WellFormed.{well_formed_fits}
+use Rattle.ks_join_rest.proofs.EachState.{asked_stands, answered_stands}
+use Rattle.ks_join_rest.proofs.states.join_messages_stand.Goals as goal
+
+pub returns : goal.returns
+returns c rules d records schedule good n l r fk kind set is s i m =
+    let p = plan_of d in
+    let fits = well_formed_fits d good in
+    let stands = node_stands p n (ForeignKeyJoin l r fk kind set) is in
+    record {
+      asked = asked_stands rules p fits n l r fk kind set stands records schedule s i m;
+      answered = answered_stands rules p fits n l r fk kind set stands records schedule s i m;
+    }
