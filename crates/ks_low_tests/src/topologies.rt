@@ -167,7 +167,7 @@ fn first_faults(rt: HostRuntime) -> Result<(), Fail> {
         assert_eq!(rt; built(alloc, line)?.as_slice(), fault.as_bytes(), "{line}");
         count = count.wrapping_add(1);
     }
-    assert_eq!(rt; count, 120);
+    assert_eq!(rt; count, 121);
     Ok(())
 }
 
