@@ -293,7 +293,7 @@ module _ (rules : Rules) (p : Plan) (fits : Fits p) (a l r : ℕ) (fk : List ℕ
     channel_head u at b = at_channel (machine rules p) (names rules p) st.waiting u s at q (x ∷ rest) waits b
 
     -- ---- a response
-    module _ (at : q.topic ≡ Responses a) (n : Key) (y : Answer) (is : x.message ≡ Answered n y) (i0 : ℕ) (from : s ≡ Some (right_task p r i0)) (fit : IsAnswer y.hash y.right) where
+    module _ (at : q.topic ≡ Responses a) (n : Key) (y : Answer) (is : x.message ≡ Answered n y) (source : ℕ) (from : s ≡ Some (right_task p r source)) (fit : IsAnswer y.hash y.right) where
       key : step_key x.message ≡ Some n
       key = ap step_key is
 
@@ -350,14 +350,14 @@ module _ (rules : Rules) (p : Plan) (fits : Fits p) (a l r : ℕ) (fk : List ℕ
           let same : k ≡ n = (keys_decided k n).0 d in
           let to_me : answers_place rules p a k ≡ q = ap (answers_place rules p a) same ∙ sym place in
           let after = answered_to k (messages rest) in
-          let head : st.waiting (Some (right_task p r i0)) (answers_place rules p a k) ≡ x ∷ rest = ap₂ st.waiting (sym from) to_me ∙ waits in
-          let channel : (i : ℕ) → same_channel (machine rules p) (Some (right_task p r i)) (answers_place rules p a k) s q ≡ nat_eq i i0 = λ i.
+          let head : st.waiting (Some (right_task p r source)) (answers_place rules p a k) ≡ x ∷ rest = ap₂ st.waiting (sym from) to_me ∙ waits in
+          let channel : (i : ℕ) → same_channel (machine rules p) (Some (right_task p r i)) (answers_place rules p a k) s q ≡ nat_eq i source = λ i.
           ap₂ (λ u v. same_channel (machine rules p) (Some (right_task p r i)) (answers_place rules p a k) u v) from (sym to_me)
-          ∙ ap₂ (λ b c. b && c) (ap (λ b. b && nat_eq i i0) ((Decides-eqb (sub_of p r) (sub_of p r)).1 refl)) ((same_place-is (answers_place rules p a k) (answers_place rules p a k)).1 refl) ∙ and_true (nat_eq i i0) in
+          ∙ ap₂ (λ b c. b && c) (ap (λ b. b && nat_eq i source) ((Decides-eqb (sub_of p r) (sub_of p r)).1 refl)) ((same_place-is (answers_place rules p a k) (answers_place rules p a k)).1 refl) ∙ and_true (nat_eq i source) in
           record {
-            events = join.Event.ResponseComes i0 ∷ [];
+            events = join.Event.ResponseComes source ∷ [];
             then = had;
-            is = response_happens rules p r fk kind set j (see k had next) i0 (answers y) after
+            is = response_happens rules p r fk kind set j (see k had next) source (answers y) after
                 (ap (λ l. answered_to k (messages l)) head ∙ ap (λ m. answered_to k (m ∷ messages rest)) is ∙ ap (λ b. cond b (answers y ∷ after) after) d)
                 (row_same me l k left_quiet)
                 (result_here ∙ ap (λ b. cond b (option_map shown (news n a)) j.result) d ∙ ap (option_map shown) result_is ∙ respond_shown rules p r fk kind set (row_in (news n) l) y (olds n a) fit
@@ -366,7 +366,7 @@ module _ (rules : Rules) (p : Plan) (fits : Fits p) (a l r : ℕ) (fk : List ℕ
                 refl
                 (λ b. row_same (home_task rules p r b) r b right_quiet) (stored_same not_asked) asked_same
                 (λ i. answers_rest i ∙ ap (λ b. answered_to k (messages (cond b rest (st.waiting (Some (right_task p r i)) (answers_place rules p a k))))) (channel i)
-                ∙ elim (nat_eq i i0) as (λ b. answered_to k (messages (cond b rest (st.waiting (Some (right_task p r i)) (answers_place rules p a k)))) ≡ cond b after (j.responses i)) [ true ↦ refl | false ↦ refl ]);
+                ∙ elim (nat_eq i source) as (λ b. answered_to k (messages (cond b rest (st.waiting (Some (right_task p r i)) (answers_place rules p a k)))) ≡ cond b after (j.responses i)) [ true ↦ refl | false ↦ refl ]);
             within = λ was v i. past_grows v (was v i);
           }
 
