@@ -254,14 +254,14 @@ value_fits (object ms) v h e =
     subst (λ x. IfSome x IsRowBytes) k (p.0, row_fits ms p.0 h p.1, refl)
 
 -- ---- times
-time_is : (z : ℤ) (t : ℕ) → time_within z ≡ Ok t → t < 2 ^ 64
+time_is : (z : ℤ) (t : ℕ) → time_within z ≡ Ok t → t ≤ 2 ^ 53
 time_is (pos n) t e =
     let k = tested (nat_le n 9007199254740992) n (BadNumber (codes "ts")) t e in
     let l = leb-true n 9007199254740992 k.0 in
     omega arith
 time_is (negsuc n) t e = absurd (cc)
 
-time_fits : (o : Option Data) (t : ℕ) → time_from o ≡ Ok t → t < 2 ^ 64
+time_fits : (o : Option Data) (t : ℕ) → time_from o ≡ Ok t → t ≤ 2 ^ 53
 time_fits None t e = let k : 0 ≡ t = cc in omega arith
 time_fits (Some d) t e = let p = bound (integer_from (codes "ts") d) time_within t e in time_is p.0 t p.2
 
@@ -292,7 +292,8 @@ input_fits ts d i h e =
       topic = topic_below ts d b.0 b.1;
       key = key_fits (get (codes "key") d) c.0 (get_fits (codes "key") d h) c.1;
       value = value_fits v.0 w.0 (inner_fits (codes "value") d v.0 h v.1) w.1;
-      time = time_fits (get (codes "ts") d) t.0 t.1;
+      time = let f = time_fits (get (codes "ts") d) t.0 t.1 in omega arith;
+      range = time_fits (get (codes "ts") d) t.0 t.1;
     })
 
 -- ---- the topology's line

@@ -32,12 +32,13 @@ records_of is = some_of input_in is
 abbrev pub IsRowBytes : List ℕ → Type 0
 IsRowBytes bytes = (row : List Member) × FitsRow row × (bytes ≡ spelling row)
 
--- a record to one of so many topics: no key or a key, no value or a row's bytes
+-- a record to one of so many topics: no key or a key, no value or a row's bytes, a timestamp of at most 2^53 ms
 pub record IsRecord (topics : ℕ) (to : ℕ) (r : Rec) : Type 0 where
   pub topic : to < topics
   pub key : IfSome r.key IsKey
   pub value : IfSome r.value IsRowBytes
   pub time : r.ts < 2 ^ 64
+  pub range : r.ts ≤ 2 ^ 53
 
 abbrev pub AreRecords : ℕ → List ItemView → Type 0
 AreRecords topics [] = Unit {0}
