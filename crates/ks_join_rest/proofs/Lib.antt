@@ -14,3 +14,4 @@ pub mod Settling
 pub mod Told
 pub mod Paired
 pub mod EachState
+pub mod Examples
