@@ -4,3 +4,9 @@ pub mod Topics
 pub mod Pairs
 pub mod Named
 pub mod Folds
+pub mod Works
+pub mod Told
+pub mod Filling
+pub mod Publishing
+pub mod Starting
+pub mod Ordering

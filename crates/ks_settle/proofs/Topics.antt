@@ -1,6 +1,6 @@
 -- From one topic to the next.
 use Rattle.std.proofs.Common.{◌≡◌, ℕ, zero, suc, ◌||◌, ◌+◌, ◌<◌, ◌≤◌, Bool, true, false, List, [], ◌∷◌, length, get_or, map, refl, sym, ap, subst, ◌∙◌, arith}
-use Rattle.std.specs.Prelude.{◌==◌, None}
+use Rattle.std.specs.Prelude.{◌==◌, nat_lt}
 use Rattle.std.specs.List.{All}
 use Rattle.std.proofs.lemmas.Bool.{eqb-true, eqb-false, true≢false}
 use Rattle.std.proofs.lemmas.List.{length-map}
@@ -10,7 +10,8 @@ use Rattle.ks_row.specs.declared.record.TaskId.{TaskId}
 use Rattle.ks_row.specs.Parts.{same_task}
 use Rattle.ks_history.specs.declared.journal.Entry.{Entry}
 use Rattle.ks_history.specs.Machine.{part_of, has_topic}
-use Rattle.ks_history.specs.State.{Setup, IsSetup, has_task}
+use Rattle.ks_history.specs.State.{Setup, has_task}
+use Rattle.ks_commit.specs.Alone.{IsIdle}
 use Rattle.ks_history.specs.Reads.{end_of}
 use Rattle.ks_history.specs.Follows.{TaskView}
 use Rattle.ks_history.specs.History.{at}
@@ -79,7 +80,7 @@ stood_on setup journal more topic v f clean stands same = record {
 
 -- where nothing was to be committed
 pub quiet_on : (setup : Setup) (journal : List Entry) (topic : ℕ) (v : TaskView) → IsFilledTo setup journal topic v → IsTold setup.plan [] v → IsDrainedTo setup journal (topic + 1) v
-quiet_on setup journal topic v f told = stood_on setup journal journal topic v f (told.clean (λ k d lt. absurd (omega (arith, lt)))) f.stands (λ q h. refl)
+quiet_on setup journal topic v f told = stood_on setup journal journal topic v f told f.stands (λ q h. refl)
 
 -- ---- at the start and at the end
 pub fresh_is : (setup : Setup) (journal : List Entry) (t : TaskId) → has_task t setup.tasks ≡ true → Stands setup journal (fresh_view t) → IsDrainedTo setup journal 0 (fresh_view t)
@@ -106,11 +107,11 @@ get_map f (x ∷ xs) zero d = refl
 get_map f (x ∷ xs) (suc k) d = get_map f xs k d
 
 -- where all inputs of all tasks were taken and committed, the cluster is settled
-pub settled : (setup : Setup) (journal : List Entry) (n : ℕ) (vs : List TaskView) → IsSetup setup → n ≡ length setup.counts → map (λ v. v.task) vs ≡ setup.tasks →
-    All (IsDrainedTo setup journal n) vs → ((w : ℕ) → ((at setup journal).producer w).undecided ≡ None) → ((w : ℕ) → ((at setup journal).producer w).waiting ≡ []) → IsSettled setup (at setup journal)
-settled setup journal n vs made size names all undecided waiting = record {
-  undecided = λ w le. undecided w;
-  waiting = λ w le. waiting w;
+pub settled : (setup : Setup) (journal : List Entry) (n : ℕ) (vs : List TaskView) → ((t : TaskId) (topic : ℕ) → has_topic topic (setup.plan.inputs t.sub) ≡ true → topic < n) → map (λ v. v.task) vs ≡ setup.tasks →
+    All (IsDrainedTo setup journal n) vs → IsIdle (at setup journal) → IsSettled setup (at setup journal)
+settled setup journal n vs low names all idle = record {
+  undecided = λ w le. (idle w).0;
+  waiting = λ w le. (idle w).1;
   committed = λ t topic there input.
       let place = task_at t setup.tasks there in
       let k = place.0 in
@@ -119,7 +120,19 @@ settled setup journal n vs made size names all undecided waiting = record {
       let d : IsDrainedTo setup journal n v = all k (fresh_view t) inside in
       let is : v.task ≡ t = sym (get_map (λ v. v.task) vs k (fresh_view t)) ∙ ap (λ l. get_or l k t) names ∙ place.2 t in
       let input_of : has_topic topic (setup.plan.inputs v.task.sub) ≡ true = subst (λ (u : TaskId). has_topic topic (setup.plan.inputs u.sub) ≡ true) (sym is) input in
-      let low : topic < n = omega (arith, (made.inputs t topic there input).topic, size) in
       let kept : v.kept topic ≡ (at setup journal).committed v.task topic = d.stands.0.kept topic input_of in
-      ap (λ u. (at setup journal).committed u topic) (sym is) ∙ sym kept ∙ d.clean.kept topic input_of ∙ d.drained topic low input_of ∙ ap (λ u. end_of (at setup journal) (part_of topic u)) is;
+      ap (λ u. (at setup journal).committed u topic) (sym is) ∙ sym kept ∙ d.clean.kept topic input_of ∙ d.drained topic (low t topic input) input_of ∙ ap (λ u. end_of (at setup journal) (part_of topic u)) is;
 }
+
+-- up to a later topic, where no input of the task lies between
+pub raised : (setup : Setup) (journal : List Entry) (m n : ℕ) (v : TaskView) → ((u : ℕ) → m ≤ u → u < n → has_topic u (setup.plan.inputs v.task.sub) ≡ true → ⊥) → IsDrainedTo setup journal m v → IsDrainedTo setup journal n v
+raised setup journal m n v none d = record {
+  stands = d.stands;
+  known = d.known;
+  clean = d.clean;
+  drained = λ u lt h. by u lt h (nat_lt u m) refl;
+}
+  where
+    by : (u : ℕ) → u < n → has_topic u (setup.plan.inputs v.task.sub) ≡ true → (b : Bool) → nat_lt u m ≡ b → v.inputs u ≡ end_of (at setup journal) (part_of u v.task)
+    by u lt h true e = d.drained u (let g : u < m = grind (arith, nat_tests) in g) h
+    by u lt h false e = absurd (none u (let g : m ≤ u = grind (arith, nat_tests) in g) lt h)

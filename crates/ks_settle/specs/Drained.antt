@@ -1,17 +1,32 @@
--- A cluster that is brought to rest topic by topic: what holds of its tasks in between.
-use Rattle.std.specs.Prelude.{◌≡◌, ℕ, ◌<◌, ◌≤◌, ◌==◌, Bool, true, false, List, [], ◌∷◌}
-use Rattle.std.specs.List.{All}
+-- A cluster that is brought to rest topic by topic: what holds of its tasks in between, and what they hand to the commits.
+use Rattle.std.specs.Prelude.{◌≡◌, ℕ, ◌<◌, ◌≤◌, ◌+◌, ◌==◌, Bool, true, false, List, [], ◌∷◌, ◌++◌, length, map, Option, Some, None, if◌then◌else◌, IfSome, slice_index, slice_index_or}
+use Rattle.std.specs.List.{All, AllWithin}
 use Rattle.ks_row.specs.declared.record.PartId.{PartId}
+use Rattle.ks_row.specs.declared.record.TaskId.{TaskId}
+use Rattle.ks_row.specs.Parts.{same_task}
+use Rattle.ks_topo.specs.Drafts.{DraftView}
+use Rattle.ks_topo.specs.Plan.{plan_of}
+use Rattle.ks_topo.specs.Infos.{changelog_numbers}
 use Rattle.ks_history.specs.declared.journal.Request.{Request}
 use Rattle.ks_history.specs.declared.journal.Request.TheVariants.{Produce}
 use Rattle.ks_history.specs.declared.journal.Entry.{Entry}
-use Rattle.ks_history.specs.Machine.{Plan, part_of, has_topic}
-use Rattle.ks_history.specs.State.{State, Setup, has_task}
+use Rattle.ks_history.specs.Machine.{Plan, IsNetwork, part_of, has_topic}
+use Rattle.ks_history.specs.State.{State, Setup, IsSetup, has_task}
 use Rattle.ks_history.specs.Reads.{end_of}
 use Rattle.ks_history.specs.Follows.{TaskView}
-use Rattle.ks_history.specs.History.{at}
-use Rattle.ks_follow.specs.Views.{Stands, WorkView, IsFrozen, recs_at}
-use Rattle.ks_settle.specs.Reading.{IsClean}
+use Rattle.ks_history.specs.History.{at, IsHistory, IsPrefix}
+use Rattle.ks_follow.specs.Views.{Stands, WorkView, IsFrozen, fresh_view, committed_view, names_part, are_topics_once, SendsInside}
+use Rattle.ks_follow.specs.Commits.{commits_for, commit_by}
+use Rattle.ks_history.specs.State.{pending_of}
+use Rattle.ks_cluster.specs.Kept.{Kept, setup_of, state_of}
+use Rattle.ks_answer.specs.Jobs.{produces}
+use Rattle.ks_commit.specs.declared.publisher.Publisher.{Publisher}
+use Rattle.ks_commit.specs.Committed.{IsReady, MayCommit, EachMay, AreApart, names_in, EachEnds}
+use Rattle.ks_commit.specs.Sending.{pendings_of}
+use Rattle.ks_task.specs.declared.task.Task.{Task}
+use Rattle.ks_task.specs.Tasks.{task_view, IsTaskOf}
+use Rattle.ks_task.specs.Views.{own_ends}
+use Rattle.ks_settle.specs.Reading.{SendsOn, IsClean, HasRead, HasReadAll}
 
 -- ---- a journal of inputs alone
 abbrev pub is_produce : Request → Bool
@@ -21,6 +36,14 @@ is_produce request = false
 abbrev pub OnlyProduces : List Entry → Type 0
 OnlyProduces [] = Unit {0}
 OnlyProduces (entry ∷ entries) = (is_produce entry.request ≡ true) × OnlyProduces entries
+
+-- ---- what a cluster's tasks must keep to be drained: they make a network, send to later topics alone and inside the cluster
+pub record MayDrain (setup : Setup) : Type 0 where
+  pub made : IsSetup setup
+  pub network : IsNetwork setup.plan
+  pub sends : SendsOn setup.plan
+  pub inside : SendsInside setup
+  pub once : (sub : ℕ) → are_topics_once (setup.plan.inputs sub) ≡ true
 
 -- ---- tasks between two topics
 -- the task has taken and committed all of its inputs before this topic, and holds nothing
@@ -38,15 +61,140 @@ pub record IsFilledTo (setup : Setup) (journal : List Entry) (topic : ℕ) (v : 
   pub made : (q : PartId) → q.topic ≤ topic → v.made q ≡ []
   pub drained : (u : ℕ) → u ≤ topic → has_topic u (setup.plan.inputs v.task.sub) ≡ true → v.inputs u ≡ end_of (at setup journal) (part_of u v.task)
 
--- these works are those of tasks among which this one is: any of its own name is its own, and without one it holds nothing
-pub record IsTold (plan : Plan) (works : List WorkView) (v : TaskView) : Type 0 where
-  pub frozen : All (λ f. f.task ≡ v.task → IsFrozen plan v f) works
-  pub clean : All (λ f. f.task ≡ v.task → ⊥) works → IsClean plan v
+-- ---- works
+abbrev pub work_for : TaskId → List WorkView → Option WorkView
+work_for t [] = None
+work_for t (f ∷ fs) = if same_task t f.task then Some f else work_for t fs
 
--- all that these works hold is for topics after this one
-abbrev pub AreLater : ℕ → List WorkView → Type 0
-AreLater topic works = All (λ f. (q : PartId) → q.topic ≤ topic → recs_at q f.outputs ≡ []) works
+abbrev pub with_work : List WorkView → Option WorkView → List WorkView
+with_work fs None = fs
+with_work fs (Some f) = fs ++ f ∷ []
+
+-- the task's work is this one; without one it holds nothing
+abbrev pub IsToldBy : Plan → TaskView → Option WorkView → Type 0
+IsToldBy plan v None = IsClean plan v
+IsToldBy plan v (Some f) = IsFrozen plan v f
+
+abbrev pub IsTold : Plan → List WorkView → TaskView → Type 0
+IsTold plan fs v = IsToldBy plan v (work_for v.task fs)
+
+-- the ends that were answered to a task's work
+abbrev pub ends_for : TaskId → List WorkView → List (List (ℕ × ℕ)) → Option (List (ℕ × ℕ))
+ends_for t [] ends = None
+ends_for t (f ∷ fs) [] = None
+ends_for t (f ∷ fs) (e ∷ es) = if same_task t f.task then Some e else ends_for t fs es
+
+abbrev pub told_view : DraftView → TaskView → Option (List (ℕ × ℕ)) → TaskView
+told_view d v None = v
+told_view d v (Some ends) = committed_view v (own_ends (changelog_numbers (plan_of d) v.task.sub) ends)
 
 -- partitions of topics up to this one end where they did
 abbrev pub SameEnds : State → State → ℕ → Type 0
 SameEnds s new topic = (q : PartId) → q.topic ≤ topic → end_of new q ≡ end_of s q
+
+-- ---- one task reads a topic
+-- a task of the topology that reads the topic, and follows the journal
+pub record IsReader (d : DraftView) (setup : Setup) (journal : List Entry) (topic : ℕ) (t : Task) : Type 0 where
+  pub of : IsTaskOf d t
+  pub stands : Stands setup journal (task_view t)
+  pub known : has_task (task_view t).task setup.tasks ≡ true
+  pub input : has_topic topic (setup.plan.inputs (task_view t).task.sub) ≡ true
+
+-- one fetch: whether it moved the task
+pub record IsFetched (d : DraftView) (setup : Setup) (journal : List Entry) (topic : ℕ) (moved : Bool) (old new : Task) : Type 0 where
+  pub of : IsTaskOf d new
+  pub read : HasRead setup journal topic (task_view old) (task_view new)
+  pub stays : moved ≡ false → new ≡ old
+  pub ends : moved ≡ false → (task_view old).inputs topic ≡ end_of (at setup journal) (part_of topic (task_view old).task)
+  pub moves : moved ≡ true → (task_view old).inputs topic + 1 ≤ (task_view new).inputs topic
+
+-- all fetches of the topic
+pub record IsReadOn (d : DraftView) (setup : Setup) (journal : List Entry) (topic : ℕ) (moved : Bool) (old new : Task) : Type 0 where
+  pub of : IsTaskOf d new
+  pub read : HasReadAll setup journal topic (task_view old) (task_view new)
+  pub stays : moved ≡ false → new ≡ old
+
+-- the task has read the topic to its end, and this is the work that it then has, if it has one
+pub record IsRead (d : DraftView) (setup : Setup) (journal : List Entry) (topic : ℕ) (old new : Task) (f : Option WorkView) : Type 0 where
+  pub of : IsTaskOf d new
+  pub task : (task_view new).task ≡ (task_view old).task
+  pub filled : IsFilledTo setup journal topic (task_view new)
+  pub told : IsToldBy setup.plan (task_view new) f
+  pub may : IfSome f (MayCommit setup (at setup journal))
+  pub later : IfSome f (λ f. (q : PartId) → q.topic ≤ topic → names_part q f.outputs ≡ false)
+
+-- ---- all tasks
+abbrev pub ids : List Task → List TaskId
+ids ts = map (λ t. (task_view t).task) ts
+
+abbrev pub Rests : DraftView → Setup → List Entry → ℕ → Task → Type 0
+Rests d setup journal topic t = IsTaskOf d t × IsDrainedTo setup journal topic (task_view t)
+
+abbrev pub IsFull : DraftView → Setup → List Entry → ℕ → List WorkView → Task → Type 0
+IsFull d setup journal topic fs t = IsTaskOf d t × IsFilledTo setup journal topic (task_view t) × IsTold setup.plan fs (task_view t)
+
+-- the works of tasks that have read a topic to its end
+pub record AreWorks (setup : Setup) (journal : List Entry) (topic : ℕ) (fs : List WorkView) : Type 0 where
+  pub may : EachMay setup (at setup journal) fs
+  pub apart : AreApart fs
+  pub later : (q : PartId) → q.topic ≤ topic → names_in q fs ≡ false
+
+-- the first of the tasks have read the topic, and these are their works
+pub record AreReading (d : DraftView) (setup : Setup) (journal : List Entry) (topic : ℕ) (i : ℕ) (ts : List Task) (fs : List WorkView) : Type 0 where
+  pub names : ids ts ≡ setup.tasks
+  pub full : AllWithin (IsFull d setup journal topic fs) ts 0 i
+  pub rest : AllWithin (λ t. Rests d setup journal topic t × (work_for (task_view t).task fs ≡ None)) ts i (length ts)
+  pub works : AreWorks setup journal topic fs
+
+-- the works were committed, and these ends answered
+pub record ArePublished (setup : Setup) (journal new : List Entry) (topic : ℕ) (fs : List WorkView) (told : List (List (ℕ × ℕ))) : Type 0 where
+  pub more : List Entry
+  pub worker : ℕ
+  pub is : new ≡ journal ++ more
+  pub history : IsHistory setup new
+  pub commits : (t : TaskId) → commits_for setup (at setup journal) more t ≡ commit_by worker (pending_of t (pendings_of fs))
+  pub ends : EachEnds setup (at setup new) fs told
+  pub same : SameEnds (at setup journal) (at setup new) topic
+
+-- each task was told the ends that were answered to its work
+pub record IsToldTask (d : DraftView) (fs : List WorkView) (ends : List (List (ℕ × ℕ))) (old new : Task) : Type 0 where
+  pub of : IsTaskOf d new
+  pub view : task_view new ≡ told_view d (task_view old) (ends_for (task_view old).task fs ends)
+
+pub record AreToldBy (d : DraftView) (fs : List WorkView) (ends : List (List (ℕ × ℕ))) (old new : List Task) : Type 0 where
+  pub names : ids new ≡ ids old
+  pub count : length new ≡ length old
+  pub told : (k : ℕ) (t : Task) → k < length old → IsToldTask d fs ends (slice_index_or old k t) (slice_index_or new k t)
+
+-- the first of the tasks were
+pub record AreToldTo (d : DraftView) (fs : List WorkView) (ends : List (List (ℕ × ℕ))) (i : ℕ) (old new : List Task) : Type 0 where
+  pub names : ids new ≡ ids old
+  pub count : length new ≡ length old
+  pub told : (k : ℕ) (t : Task) → k < i → IsToldTask d fs ends (slice_index_or old k t) (slice_index_or new k t)
+  pub rest : (k : ℕ) (t : Task) → i ≤ k → slice_index_or new k t ≡ slice_index_or old k t
+
+-- ---- the cluster between two topics
+-- all tasks are there, and have taken and committed all of their inputs before this topic
+pub record AreResting {W : Type 0} (plan : W → Plan) (c : Kept W) (publisher : Publisher) (d : DraftView) (topic : ℕ) (ts : List Task) : Type 0 where
+  pub ready : IsReady (setup_of plan c) (state_of plan c) publisher
+  pub names : ids ts ≡ c.tasks
+  pub rest : All (Rests d (setup_of plan c) c.journal topic) ts
+
+-- new tasks of the topology, with these names
+pub record AreFresh (d : DraftView) (all : List TaskId) (ts : List Task) : Type 0 where
+  pub names : ids ts ≡ all
+  pub fresh : All (λ t. IsTaskOf d t × (task_view t ≡ fresh_view (task_view t).task)) ts
+
+-- the cluster's journal is longer, with no further input; all else is the same
+pub record Extends {W : Type 0} (old new : Kept W) : Type 0 where
+  pub same : new ≡ record old { journal = new.journal }
+  pub prefix : IsPrefix old.journal new.journal
+  pub produces : produces new.journal ≡ produces old.journal
+
+-- the first topics of an order were drained
+pub record IsDraining {W : Type 0} (plan : W → Plan) (first c : Kept W) (publisher : Publisher) (d : DraftView) (order : List ℕ) (i : ℕ) (ts : List Task) : Type 0 where
+  pub extends : Extends first c
+  pub bound : ℕ
+  pub below : (k : ℕ) → k < i → slice_index order k < bound
+  pub above : (k : ℕ) → i ≤ k → k < length order → bound ≤ slice_index order k
+  pub rest : AreResting plan c publisher d bound ts

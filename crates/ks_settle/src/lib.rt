@@ -1,7 +1,11 @@
 //! A cluster is brought to rest, and its tables are read.
 #![tactic(auto)]
 
+mod draining;
+mod reading;
 mod rows;
 mod shown;
+mod telling;
 
+pub use draining::drain;
 pub use shown::tables;

@@ -1,0 +1,185 @@
+//! A cluster is brought to rest, topic by topic.
+ghost use Rattle.std.specs.Prelude.{◌≡◌, ◌+◌, ◌≤◌, ℕ, true, map, length, [], IfOk, OnOk, option_map};
+ghost use Rattle.std.specs.List.{All};
+ghost use Rattle.ks_topo.specs.Topologies.{draft_of, plan_in};
+ghost use Rattle.ks_topo.specs.Infos.{changelog_numbers};
+ghost use Rattle.ks_topo.specs.Layout.{tasks as all_tasks};
+ghost use Rattle.ks_history.specs.Settled.{IsSettled};
+ghost use Rattle.ks_work.specs.Work.{work_of, setup_of as topology_setup};
+ghost use Rattle.ks_cluster.specs.Kept.{Kept, setup_of, state_of};
+ghost use Rattle.ks_commit.specs.Alone.{IsIdle};
+ghost use Rattle.ks_commit.specs.Committed.{works_of, IsReady};
+ghost use Rattle.ks_commit.specs.Work.{work_view};
+ghost use Rattle.ks_task.specs.Built.{IsBuilt, rules_of};
+ghost use Rattle.ks_task.specs.Tasks.{task_view, IsTaskOf};
+ghost use Rattle.ks_follow.specs.Views.{fresh_view};
+ghost use Rattle.ks_settle.specs.Drained.{MayDrain, with_work, AreReading, AreResting, AreFresh, Extends, OnlyProduces, ids};
+
+use crate::reading::read_task;
+use crate::telling::tell;
+use ks_cluster::{Cluster, Work};
+use ks_commit::{Frozen, Publisher, commit};
+use ks_hash::Hash128;
+use ks_task::{Task, TaskWork};
+use ks_topo::Topology;
+use std::alloc::{AllocError, Global};
+
+fn keep(works: &mut Vec<Frozen>, work: Option<Frozen>) -> Result<(), AllocError>
+    ensures { OnOk result (works_of works.new.items ≡ with_work (works_of works.old.items) (option_map work_view work)) }
+{
+    match work {
+        Some(work) => works.push(work)?,
+        None => {}
+    }
+    Ok(())
+}
+
+// Each task that reads the topic reads it to its end; what they then have to commit.
+fn read_tasks<H: Hash128, V: Work, W: Work>(
+    alloc: Global,
+    topology: &Topology,
+    work: &V,
+    cluster: &Cluster<W>,
+    tasks: &mut Vec<Task>,
+    topic: u16,
+) -> Result<Vec<Frozen>, AllocError>
+    requires may { MayDrain (setup_of W.plan cluster.now) }
+    requires idle { IsIdle (state_of W.plan cluster.now) }
+    requires work { W.plan cluster.now.work ≡ work_of (rules_of H.hash_of) (plan_in topology.now) }
+    requires inputs { V.plan work.now ≡ W.plan cluster.now.work }
+    requires reading { AreReading (draft_of topology.now) (setup_of W.plan cluster.now) cluster.now.journal topic 0 tasks.old.items [] }
+    ensures { IfOk result (λ works. AreReading (draft_of topology.now) (setup_of W.plan cluster.now) cluster.now.journal topic (length tasks.new.items) tasks.new.items (works_of works.items)) }
+{
+    let mut works = Vec::new(alloc);
+    for i in 0..tasks.len() {
+        let task = &mut tasks[i];
+        let inputs = work.inputs(task.id().sub);
+        let own = read_task::<H, W>(alloc, topology, cluster, inputs, task, topic)?;
+        keep(&mut works, own)?;
+    }
+    Ok(works)
+}
+
+// Commits the works in one transaction, with all its markers, and tells the tasks.
+fn publish<W: Work>(
+    alloc: Global,
+    topology: &Topology,
+    cluster: &mut Cluster<W>,
+    publisher: &mut Publisher,
+    tasks: &mut Vec<Task>,
+    works: &[Frozen],
+    topic: u16,
+) -> Result<(), AllocError>
+    requires may { MayDrain (setup_of W.plan cluster.old) }
+    requires logs { (sub : ℕ) → (W.plan cluster.old.work).changelogs sub ≡ changelog_numbers (plan_in topology.now) sub }
+    requires ready { IsReady (setup_of W.plan cluster.old) (state_of W.plan cluster.old) publisher.old }
+    requires reading { AreReading (draft_of topology.now) (setup_of W.plan cluster.old) cluster.old.journal topic (length tasks.old.items) tasks.old.items (works_of works.now) }
+    ensures { OnOk result (AreResting W.plan cluster.new publisher.new (draft_of topology.now) (topic + 1) tasks.new.items × Extends cluster.old cluster.new) }
+{
+    if works.is_empty() {
+        return Ok(());
+    }
+    let ends = commit(alloc, cluster, publisher, works)?;
+    let _journal = cluster.journal();
+    tell(topology, tasks, works, ends.as_slice());
+    Ok(())
+}
+
+// The tasks that read the topic read it to its end, and then one transaction commits what they made.
+fn drain_topic<H: Hash128, V: Work, W: Work>(
+    alloc: Global,
+    topology: &Topology,
+    work: &V,
+    cluster: &mut Cluster<W>,
+    publisher: &mut Publisher,
+    tasks: &mut Vec<Task>,
+    topic: u16,
+) -> Result<(), AllocError>
+    requires may { MayDrain (setup_of W.plan cluster.old) }
+    requires work { W.plan cluster.old.work ≡ work_of (rules_of H.hash_of) (plan_in topology.now) }
+    requires inputs { V.plan work.now ≡ W.plan cluster.old.work }
+    requires resting { AreResting W.plan cluster.old publisher.old (draft_of topology.now) topic tasks.old.items }
+    ensures { OnOk result (AreResting W.plan cluster.new publisher.new (draft_of topology.now) (topic + 1) tasks.new.items × Extends cluster.old cluster.new) }
+{
+    let works = read_tasks::<H, V, W>(alloc, topology, work, cluster, tasks, topic)?;
+    publish(
+        alloc,
+        topology,
+        cluster,
+        publisher,
+        tasks,
+        works.as_slice(),
+        topic,
+    )
+}
+
+fn fresh_tasks(alloc: Global, topology: &Topology) -> Result<Vec<Task>, AllocError>
+    requires { IsBuilt (plan_in topology.now) }
+    ensures { IfOk result (λ v. AreFresh (draft_of topology.now) (all_tasks (plan_in topology.now)) v.items) }
+{
+    let names = topology.tasks();
+    let mut tasks = Vec::new(alloc);
+    for i in 0..names.len() {
+        tasks.push(Task::fresh(alloc, topology, names[i])?)?;
+    }
+    Ok(tasks)
+}
+
+// Topic by topic, in the drain order.
+fn drain_all<H: Hash128, V: Work, W: Work>(
+    alloc: Global,
+    topology: &Topology,
+    work: &V,
+    cluster: &mut Cluster<W>,
+    publisher: &mut Publisher,
+    tasks: &mut Vec<Task>,
+) -> Result<(), AllocError>
+    requires setup { setup_of W.plan cluster.old ≡ topology_setup (rules_of H.hash_of) (plan_in topology.now) }
+    requires may { MayDrain (setup_of W.plan cluster.old) }
+    requires inputs { V.plan work.now ≡ work_of (rules_of H.hash_of) (plan_in topology.now) }
+    requires resting { AreResting W.plan cluster.old publisher.old (draft_of topology.now) 0 tasks.old.items }
+    ensures { OnOk result (IsSettled (setup_of W.plan cluster.new) (state_of W.plan cluster.new) × Extends cluster.old cluster.new) }
+{
+    let order = topology.drain_order();
+    for i in 0..order.len() {
+        drain_topic::<H, V, W>(alloc, topology, work, cluster, publisher, tasks, order[i])?;
+    }
+    Ok(())
+}
+
+// A worker of its own that has every task, and a new task for each.
+fn begin<W: Work>(
+    alloc: Global,
+    topology: &Topology,
+    cluster: &mut Cluster<W>,
+) -> Result<(Publisher, Vec<Task>), AllocError>
+    requires may { MayDrain (setup_of W.plan cluster.old) }
+    requires tasks { cluster.old.tasks ≡ all_tasks (plan_in topology.now) }
+    requires built { IsBuilt (plan_in topology.now) }
+    requires produced { OnlyProduces cluster.old.journal }
+    ensures { IfOk result (λ r. AreResting W.plan cluster.new r.0 (draft_of topology.now) 0 r.1.items × Extends cluster.old cluster.new) }
+{
+    let _journal = cluster.journal();
+    let publisher = Publisher::start(alloc, cluster, 16, topology.tasks())?;
+    let tasks = fresh_tasks(alloc, topology)?;
+    Ok((publisher, tasks))
+}
+
+/// Brings to rest a cluster of a topology in which nothing but records of its inputs stand, at a worker of its own, 16: topic by
+/// topic, in the drain order, the tasks that read it read it to its end, and then one transaction commits what they made.
+pub fn drain<H: Hash128, W: Work>(
+    alloc: Global,
+    topology: &Topology,
+    cluster: &mut Cluster<W>,
+) -> Result<(), AllocError>
+    requires setup { setup_of W.plan cluster.old ≡ topology_setup (rules_of H.hash_of) (plan_in topology.now) }
+    requires built { IsBuilt (plan_in topology.now) }
+    requires produced { OnlyProduces cluster.old.journal }
+    ensures settled { OnOk result (IsSettled (setup_of W.plan cluster.new) (state_of W.plan cluster.new)) }
+    ensures more { OnOk result (Extends cluster.old cluster.new) }
+{
+    let _nodes = topology.nodes();
+    let (mut publisher, mut tasks) = begin(alloc, topology, cluster)?;
+    let work: TaskWork<'_, H> = TaskWork::new(topology);
+    drain_all::<H, TaskWork<'_, H>, W>(alloc, topology, &work, cluster, &mut publisher, &mut tasks)
+}
