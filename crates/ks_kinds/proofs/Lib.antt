@@ -6,3 +6,4 @@ pub mod Values
 pub mod Made
 pub mod Kept
 pub mod Plans
+pub mod Hashes

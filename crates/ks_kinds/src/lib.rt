@@ -3,6 +3,7 @@
 #![tactic(auto)]
 
 ghost use Rattle.ks_kinds.specs.Fitting.{DecidedAreOfKind, PlansFit};
+ghost use Rattle.ks_kinds.specs.Hashes.{MurmurFits};
 ghost use Rattle.ks_kinds.specs.OfKind.{KindsAreRead};
 
 mod fitting;
@@ -23,4 +24,9 @@ pub fn plans_fit()
 /// A record of its topic's kind spells a message: no task lets it go unread.
 pub fn kinds_are_read()
     ensures { KindsAreRead }
+{}
+
+/// Rules that hash a row's bytes by MurmurHash3 have hashes of 128 bits, as the law on decided records wants of them.
+pub fn murmur_fits()
+    ensures { MurmurFits }
 {}
