@@ -1,5 +1,6 @@
 pub mod Lists
 pub mod Logs
+pub mod Counts
 pub mod Cuts
 pub mod Steps
 pub mod Groups

@@ -1,4 +1,5 @@
 pub mod Placed
+pub mod Ends
 pub mod Producers
 pub mod Group
 pub mod Replies

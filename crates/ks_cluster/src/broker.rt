@@ -13,7 +13,6 @@ use crate::producers::{
     new_producers, parts_with, pending_copies, pending_with, renew, set_parts, set_pending,
     set_tasks, set_waiting, tasks_with, unstable_refusal, waiting_with,
 };
-use crate::reading::end_in;
 use ks_history::{Pending, Producer, Slot};
 use ks_row::{Assignment, PartId, Rec, Refused, Seq, TaskId};
 use std::alloc::{AllocError, Global};
@@ -43,9 +42,9 @@ impl Broker {
         ensures ok { IfOk result (λ n. Moves self.old self.new (Produce part rec) (Number n)) }
         ensures err { OnErr result (self.new ≡ self.old) }
     {
-        let end = end_in(self.log.as_slice(), part);
+        let end = self.log.end(part);
         let placed = one_placed(alloc, part, Slot::Plain { rec })?;
-        self.log.append(placed)?;
+        self.log.append(part, placed)?;
         Ok(end)
     }
 
@@ -109,8 +108,8 @@ impl Broker {
         }
         let tasks = tasks_with(alloc, p, task)?;
         let more = sent(alloc, part, w, epoch, number, task, recs)?;
-        let first = end_in(self.log.as_slice(), part);
-        self.log.append(more)?;
+        let first = self.log.end(part);
+        self.log.append(part, more)?;
         let p = &mut self.producers[w as usize];
         set_tasks(alloc, p, tasks);
         Ok(Ok(first))
@@ -232,7 +231,7 @@ impl Broker {
             commit: marker.commit,
         };
         let placed = one_placed(alloc, marker.part, slot)?;
-        self.log.append(placed)?;
+        self.log.append(marker.part, placed)?;
         let p = &mut self.producers[w as usize];
         set_waiting(p, rest);
         Ok(Some((marker.part, marker.commit)))

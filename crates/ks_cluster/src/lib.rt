@@ -4,6 +4,7 @@
 mod append;
 mod broker;
 mod cluster;
+mod ends;
 mod group;
 mod log;
 mod producers;

@@ -1,6 +1,8 @@
 //! The log: the slots of all partitions in one list, each beside its partition.
 ghost use Rattle.std.specs.Prelude.{◌≡◌, ◌<◌, ◌^◌, ◌++◌, [], length, OnOk, OnErr};
+ghost use Rattle.ks_cluster.specs.Placed.{slots_in, placed_at};
 
+use crate::ends::{end_of, kept_place};
 use ks_history::Slot;
 use ks_row::PartId;
 use std::alloc::{AllocError, Global};
@@ -16,21 +18,23 @@ pub struct Placed {
     pub slot: Slot,
 }
 
-/// The slots of all partitions in the order in which they were written, fewer than 2^48.
+/// The slots of all partitions in the order in which they were written, fewer than 2^48, and the ends of the partitions.
 #[derive(Drop)]
 pub struct Log {
     placed: Vec<Placed>,
+    ends: Vec<(PartId, u64)>,
 }
 
 impl Model for Log {
-    ghost use Rattle.std.specs.Prelude.{List, length, ◌<◌, ◌^◌};
+    ghost use Rattle.std.specs.Prelude.{List};
     ghost use Rattle.ks_cluster.specs.declared.log.Placed.{Placed};
+    ghost use Rattle.ks_cluster.specs.Ends.{KeepsEnds};
 
     ghost Value = { List Placed };
 
     ghost view = { λ l. l.placed.items };
 
-    ghost invariant = { λ l. length l.placed.items < 2 ^ 48 };
+    ghost invariant = { λ l. KeepsEnds l.ends.items l.placed.items };
 }
 
 impl Log {
@@ -39,6 +43,7 @@ impl Log {
     {
         Log {
             placed: Vec::new(alloc),
+            ends: Vec::new(alloc),
         }
     }
 
@@ -49,17 +54,30 @@ impl Log {
         self.placed.as_slice()
     }
 
-    /// More slots at the end. Where the log would have 2^48 of them this is want of memory, after which it is as before.
-    pub fn append(&mut self, more: Vec<Placed>) -> Result<(), AllocError>
+    /// The end of a partition: the offset of the next slot. It is kept, so the log isn't gone through.
+    pub fn end(&self, part: PartId) -> u64
+        ensures { result ≡ length (slots_in part self.now) }
+    {
+        end_of(self.ends.as_slice(), part)
+    }
+
+    /// More slots at the end of one partition. Where the log would have 2^48 of them this is want of memory, after which
+    /// it is as before.
+    pub fn append(&mut self, part: PartId, more: Vec<Placed>) -> Result<(), AllocError>
+        requires { more.items ≡ placed_at part (slots_in part more.items) }
         ensures ok { OnOk result (self.new ≡ self.old ++ more.items) }
         ensures few { OnOk result (length self.new < 2 ^ 48) }
         ensures err { OnErr result (self.new ≡ self.old) }
     {
         let mut more = more;
-        if self.placed.len().saturating_add(more.len()) >= LIMIT {
+        let count = more.len();
+        if self.placed.len().saturating_add(count) >= LIMIT {
             return Err(AllocError);
         }
+        let at = kept_place(&mut self.ends, part)?;
+        let end = end_of(self.ends.as_slice(), part);
         self.placed.append(&mut more)?;
+        self.ends[at] = (part, end + count as u64);
         Ok(())
     }
 }

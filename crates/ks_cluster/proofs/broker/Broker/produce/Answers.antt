@@ -1,11 +1,9 @@
-use Rattle.std.proofs.Common.{◌≡◌, ◌++◌, length, refl, ap, ◌∙◌}
-use Rattle.ks_cluster.specs.Placed.{slots_in}
+use Rattle.std.proofs.Common.{◌≡◌, ◌++◌, refl, ap, ◌∙◌}
 use Rattle.ks_cluster.proofs.Steps.{produced}
 use Rattle.ks_cluster.proofs.broker.Broker.produce.Goals as goal
 
 pub returns-clause-ok : goal.returns-clause-ok
 returns-clause-ok c =
-    produced c.args.self.now _ c.args.part c.args.rec c.end_in-end.result
+    produced c.args.self.now _ c.args.part c.args.rec c.end-end.result
     (c.in_ok-append.ensures.ok ∙ ap (λ l. c.args.self.now.log ++ l) c.in_ok-placed.ensures)
-    c.in_ok-append.ensures.few refl refl
-    (c.end_in-end.ensures ∙ ap (λ l. length (slots_in c.args.part l)) c.as_slice.ensures.slots)
+    c.in_ok-append.ensures.few refl refl c.end-end.ensures
