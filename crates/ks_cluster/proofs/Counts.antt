@@ -47,7 +47,7 @@ pub end-set : (q p : PartId) (n : ℕ) (ends : List Kept) → end_place p ends <
 end-set q p n [] h = absurd (omega arith)
 end-set q p n (kept ∷ ends) h =
     elim (same_part p kept.0) as (λ b. same_part p kept.0 ≡ b → cond b 0 (suc (end_place p ends)) < suc (length ends)
-        → kept_end q (set (kept ∷ ends) (cond b 0 (suc (end_place p ends))) (p, n)) ≡ cond (same_part q p) n (kept_end q (kept ∷ ends))) [
+    → kept_end q (set (kept ∷ ends) (cond b 0 (suc (end_place p ends))) (p, n)) ≡ cond (same_part q p) n (kept_end q (kept ∷ ends))) [
       | true ↦ λ is h. twice (same_part q p) n kept.1 (kept_end q ends)
           ∙ ap (λ r. cond (same_part q p) n (cond (same_part q r) kept.1 (kept_end q ends))) (same_part-is p kept.0 is)
       | false ↦ λ is h. ap (λ m. cond (same_part q kept.0) kept.1 m) (end-set q p n ends (omega (arith, h)))
@@ -76,6 +76,7 @@ log_grown ends ends' log more p end k stand same there is few = record {
     grows : (q : PartId) → length (slots_in q (log ++ more)) ≡ length (slots_in q log) + length (cond (same_part q p) (slots_in p more) [])
     grows q = ap length (slots_in-append q log more) ∙ length-append (slots_in q log) (slots_in q more)
         ∙ ap (λ l. length (slots_in q log) + length l) (ap (slots_in q) stand ∙ slots_in-placed q p (slots_in p more))
+
     raised : (q : PartId) → cond (same_part q p) (end + length more) (kept_end q ends') ≡ length (slots_in q log) + length (cond (same_part q p) (slots_in p more) [])
     raised q =
         let many : length more ≡ length (slots_in p more) = ap length stand ∙ length-placed p (slots_in p more) in

@@ -59,10 +59,10 @@ decided-is f g same at (Sent w e number task rec ∷ slots) =
 decided-is f g same at (Mark w e commit ∷ slots) = decided-is f g same (at + 1) slots
 
 -- ---- fetch
-pub read-is : (setup : Setup) (s : State) (b : Broker) (p : PartId) (from limit : ℕ) (all made : List (ℕ × Rec)) → IsAt setup s b
-    → all ≡ readable_pairs 0 (slots_in p b.log) → made ≡ take limit (at_or_past from all) → made ≡ read from limit (s.partition p)
-read-is setup s b p from limit all made k every cut =
-    cut ∙ ap (λ l. take limit (at_or_past from l)) (every ∙ ap (readable_pairs 0) (k.log_is p) ∙ readable-is 0 (s.partition p))
+pub read-is : (setup : Setup) (s : State) (b : Broker) (p : PartId) (from limit : ℕ) (made : List (ℕ × Rec)) → IsAt setup s b
+    → made ≡ take limit (at_or_past from (readable_pairs 0 (slots_in p b.log))) → made ≡ read from limit (s.partition p)
+read-is setup s b p from limit made k cut =
+    cut ∙ ap (λ l. take limit (at_or_past from l)) (ap (readable_pairs 0) (k.log_is p) ∙ readable-is 0 (s.partition p))
     ∙ ap (take limit) (at_or_past-with from (readable (s.partition p)))
 
 pub stable-is : (setup : Setup) (s : State) (b : Broker) (p : PartId) (n : ℕ) → IsAt setup s b → n ≡ stable (slots_in p b.log) → n ≡ stable (s.partition p)

@@ -15,9 +15,7 @@ use crate::append::{copies, copy};
 use crate::broker::Broker;
 use crate::group::{copy_assignment, copy_held};
 use crate::producers::new_pending;
-use crate::reading::{
-    cut_from, decided_in, ends_in, next_in, pending_count, readable_in, stable_in,
-};
+use crate::reading::{decided_in, ends_in, next_in, pending_count, readable_in, stable_in};
 use crate::replies::{done, numbered, told};
 use crate::work::Work;
 use ks_history::{Entry, Journal, Reply, Request};
@@ -370,8 +368,7 @@ impl<W: Work> Cluster<W> {
         ensures next { IfOk result (λ r. r.1 ≡ (fetched (state_of W.plan self.now) part from max).1) }
     {
         let log = self.broker.log.as_slice();
-        let all = readable_in(alloc, log, part)?;
-        let made = cut_from(alloc, all.as_slice(), from, max as usize)?;
+        let made = readable_in(alloc, log, part, from, max as usize)?;
         let stable = stable_in(log, part);
         let next = next_in(made.as_slice(), from, max as usize, stable)?;
         Ok((made, next))
@@ -403,7 +400,7 @@ impl<W: Work> Cluster<W> {
         requires { All (IsPart (setup_of W.plan self.now)) parts.now }
         ensures { IfOk result (λ v. v.items ≡ ends_of (state_of W.plan self.now) parts.now) }
     {
-        ends_in(alloc, self.broker.log.as_slice(), parts)
+        ends_in(alloc, &self.broker.log, parts)
     }
 
     /// The journal. It is legal and faithful, and has fewer than 2^48 records.

@@ -1,29 +1,17 @@
 //! What the readers of a partition are given.
-ghost use Rattle.std.specs.Prelude.{◌≡◌, ◌++◌, ◌∷◌, [], take, length, map, max, IfOk, ◌≤◌, ◌==◌, if◌then◌else◌};
+ghost use Rattle.std.specs.Prelude.{◌≡◌, ◌++◌, ◌∷◌, [], ℕ, List, take, length, map, max, IfOk, ◌≤◌, ◌<◌, ◌==◌, if◌then◌else◌};
 ghost use Rattle.ks_history.specs.Partition.{next_mark, stable, past_last, decision};
 ghost use Rattle.ks_history.specs.Faithful.{marker_among};
 ghost use Rattle.ks_cluster.specs.Placed.{slots_in};
 ghost use Rattle.ks_cluster.specs.Producers.{waiting_in, pending_in};
+ghost use Rattle.ks_row.specs.declared.record.Rec.{Rec as Record};
 ghost use Rattle.ks_cluster.specs.Reading.{readable_pairs, decided_pairs, at_or_past, end_at};
 
 use crate::append::copy;
-use crate::log::Placed;
+use crate::log::{Log, Placed};
 use ks_history::{Producer, Slot};
 use ks_row::{Marker, PartId, Rec};
 use std::alloc::{AllocError, Global};
-
-/// The end of a partition: the offset of the next slot.
-pub fn end_in(log: &[Placed], part: PartId) -> u64
-    ensures { result ≡ length (slots_in part log.now) }
-{
-    let mut end: u64 = 0;
-    for placed in log {
-        if part.is(placed.part) {
-            end += 1;
-        }
-    }
-    end
-}
 
 /// How the next marker of this producer and epoch decides.
 fn next_mark_in(log: &[Placed], part: PartId, w: u8, epoch: u64) -> Option<bool>
@@ -75,63 +63,58 @@ pub fn stable_in(log: &[Placed], part: PartId) -> u64
     at
 }
 
-/// The readable records of a partition.
+/// Takes a record at an offset where that is at or past the first one, and answers how many may still be taken.
+fn take_at(
+    made: &mut Vec<(u64, Rec)>,
+    at: u64,
+    rec: &Rec,
+    from: u64,
+    left: usize,
+) -> Result<usize, AllocError>
+    requires { 0 < left }
+    ensures { IfOk result (λ less. (rest : List (ℕ × Record)) → made.new.items ++ take less (at_or_past from rest) ≡ made.old.items ++ take left (at_or_past from ((at, rec.now) ∷ rest))) }
+{
+    if from > at {
+        return Ok(left);
+    }
+    made.push((at, copy(rec)?))?;
+    Ok(left - 1)
+}
+
+/// The first readable records of a partition at or past an offset, at most so many. No other is copied.
 pub fn readable_in(
     alloc: Global,
     log: &[Placed],
     part: PartId,
+    from: u64,
+    limit: usize,
 ) -> Result<Vec<(u64, Rec)>, AllocError>
-    ensures { IfOk result (λ made. made.items ≡ readable_pairs 0 (slots_in part log.now)) }
+    ensures { IfOk result (λ made. made.items ≡ take limit (at_or_past from (readable_pairs 0 (slots_in part log.now)))) }
 {
     let mut made = Vec::new(alloc);
     let mut at: u64 = 0;
+    let mut left = limit;
     for (i, placed) in log.iter().enumerate() {
+        if left == 0 {
+            return Ok(made);
+        }
         if part.is(placed.part) {
             match &placed.slot {
-                Slot::Plain { rec } => made.push((at, copy(rec)?))?,
+                Slot::Plain { rec } => left = take_at(&mut made, at, rec, from, left)?,
                 Slot::Sent {
                     producer,
                     epoch,
                     number: _,
                     task: _,
                     rec,
-                } => {
-                    match next_mark_in(&log[i + 1..], part, *producer, *epoch) {
-                        None => return Ok(made),
-                        Some(true) => made.push((at, copy(rec)?))?,
-                        Some(false) => {}
-                    }
-                }
-                Slot::Mark {
-                    producer: _,
-                    epoch: _,
-                    commit: _,
-                } => {}
+                } => match next_mark_in(&log[i + 1..], part, *producer, *epoch) {
+                    None => return Ok(made),
+                    Some(true) => left = take_at(&mut made, at, rec, from, left)?,
+                    Some(false) => {}
+                },
+                _ => {}
             }
             at += 1;
-        }
-    }
-    Ok(made)
-}
-
-/// Those at or past an offset, at most so many.
-pub fn cut_from(
-    alloc: Global,
-    recs: &[(u64, Rec)],
-    from: u64,
-    limit: usize,
-) -> Result<Vec<(u64, Rec)>, AllocError>
-    ensures { IfOk result (λ made. made.items ≡ take limit (at_or_past from recs.now)) }
-{
-    let mut made = Vec::new(alloc);
-    let mut left = limit;
-    for r in recs {
-        if left == 0 {
-            return Ok(made);
-        }
-        if from <= r.0 {
-            made.push((r.0, copy(&r.1)?))?;
-            left -= 1;
         }
     }
     Ok(made)
@@ -164,12 +147,12 @@ pub fn next_in(recs: &[(u64, Rec)], from: u64, limit: usize, stable: u64) -> Res
 }
 
 /// The ends of some partitions.
-pub fn ends_in(alloc: Global, log: &[Placed], parts: &[PartId]) -> Result<Vec<u64>, AllocError>
+pub fn ends_in(alloc: Global, log: &Log, parts: &[PartId]) -> Result<Vec<u64>, AllocError>
     ensures { IfOk result (λ ends. ends.items ≡ map (end_at log.now) parts.now) }
 {
     let mut ends = Vec::new(alloc);
     for part in parts {
-        ends.push(end_in(log, *part))?;
+        ends.push(log.end(*part))?;
     }
     Ok(ends)
 }

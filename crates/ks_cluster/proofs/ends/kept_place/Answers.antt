@@ -1,4 +1,4 @@
-use Rattle.std.proofs.Common.{◌≡◌, ◌≤◌, ◌<◌, length, refl, sym, ap, ◌∙◌, subst, arith}
+use Rattle.std.proofs.Common.{length, sym, ap, ◌∙◌, arith}
 use Rattle.ks_cluster.specs.Ends.{kept_end, end_place}
 use Rattle.ks_cluster.proofs.Counts.{end-more, place-more, place_within}
 use Rattle.ks_cluster.proofs.ends.kept_place.Goals as goal

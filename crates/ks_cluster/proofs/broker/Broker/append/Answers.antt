@@ -1,4 +1,4 @@
-use Rattle.std.proofs.Common.{◌≡◌, ◌++◌, refl, ap, ◌∙◌}
+use Rattle.std.proofs.Common.{◌++◌, refl, ap, ◌∙◌}
 use Rattle.ks_history.specs.Partition.{count_sent, sent_slots}
 use Rattle.ks_cluster.specs.Placed.{slots_in}
 use Rattle.ks_cluster.proofs.Counts.{stand_in}

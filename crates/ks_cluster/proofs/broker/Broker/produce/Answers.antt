@@ -1,4 +1,4 @@
-use Rattle.std.proofs.Common.{◌≡◌, ◌++◌, refl, ap, ◌∙◌}
+use Rattle.std.proofs.Common.{◌++◌, refl, ap, ◌∙◌}
 use Rattle.ks_cluster.proofs.Steps.{produced}
 use Rattle.ks_cluster.proofs.broker.Broker.produce.Goals as goal
 

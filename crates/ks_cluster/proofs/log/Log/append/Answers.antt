@@ -1,6 +1,5 @@
-use Rattle.std.proofs.Common.{◌≡◌, ◌++◌, ◌+◌, ◌≤◌, ◌<◌, ◌^◌, List, length, set, refl, sym, ap, ◌∙◌, subst, arith}
+use Rattle.std.proofs.Common.{◌≡◌, ◌++◌, ◌+◌, ◌<◌, ◌^◌, List, length, set, sym, ap, ◌∙◌, subst, arith}
 use Rattle.ks_cluster.specs.declared.log.Placed.{Placed}
-use Rattle.ks_cluster.specs.Placed.{slots_in, placed_at}
 use Rattle.ks_cluster.specs.Ends.{kept_end, end_place, KeepsEnds}
 use Rattle.ks_cluster.proofs.Counts.{slots_few, log_grown}
 use Rattle.ks_cluster.proofs.log.Log.append.Goals as goal
@@ -21,7 +20,7 @@ invariant_of-self-2 c =
     let count_is : c.len-count.result ≡ length more = c.len-count.ensures ∙ c.args.more.ok.0 in
     let few : length placed + length more < 2 ^ 48 = omega (arith, c.if-saturating_add-ge-LIMIT.false, c.saturating_add.ensures, c.len.ensures, count_is, c.self.inside.placed.ok.0) in
     let grown = log_grown c.self.inside.ends.items ends placed more part end c.self.invariant c.requires c.in_ok-at.ensures.same
-        (subst (λ at. at < length ends) c.in_ok-at.ensures.place c.in_ok-at.ensures.there) end_is few in
+    (subst (λ at. at < length ends) c.in_ok-at.ensures.place c.in_ok-at.ensures.there) end_is few in
     subst (λ (l : List Placed). KeepsEnds (set ends c.in_ok-at.at (part, end + c.len-count.result)) l) (sym c.in_ok-append.ensures.items)
     (subst (λ at. KeepsEnds (set ends at (part, end + c.len-count.result)) (placed ++ more)) (sym c.in_ok-at.ensures.place)
     (subst (λ n. KeepsEnds (set ends (end_place part ends) (part, end + n)) (placed ++ more)) (sym count_is) grown))
