@@ -15,7 +15,7 @@ use crate::append::{copies, copy};
 use crate::broker::Broker;
 use crate::group::{copy_assignment, copy_held};
 use crate::producers::new_pending;
-use crate::reading::{decided_in, ends_in, next_in, pending_count, readable_in, stable_in};
+use crate::reading::{decided_in, ends_in, next_in, pending_count, readable_in};
 use crate::replies::{done, numbered, told};
 use crate::work::Work;
 use ks_history::{Entry, Journal, Reply, Request};
@@ -369,8 +369,7 @@ impl<W: Work> Cluster<W> {
     {
         let log = self.broker.log.as_slice();
         let made = readable_in(alloc, log, part, from, max as usize)?;
-        let stable = stable_in(log, part);
-        let next = next_in(made.as_slice(), from, max as usize, stable)?;
+        let next = next_in(made.as_slice(), log, part, from, max as usize)?;
         Ok((made, next))
     }
 

@@ -37,7 +37,7 @@ fn next_mark_in(log: &[Placed], part: PartId, w: u8, epoch: u64) -> Option<bool>
 }
 
 /// The last stable offset: where the first record stands that no marker completes, or the end.
-pub fn stable_in(log: &[Placed], part: PartId) -> u64
+fn stable_in(log: &[Placed], part: PartId) -> u64
     ensures { result ≡ stable (slots_in part log.now) }
 {
     let mut at: u64 = 0;
@@ -135,14 +135,21 @@ fn past_last_in(recs: &[(u64, Rec)]) -> Result<u64, AllocError>
     Ok(last + 1)
 }
 
-/// Where the next read goes on after one that gave these records, of at most so many.
-pub fn next_in(recs: &[(u64, Rec)], from: u64, limit: usize, stable: u64) -> Result<u64, AllocError>
-    ensures { IfOk result (λ next. next ≡ (if length recs.now == limit then past_last recs.now else max from stable)) }
+/// Where the next read goes on after one that gave these records, of at most so many. The last stable offset is looked for
+/// only where they are fewer.
+pub fn next_in(
+    recs: &[(u64, Rec)],
+    log: &[Placed],
+    part: PartId,
+    from: u64,
+    limit: usize,
+) -> Result<u64, AllocError>
+    ensures { IfOk result (λ next. next ≡ (if length recs.now == limit then past_last recs.now else max from (stable (slots_in part log.now)))) }
 {
     if recs.len() == limit {
         past_last_in(recs)
     } else {
-        Ok(from.max(stable))
+        Ok(from.max(stable_in(log, part)))
     }
 }
 

@@ -15,9 +15,10 @@ returns-clause-records g c =
 
 pub returns-clause-next : goal.returns-clause-next
 returns-clause-next g c =
+    let log = c.as_slice-log.result.now in
     let is = read-is _ _ c.self.inside.broker c.args.part c.args.from c.args.max c.in_ok-made.made.items c.self.invariant.stands
     (c.in_ok-made.ensures ∙ ap (λ l. take c.args.max (at_or_past c.args.from (readable_pairs 0 (slots_in c.args.part l)))) c.as_slice-log.ensures.slots) in
     subst (λ v. c.in_ok-next.next ≡ read_next c.args.from c.args.max ((state_of g.W.Work.plan v).partition c.args.part)) c.self.view_is
-    (next-is _ _ c.self.inside.broker c.args.part c.args.from c.args.max c.stable_in-stable.result c.in_ok-next.next c.in_ok-made.made.items c.self.invariant.stands is
-    (c.stable_in-stable.ensures ∙ ap (λ l. stable (slots_in c.args.part l)) c.as_slice-log.ensures.slots)
-    (c.in_ok-next.ensures ∙ ap (λ l. cond (length l == c.args.max) (past_last l) (max c.args.from c.stable_in-stable.result)) c.as_slice.ensures.value))
+    (next-is _ _ c.self.inside.broker c.args.part c.args.from c.args.max (stable (slots_in c.args.part log)) c.in_ok-next.next c.in_ok-made.made.items c.self.invariant.stands is
+    (ap (λ l. stable (slots_in c.args.part l)) c.as_slice-log.ensures.slots)
+    (c.in_ok-next.ensures ∙ ap (λ l. cond (length l == c.args.max) (past_last l) (max c.args.from (stable (slots_in c.args.part log)))) c.as_slice.ensures.value))
