@@ -15,3 +15,4 @@ pub mod Told
 pub mod Paired
 pub mod EachState
 pub mod Examples
+pub mod WindowCounts

@@ -6,7 +6,9 @@
 mod joins;
 mod states;
 mod tables;
+mod windows;
 
 pub use joins::joins_rest;
 pub use states::{join_messages_stand, joins_in_each_state};
 pub use tables::tables_rest;
+pub use windows::window_counts_rest;
