@@ -1,0 +1,5 @@
+pub mod Trees
+pub mod Windows
+pub mod Lists
+pub mod Founds
+pub mod Plans

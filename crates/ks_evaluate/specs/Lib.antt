@@ -1,0 +1,5 @@
+pub mod Trees
+pub mod Nodes
+pub mod Found
+pub mod Printing
+pub mod Hops

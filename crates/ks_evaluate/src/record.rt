@@ -1,0 +1,59 @@
+//! Records of a job.
+ghost use Rattle.std.specs.Prelude.{◌≡◌, option_copied};
+
+use ks_row::{Key, Row};
+use std::marker::Model;
+
+/// A record of a job: its topic by number, a key if it has one, a row or none, and its time in milliseconds.
+#[derive(Drop)]
+pub struct JobRecord {
+    topic: u16,
+    key: Option<Key>,
+    row: Option<Row>,
+    time: u64,
+}
+
+impl Model for JobRecord {
+    ghost use Rattle.ks_query.specs.Streams.{Input};
+
+    ghost Value = { Input };
+
+    ghost view = { λ r. record { topic = r.topic; key = r.key; value = r.row; time = r.time } };
+}
+
+impl JobRecord {
+    pub fn new(topic: u16, key: Option<Key>, row: Option<Row>, time: u64) -> JobRecord
+        ensures { result ≡ record { topic = topic; key = key; value = row; time = time } }
+    {
+        JobRecord {
+            topic,
+            key,
+            row,
+            time,
+        }
+    }
+
+    pub fn topic(&self) -> u16
+        ensures { result ≡ self.now.topic }
+    {
+        self.topic
+    }
+
+    pub fn key(&self) -> Option<&Key>
+        ensures { option_copied result ≡ self.now.key }
+    {
+        self.key.as_ref()
+    }
+
+    pub fn row(&self) -> Option<&Row>
+        ensures { option_copied result ≡ self.now.value }
+    {
+        self.row.as_ref()
+    }
+
+    pub fn time(&self) -> u64
+        ensures { result ≡ self.now.time }
+    {
+        self.time
+    }
+}
