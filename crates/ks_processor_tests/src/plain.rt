@@ -4,7 +4,7 @@ use ks_expr::{Expr, JoinKind, Pred, Proj};
 use ks_fk_left::{Answer, respond, subscriptions};
 use ks_hash::{Hash128, Murmur3};
 use ks_row::{Change, Key, Name, Row, Seq, decode, encode};
-use ks_table_ops::{filter_row, join_rows, map_row};
+use ks_table_ops::{filter_row, join_rows, joined_after, map_row};
 use ks_window::{first_start, starts};
 use ks_wire::{Agg, Delta, Response, write_agg, write_subscription};
 use std::alloc::{AllocError, Global};
@@ -53,6 +53,12 @@ enum Call {
     JoinField {
         kind: JoinKind,
         left: &'static [u8],
+        right: &'static [u8],
+    },
+    /// An inner join of a left row that changes and of a right row that stays.
+    JoinAfter {
+        old: &'static [u8],
+        new: &'static [u8],
         right: &'static [u8],
     },
     Subscriptions {
@@ -178,6 +184,22 @@ fn joined(alloc: Global, kind: JoinKind, left: &[u8], right: &[u8]) -> Result<Ve
     row_bytes(alloc, made.as_ref())
 }
 
+fn joined_late(alloc: Global, old: &[u8], new: &[u8], right: &[u8]) -> Result<Vec<u8>, AllocError> {
+    let Some(key) = Key::of_text(alloc, "k1")? else {
+        return nothing(alloc);
+    };
+    let Some(same_key) = Key::of_text(alloc, "k1")? else {
+        return nothing(alloc);
+    };
+    let Some(set) = field_of(alloc)? else {
+        return nothing(alloc);
+    };
+    let left = change(alloc, key, old, new)?;
+    let right = change(alloc, same_key, right, right)?;
+    let made = joined_after(alloc, JoinKind::Inner, &set, &left, &right)?;
+    row_bytes(alloc, made.as_ref())
+}
+
 fn asked<H: Hash128>(alloc: Global, old: &[u8], new: &[u8]) -> Result<Vec<u8>, AllocError> {
     let Some(fk) = Name::of_text(alloc, "r")? else {
         return nothing(alloc);
@@ -243,6 +265,7 @@ fn answer<H: Hash128>(alloc: Global, call: &Call) -> Result<Vec<u8>, AllocError>
         Call::FilterBelowTwo { row } => filtered(alloc, row),
         Call::MapField { row } => mapped(alloc, row),
         Call::JoinField { kind, left, right } => joined(alloc, kind, left, right),
+        Call::JoinAfter { old, new, right } => joined_late(alloc, old, new, right),
         Call::Subscriptions { old, new } => asked::<H>(alloc, old, new),
         Call::Respond {
             kind,
@@ -331,6 +354,14 @@ const CALLS: &[(Call, &[u8])] = &[
             right: EU,
         },
         ONE,
+    ),
+    (
+        Call::JoinAfter {
+            old: ONE,
+            new: TWO,
+            right: EU,
+        },
+        TWO,
     ),
     (
         Call::JoinField {

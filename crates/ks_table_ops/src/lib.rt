@@ -7,7 +7,7 @@ ghost use Rattle.ks_expr.specs.Terms.{test_of, set_of};
 ghost use Rattle.ks_expr.specs.Eval.{holds as is_met, project as projected, joined, asks};
 
 use ks_expr::{JoinKind, Pred, Proj, holds, project};
-use ks_row::Row;
+use ks_row::{Change, Row};
 use std::alloc::{AllocError, Global};
 
 /// The row itself where it meets the predicate; none where there is no row or it doesn't.
@@ -61,4 +61,18 @@ pub fn join_rows(
     } else {
         Ok(None)
     }
+}
+
+/// The row of a key join after a step in which its sides changed so: that of the rows which they have after the step. A side that
+/// did not change has the same row before and after.
+pub fn joined_after(
+    alloc: Global,
+    kind: JoinKind,
+    set: &Proj,
+    left: &Change,
+    right: &Change,
+) -> Result<Option<Row>, AllocError>
+    ensures { IfOk result (λ r. r ≡ joined kind (set_of set.now) left.now.new right.now.new) }
+{
+    join_rows(alloc, kind, set, left.new.as_ref(), right.new.as_ref())
 }
