@@ -1,17 +1,16 @@
 -- A job's reader along its bytes: what it has come to stays.
-use Rattle.std.proofs.Common.{◌≡◌, ℕ, zero, suc, ◌+◌, ◌<◌, ◌≤◌, List, [], ◌∷◌, ◌++◌, length, refl, sym, ap, ◌∙◌, Bool, true, false, cond, arith}
+use Rattle.std.proofs.Common.{◌≡◌, ℕ, ◌<◌, ◌≤◌, List, [], ◌∷◌, ◌++◌, length, refl, sym, ap, ◌∙◌, Bool, true, false, cond, arith}
 use Rattle.std.specs.Prelude.{Option, Some, None, Result, Ok, Err, ◌==◌, ⊤}
 use Rattle.std.specs.Option.{option_or}
 use Rattle.ks_line.specs.declared.fault.JobKind.{JobKind}
 use Rattle.ks_job.specs.Items.{ItemView, TopologyAt, RecordTo}
 use Rattle.ks_job.specs.Lines.{Spot, judged}
 use Rattle.ks_job.specs.Phases.{IsFaulty, Answers}
-use Rattle.ks_job.specs.Reader.{Reader, Reading, Faulty, Machine, with_item, after_line, is_line_end, longer, after_byte, after, closed, closed_by, at_end, end_of, so_far}
+use Rattle.ks_job.specs.Reader.{Reader, Reading, Faulty, Machine, with_item, after_line, is_line_end, longer, after_byte, after, closed, at_end, end_of, so_far}
 use Rattle.ks_job.proofs.Ends.{reading_ends}
 use Rattle.ks_job.specs.declared.reader.JobFault.{JobFault}
 use Rattle.ks_run.specs.declared.stop.Stop.{Stop}
-use Rattle.ks_run.specs.declared.stop.Stop.TheVariants.{BadLine}
-use Rattle.ks_run.specs.Reading.{machine_of, answer_stop, Ends}
+use Rattle.ks_run.specs.Reading.{answer_stop}
 use Rattle.ks_run.specs.Stops.{topology_stop, line_stop, stop_of}
 
 -- ---- the topology that has come stays

@@ -1,5 +1,5 @@
 -- A job taken from a source, piece by piece.
-use Rattle.std.proofs.Common.{◌≡◌, ℕ, ◌+◌, ◌<◌, List, [], ◌∷◌, ◌++◌, length, refl, sym, ap, subst, ◌∙◌, Bool, true, false, cond, arith, rules, append_assoc}
+use Rattle.std.proofs.Common.{◌≡◌, ℕ, List, [], ◌∷◌, ◌++◌, length, refl, sym, ap, ◌∙◌, Bool, true, false, cond, rules, append_assoc}
 use Rattle.std.proofs.lemmas.List.{append-nil}
 use Rattle.std.specs.Prelude.{Option, Some, None, Result, Ok, Err, ⊤, IfSome, OnOk, option_map, ◌==◌}
 use Rattle.std.specs.Option.{option_or}
@@ -7,7 +7,7 @@ use Rattle.std.specs.Io.KnownBytes.{Consumes, IsAtEnd, Keeps as StayKnown}
 use Rattle.std.specs.declared.vec.Vec.{Vec}
 use Rattle.std.specs.declared.alloc.Global.{Global}
 use Rattle.std.proofs.lemmas.Bool.Decides.{Decides-eqb}
-use Rattle.ks_job.specs.Items.{ItemView, item_view, item_views}
+use Rattle.ks_job.specs.Items.{ItemView, item_views}
 use Rattle.ks_job.specs.declared.judge.JobItem.{JobItem}
 use Rattle.ks_job.specs.declared.reader.JobFault.{JobFault}
 use Rattle.ks_job.specs.Phases.{Fed, Answers}
@@ -15,7 +15,7 @@ use Rattle.ks_job.specs.Reader.{Reader, Machine, after, end_of, so_far, whole}
 use Rattle.ks_job.proofs.Cuts.{after_both}
 use Rattle.ks_run.specs.declared.stop.Stop.{Stop}
 use Rattle.ks_run.specs.Answers.{TookNoFault}
-use Rattle.ks_run.specs.Reading.{machine_of, answer_stop, Ends}
+use Rattle.ks_run.specs.Reading.{machine_of, answer_stop, Ends, Read}
 use Rattle.ks_run.specs.Stops.{topology_stop, line_stop, stop_of}
 use Rattle.ks_run.proofs.Machines.{Keeps, keeps_after, keeps_end, stays_after, stays_at_end, unrefused, answered}
 
@@ -99,22 +99,33 @@ pub unstopped_more : (m : Option Machine) (got piece : List ℕ) (o : Option Sto
     IfSome m (λ x. topology_stop x.items ≡ None → o ≡ stop_of (after x piece)) → o ≡ stop_of (so_far (got ++ piece))
 unstopped_more m got piece o e u h = at_machine (λ x. topology_stop x.items ≡ None → o ≡ stop_of (after x piece)) m (so_far got) e h (unrefused (so_far got) u) ∙ ap stop_of (sym (after_both _ got piece))
 
+known_end : (a b c : Option (List ℕ)) (got piece : List ℕ) → Consumes a b got → piece ≡ [] → Consumes b c piece → IsAtEnd c → IfSome a (λ bytes. bytes ≡ got)
+known_end None b c got piece p z q end = search rules
+known_end (Some xs) None c got piece p z q end = absurd p
+known_end (Some xs) (Some ys) None got piece p z q end = absurd q
+known_end (Some xs) (Some ys) (Some zs) got piece p z q end = p ∙ ap (λ l. got ++ l) (q ∙ rw (z, end) refl) ∙ append-nil got
+
 pub read_to_end : (a b c : Option (List ℕ)) (m : Option Machine) (got piece : List ℕ) (r : Result (Vec JobItem Global) Stop) → Consumes a b got → piece ≡ [] → Consumes b c piece → IsAtEnd c →
-    m ≡ Some (so_far got) → stop_of (so_far got) ≡ None → IfSome m (λ x. topology_stop x.items ≡ None → Ends (end_of x.reader x.items) r) → IfSome a (λ bytes. Ends (whole bytes) r)
-read_to_end None b c m got piece r p z q end e u h = search rules
-read_to_end (Some xs) None c m got piece r p z q end e u h = absurd p
-read_to_end (Some xs) (Some ys) None m got piece r p z q end e u h = absurd q
-read_to_end (Some xs) (Some ys) (Some zs) m got piece r p z q end e u h =
-    let all : xs ≡ got = p ∙ ap (λ l. got ++ l) (q ∙ rw (z, end) refl) ∙ append-nil got in
-    subst (λ l. Ends (whole l) r) (sym all) (at_machine (λ x. topology_stop x.items ≡ None → Ends (end_of x.reader x.items) r) m (so_far got) e h (unrefused (so_far got) u))
+    m ≡ Some (so_far got) → stop_of (so_far got) ≡ None → IfSome m (λ x. topology_stop x.items ≡ None → Ends (end_of x.reader x.items) r) → Read a r
+read_to_end a b c m got piece r p z q end e u h = record {
+  bytes = got;
+  known = known_end a b c got piece p z q end;
+  ends = at_machine (λ x. topology_stop x.items ≡ None → Ends (end_of x.reader x.items) r) m (so_far got) e h (unrefused (so_far got) u);
+}
+
+stopped_on : (xs got piece rest : List ℕ) (stop : Stop) → xs ≡ (got ++ piece) ++ rest → stop_of (so_far (got ++ piece)) ≡ Some stop → stop_of (whole xs) ≡ Some stop
+stopped_on xs got piece rest stop all here =
+    let on : stop_of (so_far xs) ≡ Some stop = ap (λ l. stop_of (so_far l)) all ∙ (ap stop_of (after_both _ (got ++ piece) rest) ∙ stays_after (so_far (got ++ piece)) rest stop here) in
+    stays_at_end (so_far xs) stop on
 
 pub stopped_early : (a b c : Option (List ℕ)) (m : Option Machine) (got piece : List ℕ) (stop : Stop) → Consumes a b got → Consumes b c piece → m ≡ Some (so_far got) → stop_of (so_far got) ≡ None →
-    IfSome m (λ x. topology_stop x.items ≡ None → Some stop ≡ stop_of (after x piece)) → IfSome a (λ bytes. stop_of (whole bytes) ≡ Some stop)
-stopped_early None b c m got piece stop p q e u h = search rules
+    IfSome m (λ x. topology_stop x.items ≡ None → Some stop ≡ stop_of (after x piece)) → Read a (Err stop)
+stopped_early None b c m got piece stop p q e u h =
+    let here : stop_of (so_far (got ++ piece)) ≡ Some stop = sym (unstopped_more m got piece (Some stop) e u h) in
+    record { bytes = got ++ piece; known = tt; ends = stopped_on (got ++ piece) got piece [] stop (sym (append-nil (got ++ piece))) here }
 stopped_early (Some xs) None c m got piece stop p q e u h = absurd p
 stopped_early (Some xs) (Some ys) None m got piece stop p q e u h = absurd q
 stopped_early (Some xs) (Some ys) (Some zs) m got piece stop p q e u h =
     let all : xs ≡ (got ++ piece) ++ zs = cc (append_assoc got piece zs) in
     let here : stop_of (so_far (got ++ piece)) ≡ Some stop = sym (unstopped_more m got piece (Some stop) e u h) in
-    let on : stop_of (so_far xs) ≡ Some stop = ap (λ l. stop_of (so_far l)) all ∙ (ap stop_of (after_both _ (got ++ piece) zs) ∙ stays_after (so_far (got ++ piece)) zs stop here) in
-    stays_at_end (so_far xs) stop on
+    record { bytes = xs; known = refl; ends = stopped_on xs got piece zs stop all here }

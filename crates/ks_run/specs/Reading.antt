@@ -1,5 +1,5 @@
 -- A job as it is read: the reader with the items so far, and what is known when reading ends.
-use Rattle.std.specs.Prelude.{◌≡◌, ℕ, List, Option, Some, None, Result, Ok, Err, ⊤}
+use Rattle.std.specs.Prelude.{◌≡◌, ℕ, List, Option, Some, None, IfSome, Result, Ok, Err, ⊤}
 use Rattle.std.specs.declared.vec.Vec.{Vec}
 use Rattle.std.specs.declared.alloc.Global.{Global}
 use Rattle.ks_job.specs.Items.{item_views}
@@ -23,3 +23,9 @@ answer_stop (Err f) = Some (BadLine f.line f.kind)
 abbrev pub Ends : Machine → Result (Vec JobItem Global) Stop → Type 0
 Ends m (Ok items) = (stop_of m ≡ None) × (item_views items.items ≡ m.items)
 Ends m (Err stop) = stop_of m ≡ Some stop
+
+-- some bytes end so, and they are those that the source has, where it tells them
+pub record Read (left : Option (List ℕ)) (r : Result (Vec JobItem Global) Stop) : Type 0 where
+  pub bytes : List ℕ
+  pub known : IfSome left (λ b. b ≡ bytes)
+  pub ends : Ends (whole bytes) r

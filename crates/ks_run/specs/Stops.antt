@@ -1,17 +1,20 @@
 -- Why an input is no job that can be run: its first faulty line, what is wrong with its topology, or a kind of node that is
 -- not built.
-use Rattle.std.specs.Prelude.{◌≡◌, ℕ, List, [], ◌∷◌, Option, Some, None, option_map, Bool, true, false, cond}
+use Rattle.std.specs.Prelude.{ℕ, List, [], ◌∷◌, Option, Some, None, option_map, Bool, true, false, cond}
 use Rattle.std.specs.Option.{option_or}
-use Rattle.ks_topo.specs.Drafts.{Name, OpView, TableOf, NodeView, DraftView}
+use Rattle.ks_topo.specs.Drafts.{Name, OpView, TableOf, CountOf, SumOf, NodeView, DraftView}
 use Rattle.ks_topo.specs.Faults.{fault_of}
 use Rattle.ks_job.specs.Items.{ItemView, TopologyAt, RecordTo}
 use Rattle.ks_job.specs.Reader.{Reader, Reading, Faulty, Machine}
 use Rattle.ks_run.specs.declared.stop.Stop.{Stop}
 use Rattle.ks_run.specs.declared.stop.Stop.TheVariants.{BadLine, BadTopology, NotBuilt}
 
--- a source table is built, and nothing else so far
+-- source tables are built, and counts and sums of tables, and nothing else so far. In a topology without a fault a count or sum of
+-- a stream stands after that stream, which is not built, so that the stream is told first and the count need not be told apart.
 abbrev pub is_built : OpView → Bool
 is_built (TableOf t) = true
+is_built (CountOf f by) = true
+is_built (SumOf f by field) = true
 is_built _ = false
 
 -- the first node whose kind is not built

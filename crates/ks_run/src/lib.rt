@@ -1,14 +1,16 @@
-//! One run: from the bytes of a job to the bytes of its tables.
+//! One run: from the bytes of a job to the bytes of its tables, and the journal that the run kept.
 #![tactic(auto)]
 
 mod outcome;
 mod printing;
+mod producing;
 mod reading;
 mod refusals;
 mod runs;
+mod settings;
+mod settling;
 mod stop;
-mod table;
-mod tables;
 mod writing;
 
-pub use runs::top;
+pub use runs::{Ended, run_job, top};
+pub use settings::Settings;

@@ -5,7 +5,7 @@ ghost use Rattle.ks_edge.specs.Causes.{Rose};
 ghost use Rattle.ks_job.specs.Items.{item_views};
 ghost use Rattle.ks_job.specs.Reader.{after, end_of, whole};
 ghost use Rattle.ks_run.specs.Answers.{TookNoFault};
-ghost use Rattle.ks_run.specs.Reading.{machine_of, answer_stop, Ends};
+ghost use Rattle.ks_run.specs.Reading.{machine_of, answer_stop, Ends, Read};
 ghost use Rattle.ks_run.specs.Stops.{stop_of, topology_stop};
 
 use crate::stop::{Stop, refused};
@@ -104,7 +104,7 @@ pub fn read_job<S: Source>(
     input: &mut S,
 ) -> Result<Result<Vec<JobItem>, Stop>, ReadError>
     ensures kept { OnOk result (S.faults input.new ≡ S.faults input.old) }
-    ensures read { IfOk result (λ r. IfSome (S.left input.old) (λ bytes. Ends (whole bytes) r)) }
+    ensures read { IfOk result (λ r. Read (S.left input.old) r) }
     ensures fault { result ≡ Err ReadError.Fault → Rose (S.faults input.old) (S.faults input.new) × TookNoFault (S.left input.old) (S.left input.new) }
 {
     let mut reader = JobReader::new(alloc);

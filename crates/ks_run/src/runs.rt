@@ -1,74 +1,171 @@
-//! The top call.
-ghost use Rattle.std.specs.Prelude.{◌≡◌, ℕ, List, IfSome, true, false, length};
+//! A run of a job, and the top call.
+ghost use Rattle.std.specs.Prelude.{◌≡◌, ◌⊎◌, ℕ, List, [], IfSome, true, false, length};
 ghost use Rattle.std.specs.Io.KnownBytes.{Appends};
 ghost use Rattle.ks_edge.specs.Causes.{Rose};
+ghost use Rattle.ks_hash.specs.Murmur3.{murmur3_of};
+ghost use Rattle.ks_task.specs.Built.{rules_of};
 ghost use Rattle.ks_run.specs.Bytes.{AppendsFront};
 ghost use Rattle.ks_run.specs.Texts.{bad_words_text, read_fault_text};
-ghost use Rattle.ks_run.specs.Answers.{words_of, is_run, IsBadJob, IsSettled, TookNoFault, IsJudged, IsStatus};
+ghost use Rattle.ks_run.specs.Asked.{usual, words_of, is_run};
+ghost use Rattle.ks_run.specs.Journals.{IsSettled, HasJournal};
+ghost use Rattle.ks_run.specs.Answers.{IsBadJob, TookNoFault, IsJudged, IsJudgedBy, IsStatus};
 
-use crate::outcome::judge_run;
+use crate::outcome::judge_job;
+use crate::printing::print_bad_words;
+use crate::settings::Settings;
 use crate::writing::write_output;
 use ks_edge::{Gate, Sink, Source};
+use ks_hash::{Hash128, Murmur3};
+use ks_history::Journal;
+use ks_row::Seq;
 use std::alloc::Global;
 use std::sync::Wait;
 use std::thread::Threads;
 
-/// Runs the job that the source holds, writes its tables to the sink, and answers a status:
+/// How a run ended, and the journal that it kept; that is empty where no cluster was made.
+#[derive(Drop)]
+pub struct Ended {
+    pub status: u8,
+    pub journal: Journal,
+}
+
+/// Runs the job that the source holds, writes its tables to the sink, and answers a status and the journal:
 ///
-/// | Status | Comes | Written |
-/// |---|---|---|
-/// | 0 | the words are the one word `run`, the source did not fail, and its bytes are a job of the kinds of nodes that are built | `settled`, and the tables in the order of `print` |
-/// | 1 | exactly where the words aren't the one word `run` | `bad words` |
-/// | 2 | the words are right, and the bytes have a faulty line, or a topology with a fault or a node that isn't built, before the source failed | `bad job line L: FAULT`, the first such line |
-/// | 6 | the words are right, and the source failed before that | `read fault` |
-/// | 7 | the sink failed, in place of each of these | a front of what they write |
-/// | 8 | there was no memory | nothing |
+/// | Status | Comes | Written | Journal |
+/// |---|---|---|---|
+/// | 0 | the source did not fail, and its bytes are a job of the kinds of nodes that are built | `settled`, and the tables in the order of `print`: the topology's query over the job's records | has produced the job's records, is settled, and its replay is one uncrashed run |
+/// | 2 | the bytes have a faulty line, or a topology with a fault or a node that isn't built, before the source failed | `bad job line L: FAULT`, the first such line | empty |
+/// | 6 | the source failed before that | `read fault` | empty |
+/// | 7 | the sink failed, in place of each of these | a front of what they write | as theirs |
+/// | 8 | there was no memory | nothing | |
 ///
 /// A line is whole at its line feed, at its byte 65,537, or at the end of the input; the source isn't asked again once a faulty
 /// line is whole, nor after its end. The text is built whole before its first byte is written. The gates are dropped unasked.
-pub fn top<R: Threads + Wait + Sync, S: Source, K: Sink>(
+pub fn run_job<H: Hash128, R: Threads + Wait + Sync, S: Source, K: Sink>(
     _rt: &R,
+    alloc: Global,
+    _settings: &Settings,
+    input: &mut S,
+    out: &mut K,
+    gates: Vec<Box<dyn Gate + Send>>,
+) -> Ended
+    requires gates { length gates.items ≡ 16 }
+    requires usual { _settings.now ≡ usual }
+
+    // What was written is known from the status, and so is why it came.
+    ensures read_fault { result.status ≡ 6 → Rose (S.faults input.old) (S.faults input.new)
+        × TookNoFault (S.left input.old) (S.left input.new)
+        × Appends (K.held out.old) (K.held out.new) read_fault_text
+        × (result.journal ≡ []) }
+    ensures bad_job { result.status ≡ 2 → (S.faults input.new ≡ S.faults input.old)
+        × ((text : List ℕ) × IfSome (S.left input.old) (λ bytes. IsBadJob bytes text)
+        × Appends (K.held out.old) (K.held out.new) text)
+        × (result.journal ≡ []) }
+    ensures settled { result.status ≡ 0 → (S.faults input.new ≡ S.faults input.old)
+        × ((text : List ℕ) × IsSettled (rules_of H.hash_of) (S.left input.old) text result.journal
+        × Appends (K.held out.old) (K.held out.new) text) }
+    ensures write_fault { result.status ≡ 7 → Rose (K.faults out.old) (K.faults out.new)
+        × ((status : ℕ) × (text : List ℕ)
+        × IsJudged (rules_of H.hash_of) (S.left input.old) (S.left input.new) (S.faults input.old) (S.faults input.new) status text result.journal
+        × AppendsFront (K.held out.old) (K.held out.new) text) }
+
+    // The journal is legal and faithful, and what it has produced is a front of the job's records.
+    ensures journal { (result.status ≡ 8 → ⊥) → HasJournal (rules_of H.hash_of) (S.left input.old) result.journal }
+
+    // At every other status the sink did not fail.
+    ensures written { (result.status ≡ 7 → ⊥) → K.faults out.new ≡ K.faults out.old }
+
+    // On want of memory nothing was written.
+    ensures memory { result.status ≡ 8 → out.new ≡ out.old }
+    ensures only { IsStatus result.status }
+    ensures words { result.status ≡ 1 → ⊥ }
+{
+    drop(gates);
+    let Ok(answer) = judge_job::<H, S>(alloc, input) else {
+        return Ended {
+            status: 8,
+            journal: Seq::new(alloc),
+        };
+    };
+    match write_output(out, &answer.text) {
+        Ok(()) => Ended {
+            status: answer.status,
+            journal: answer.journal,
+        },
+        Err(_) => Ended {
+            status: 7,
+            journal: answer.journal,
+        },
+    }
+}
+
+fn is_run_word(words: &[String]) -> bool
+    ensures { result ≡ is_run (words_of words.now) }
+{
+    match words {
+        [word] => word.as_str() == "run",
+        _ => false,
+    }
+}
+
+// What is answered where the words say nothing.
+fn refuse_words<K: Sink>(alloc: Global, out: &mut K) -> Ended
+    ensures bad_words { result.status ≡ 1 → Appends (K.held out.old) (K.held out.new) bad_words_text }
+    ensures write_fault { result.status ≡ 7 → Rose (K.faults out.old) (K.faults out.new) × AppendsFront (K.held out.old) (K.held out.new) bad_words_text }
+    ensures written { (result.status ≡ 7 → ⊥) → K.faults out.new ≡ K.faults out.old }
+    ensures memory { result.status ≡ 8 → out.new ≡ out.old }
+    ensures only { (result.status ≡ 1) ⊎ (result.status ≡ 7) ⊎ (result.status ≡ 8) }
+    ensures journal { result.journal ≡ [] }
+{
+    let journal = Seq::new(alloc);
+    let Ok(text) = print_bad_words(alloc) else {
+        return Ended { status: 8, journal };
+    };
+    match write_output(out, &text) {
+        Ok(()) => Ended { status: 1, journal },
+        Err(_) => Ended { status: 7, journal },
+    }
+}
+
+/// Runs the job that the source holds where the words are the one word `run`, by `run_job` with Murmur3 and the usual settings, and
+/// hands back how that ended. Any other words have status 1: `bad words` is written, nothing is read, and the journal is empty.
+pub fn top<R: Threads + Wait + Sync, S: Source, K: Sink>(
+    rt: &R,
     alloc: Global,
     words: &[String],
     input: &mut S,
     out: &mut K,
     gates: Vec<Box<dyn Gate + Send>>,
-) -> u8
+) -> Ended
     requires { length gates.items ≡ 16 }
-
-    // What was written is known from the status, and so is why it came.
-    ensures bad_words { result ≡ 1 → (is_run (words_of words.now) ≡ false)
-        × Appends (K.held out.old) (K.held out.new) bad_words_text }
-    ensures read_fault { result ≡ 6 → (is_run (words_of words.now) ≡ true)
+    ensures bad_words { result.status ≡ 1 → (is_run (words_of words.now) ≡ false)
+        × Appends (K.held out.old) (K.held out.new) bad_words_text
+        × (result.journal ≡ []) }
+    ensures read_fault { result.status ≡ 6 → (is_run (words_of words.now) ≡ true)
         × Rose (S.faults input.old) (S.faults input.new)
         × TookNoFault (S.left input.old) (S.left input.new)
-        × Appends (K.held out.old) (K.held out.new) read_fault_text }
-    ensures bad_job { result ≡ 2 → (is_run (words_of words.now) ≡ true)
+        × Appends (K.held out.old) (K.held out.new) read_fault_text
+        × (result.journal ≡ []) }
+    ensures bad_job { result.status ≡ 2 → (is_run (words_of words.now) ≡ true)
         × (S.faults input.new ≡ S.faults input.old)
         × ((text : List ℕ) × IfSome (S.left input.old) (λ bytes. IsBadJob bytes text)
-        × Appends (K.held out.old) (K.held out.new) text) }
-    ensures settled { result ≡ 0 → (is_run (words_of words.now) ≡ true)
+        × Appends (K.held out.old) (K.held out.new) text)
+        × (result.journal ≡ []) }
+    ensures settled { result.status ≡ 0 → (is_run (words_of words.now) ≡ true)
         × (S.faults input.new ≡ S.faults input.old)
-        × ((text : List ℕ) × IfSome (S.left input.old) (λ bytes. IsSettled bytes text)
+        × ((text : List ℕ) × IsSettled (rules_of murmur3_of) (S.left input.old) text result.journal
         × Appends (K.held out.old) (K.held out.new) text) }
-    ensures write_fault { result ≡ 7 → Rose (K.faults out.old) (K.faults out.new)
+    ensures write_fault { result.status ≡ 7 → Rose (K.faults out.old) (K.faults out.new)
         × ((status : ℕ) × (text : List ℕ)
-        × IsJudged (words_of words.now) (S.left input.old) (S.left input.new) (S.faults input.old) (S.faults input.new) status text
+        × IsJudgedBy (words_of words.now) (rules_of murmur3_of) (S.left input.old) (S.left input.new) (S.faults input.old) (S.faults input.new) status text result.journal
         × AppendsFront (K.held out.old) (K.held out.new) text) }
-
-    // At every other status the sink did not fail.
-    ensures written { (result ≡ 7 → ⊥) → K.faults out.new ≡ K.faults out.old }
-
-    // On want of memory nothing was written.
-    ensures memory { result ≡ 8 → out.new ≡ out.old }
-    ensures only { IsStatus result }
+    ensures journal { (result.status ≡ 8 → ⊥) → HasJournal (rules_of murmur3_of) (S.left input.old) result.journal }
+    ensures written { (result.status ≡ 7 → ⊥) → K.faults out.new ≡ K.faults out.old }
+    ensures memory { result.status ≡ 8 → out.new ≡ out.old }
+    ensures only { IsStatus result.status }
 {
-    drop(gates);
-    let Ok(answer) = judge_run(alloc, words, input) else {
-        return 8;
-    };
-    match write_output(out, &answer.text) {
-        Ok(()) => answer.status,
-        Err(_) => 7,
+    if !is_run_word(words) {
+        return refuse_words(alloc, out);
     }
+    run_job::<Murmur3, R, S, K>(rt, alloc, &Settings::usual(), input, out, gates)
 }

@@ -24,7 +24,7 @@ fn is_built(op: &Op) -> bool
     ensures { result ≡ built (op_view op.now) }
 {
     match op {
-        Op::Table { .. } => true,
+        Op::Table { .. } | Op::Count { .. } | Op::Sum { .. } => true,
         _ => false,
     }
 }

@@ -1,7 +1,6 @@
 //! Whole runs: what a job's bytes, the words and the devices' faults give.
-ghost use Rattle.std.specs.Prelude.{◌≡◌, IfOk, length};
-
-use ks_edge::{Gate, MemSink, MemSource, ScriptGate};
+use crate::runs::gates;
+use ks_edge::{MemSink, MemSource};
 use ks_run::top;
 use std::alloc::{AllocError, Global};
 use std::process::Abort;
@@ -45,9 +44,13 @@ const BAD_WINDOW: &str =
 const SINK: &str =
     "{\"app\":\"a\",\"topics\":{\"t\":1},\"nodes\":[{\"name\":\"s\",\"op\":\"stream\",\"topic\":\"t\"},{\"name\":\"w\",\"op\":\"windowed_count\",\"from\":\"s\",\"size\":10},{\"name\":\"v\",\"op\":\"filter\",\"from\":\"w\",\"where\":{\"has\":{\"field\":\"a\"}}}],\"print\":[\"w\"]}\n";
 
-// A node of a kind that isn't built.
-const COUNT: &str =
-    "{\"app\":\"a\",\"topics\":{\"t\":1},\"nodes\":[{\"name\":\"x\",\"op\":\"table\",\"topic\":\"t\"},{\"name\":\"g\",\"op\":\"count\",\"from\":\"x\",\"by\":\"r\"}],\"print\":[\"g\"]}\n";
+// A count of a stream: neither is built, and the stream stands first.
+const STREAM: &str =
+    "{\"app\":\"a\",\"topics\":{\"t\":1,\"u\":2},\"nodes\":[{\"name\":\"x\",\"op\":\"table\",\"topic\":\"t\"},{\"name\":\"s\",\"op\":\"stream\",\"topic\":\"u\"},{\"name\":\"g\",\"op\":\"count\",\"from\":\"s\"}],\"print\":[\"g\"]}\n";
+
+// A filter of a table, before a count that is built.
+const FILTER: &str =
+    "{\"app\":\"a\",\"topics\":{\"t\":1},\"nodes\":[{\"name\":\"x\",\"op\":\"table\",\"topic\":\"t\"},{\"name\":\"f\",\"op\":\"filter\",\"from\":\"x\",\"where\":{\"has\":{\"field\":\"r\"}}},{\"name\":\"g\",\"op\":\"count\",\"from\":\"f\",\"by\":\"r\"}],\"print\":[\"g\"]}\n";
 
 // Two rows for b, the later one counts; a row of a, and its deletion.
 const RECORDS: &str =
@@ -82,16 +85,6 @@ struct Run<'a> {
     output: &'a str,
 }
 
-fn gates(alloc: Global) -> Result<Vec<Box<dyn Gate + Send>>, AllocError>
-    ensures { IfOk result (λ gates. length gates.items ≡ 16) }
-{
-    let mut gates: Vec<Box<dyn Gate + Send>> = Vec::new(alloc);
-    for _ in 0..16usize {
-        gates.push(Box::new(alloc, ScriptGate::new(Vec::new(alloc), Vec::new(alloc)))?)?;
-    }
-    Ok(gates)
-}
-
 fn texts(alloc: Global, words: &[&str]) -> Result<Vec<String>, AllocError> {
     let mut texts = Vec::new(alloc);
     for word in words {
@@ -122,9 +115,9 @@ fn expect<R: Threads + Wait + Sync + Abort>(
         devices.takes.to_vec(alloc)?,
     );
     let mut out = MemSink::new(alloc, devices.puts.to_vec(alloc)?);
-    let status = top(rt, alloc, &words, &mut input, &mut out, gates(alloc)?);
+    let ended = top(rt, alloc, &words, &mut input, &mut out, gates(alloc)?);
     assert_eq!(rt; out.held(), run.output.as_bytes());
-    assert_eq!(rt; status, run.status);
+    assert_eq!(rt; ended.status, run.status);
     Ok(())
 }
 
@@ -245,9 +238,9 @@ fn long_line(rt: HostRuntime) -> Result<(), Fail> {
     let sizes = vec![in alloc; 1usize; 70_000]?;
     let mut input = MemSource::new(bytes, sizes, Vec::new(alloc));
     let mut out = MemSink::new(alloc, Vec::new(alloc));
-    let status = top(&rt, alloc, &words, &mut input, &mut out, gates(alloc)?);
+    let ended = top(&rt, alloc, &words, &mut input, &mut out, gates(alloc)?);
     assert_eq!(rt; out.held(), b"bad job line 2: 24 LineTooLong\n".as_slice());
-    assert_eq!(rt; status, 2);
+    assert_eq!(rt; ended.status, 2);
     Ok(())
 }
 
@@ -265,7 +258,8 @@ fn bad_topologies(rt: HostRuntime) -> Result<(), Fail> {
         (APART, "bad job line 1: 13 NotCopartitioned \"x\" \"y\"\n"),
         (BAD_WINDOW, "bad job line 1: 15 BadWindow \"w\"\n"),
         (SINK, "bad job line 1: 16 SinkOnly \"v\"\n"),
-        (COUNT, "bad job line 1: 0 NotBuilt \"g\"\n"),
+        (STREAM, "bad job line 1: 0 NotBuilt \"s\"\n"),
+        (FILTER, "bad job line 1: 0 NotBuilt \"f\"\n"),
     ] {
         expect_at_any_cut(
             &rt,

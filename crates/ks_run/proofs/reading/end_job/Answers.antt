@@ -1,4 +1,4 @@
-use Rattle.std.proofs.Common.{◌≡◌, ◌∙◌, ap, cond}
+use Rattle.std.proofs.Common.{◌∙◌, ap, cond}
 use Rattle.std.specs.Prelude.{None, ◌==◌}
 use Rattle.std.specs.Option.{option_or}
 use Rattle.ks_job.specs.Items.{item_views}

@@ -1,5 +1,5 @@
-use Rattle.std.proofs.Common.{◌≡◌, ◌∙◌, ap, cond}
-use Rattle.std.specs.Prelude.{IfOk, None, ◌==◌}
+use Rattle.std.proofs.Common.{◌∙◌, ap, cond}
+use Rattle.std.specs.Prelude.{None, ◌==◌}
 use Rattle.std.specs.Option.{option_or}
 use Rattle.std.proofs.lemmas.Result.{IfOk-weaker}
 use Rattle.ks_job.specs.Items.{item_views}

@@ -1,8 +1,7 @@
-use Rattle.std.proofs.Common.{◌≡◌, ℕ, ◌<◌, ◌≤◌, ◌∙◌, ◌++◌, ap, sym, arith, length, length-append, length-take, take}
-use Rattle.std.specs.Prelude.{Some, None}
-use Rattle.ks_run.specs.Reading.{machine_of}
+use Rattle.std.proofs.Common.{ℕ, ◌∙◌, ◌++◌, sym, arith, length-append, length-take, take}
+use Rattle.std.specs.Prelude.{None}
 use Rattle.ks_run.proofs.Machines.{few_bytes}
-use Rattle.ks_run.proofs.Taking.{took_more, so_far_more, unstopped_more, stopped_early, read_to_end, took_no_fault}
+use Rattle.ks_run.proofs.Taking.{took_more, so_far_more, unstopped_more, stopped_early}
 use Rattle.ks_run.proofs.reading.read_job.Goals as goal
 
 pub returns-in-Some-clause-read : goal.returns-in-Some-clause-read

@@ -1,0 +1,53 @@
+use Rattle.std.proofs.Common.{◌∙◌, ap, map}
+use Rattle.ks_topo.specs.declared.node.TopicInfo.{TopicInfo}
+use Rattle.ks_topo.specs.Topologies.{draft_of}
+use Rattle.ks_job.specs.Items.{item_views}
+use Rattle.ks_cluster.specs.Kept as kept
+use Rattle.ks_run.proofs.Counts.{shown_counts}
+use Rattle.ks_run.proofs.Settles.{setup_is, setup_made, parts_ready, records_ready, produced_setup, settled_answers}
+use Rattle.ks_run.proofs.settling.settle.Goals as goal
+
+pub new-requires : goal.new-requires
+new-requires g c =
+    let d = draft_of c.args.topology.now in
+    let hash = g.H.Hash128.hash_of in
+    let counts = c.in_ok-counts.ensures ∙ (ap (map (λ (i : TopicInfo). i.parts)) c.topics.ensures ∙ shown_counts d) in
+    let setup = setup_is hash d (g.W.Work.plan c.args.work) c.in_ok-kept.kept.items c.in_ok-tasks.tasks.items c.requires.work (c.in_ok-kept.ensures.items ∙ (c.as_slice.ensures.value ∙ counts)) (c.in_ok-tasks.ensures.items ∙ c.tasks.ensures) in
+    setup_made hash d _ setup c.nodes-nodes.ensures.well_formed
+
+pub produce_all-requires-clause-parts : goal.produce_all-requires-clause-parts
+produce_all-requires-clause-parts g c =
+    let d = draft_of c.args.topology.now in
+    let counts = c.in_ok-counts.ensures ∙ (ap (map (λ (i : TopicInfo). i.parts)) c.topics.ensures ∙ shown_counts d) in
+    parts_ready g.H.Hash128.hash_of d (g.W.Work.plan c.in_ok-cluster.cluster.work) c.as_slice-2.result.now c.nodes-nodes.ensures.well_formed c.requires.partitions
+    (ap (λ k. g.W.Work.plan k.work) c.in_ok-cluster.ensures ∙ c.requires.work) (c.as_slice-2.ensures.value ∙ counts)
+
+pub produce_all-requires-clause-records : goal.produce_all-requires-clause-records
+produce_all-requires-clause-records g c =
+    records_ready g.H.Hash128.hash_of (draft_of c.args.topology.now) (g.W.Work.plan c.in_ok-cluster.cluster.work) (item_views c.args.records.now)
+    (ap (λ k. g.W.Work.plan k.work) c.in_ok-cluster.ensures ∙ c.requires.work) c.requires.records
+
+pub drain-requires-clause-setup : goal.drain-requires-clause-setup
+drain-requires-clause-setup g c =
+    let d = draft_of c.args.topology.now in
+    let counts = c.in_ok-counts.ensures ∙ (ap (map (λ (i : TopicInfo). i.parts)) c.topics.ensures ∙ shown_counts d) in
+    produced_setup g.W.Work.plan c.in_ok-cluster.cluster c.produce_all.new.cluster _ c.in_ok-produce_all.ensures
+    ∙ (ap (λ k. kept.setup_of g.W.Work.plan k) c.in_ok-cluster.ensures
+    ∙ setup_is g.H.Hash128.hash_of d (g.W.Work.plan c.args.work) c.in_ok-kept.kept.items c.in_ok-tasks.tasks.items c.requires.work (c.in_ok-kept.ensures.items ∙ (c.as_slice.ensures.value ∙ counts)) (c.in_ok-tasks.ensures.items ∙ c.tasks.ensures))
+
+pub tables-requires : goal.tables-requires
+tables-requires g c =
+    let d = draft_of c.args.topology.now in
+    let counts = c.in_ok-counts.ensures ∙ (ap (map (λ (i : TopicInfo). i.parts)) c.topics.ensures ∙ shown_counts d) in
+    ap (λ k. k.counts) c.in_ok-drain.ensures.more.same ∙ (c.in_ok-produce_all.ensures.counts ∙ (ap (λ k. k.counts) c.in_ok-cluster.ensures ∙ (c.in_ok-kept.ensures.items ∙ (c.as_slice.ensures.value ∙ counts))))
+
+pub returns : goal.returns
+returns g c =
+    let d = draft_of c.args.topology.now in
+    let hash = g.H.Hash128.hash_of in
+    let counts = c.in_ok-counts.ensures ∙ (ap (map (λ (i : TopicInfo). i.parts)) c.topics.ensures ∙ shown_counts d) in
+    let setup = ap (λ k. kept.setup_of g.W.Work.plan k) c.in_ok-cluster.ensures
+    ∙ setup_is hash d (g.W.Work.plan c.args.work) c.in_ok-kept.kept.items c.in_ok-tasks.tasks.items c.requires.work (c.in_ok-kept.ensures.items ∙ (c.as_slice.ensures.value ∙ counts)) (c.in_ok-tasks.ensures.items ∙ c.tasks.ensures) in
+    settled_answers hash d g.W.Work.plan (item_views c.args.records.now) c.in_ok-cluster.cluster c.produce_all.new.cluster c.drain.new.cluster c.as_slice-2.result.now c.in_ok-tables.tables.items c.into_journal-journal.result
+    c.nodes-nodes.ensures.well_formed c.requires.built c.requires.records setup (ap (λ k. k.journal) c.in_ok-cluster.ensures) (c.as_slice-2.ensures.value ∙ counts) c.in_ok-produce_all.ensures c.in_ok-drain.ensures.more
+    c.into_journal-journal.ensures.entries c.into_journal-journal.ensures.history c.into_journal-journal.ensures.few c.in_ok-drain.ensures.settled c.in_ok-tables.ensures

@@ -1,0 +1,35 @@
+-- A job that was read to its end, and what its run answers.
+use Rattle.std.specs.Prelude.{◌≡◌, ℕ, List, [], ◌∷◌, Option, Some, None}
+use Rattle.ks_topo.specs.Drafts.{DraftView}
+use Rattle.ks_query.specs.declared.table.Table.{Table}
+use Rattle.ks_query.specs.Streams.{Input}
+use Rattle.ks_query.specs.Printed.{job_tables}
+use Rattle.ks_machine.specs.Messages.{Rules}
+use Rattle.ks_history.specs.declared.journal.Entry.{Entry}
+use Rattle.ks_job.specs.Items.{ItemView, TopologyAt, RecordTo}
+use Rattle.ks_job.specs.Reader.{whole}
+use Rattle.ks_records.specs.Records.{records_of}
+use Rattle.ks_run.specs.Stops.{stop_of}
+use Rattle.ks_run.specs.Journals.{IsJournal}
+
+-- the items of some bytes that are a job
+pub record IsReadJob (items : List ItemView) : Type 0 where
+  pub bytes : List ℕ
+  pub unstopped : stop_of (whole bytes) ≡ None
+  pub items_are : items ≡ (whole bytes).items
+
+-- a topology first, and the others
+abbrev pub split : List ItemView → Option (DraftView × List ItemView)
+split [] = None
+split (TopologyAt line d ∷ is) = Some (d, is)
+split (RecordTo t r ∷ is) = None
+
+-- the tables are the query's, and the journal settles the job
+pub record Answers (rules : Rules) (d : DraftView) (records : List Input) (tables : List Table) (journal : List Entry) : Type 0 where
+  pub tables_are : tables ≡ job_tables d records
+  pub kept : IsJournal rules d records journal
+
+abbrev pub AnswersOf : Rules → List ItemView → List Table → List Entry → Type 0
+AnswersOf rules [] tables journal = ⊥
+AnswersOf rules (TopologyAt line d ∷ is) tables journal = Answers rules d (records_of is) tables journal
+AnswersOf rules (RecordTo t r ∷ is) tables journal = ⊥

@@ -1,0 +1,33 @@
+//! What a run is asked for.
+ghost use Rattle.std.specs.Prelude.{◌≡◌};
+ghost use Rattle.ks_run.specs.Asked.{usual};
+
+/// How a job is run: by how many instances and threads each, with how many standbys of each task, with how many turns between
+/// commits, with which seed of chaos, stopped after how many turns, and whether the journal is printed.
+#[derive(Clone, Copy, PartialEq, Eq, Debug)]
+pub struct Settings {
+    pub instances: u8,
+    pub threads: u8,
+    pub standbys: u8,
+    pub interval: u32,
+    pub chaos: Option<u64>,
+    pub stop: Option<u64>,
+    pub journal: bool,
+}
+
+impl Settings {
+    /// One instance of one thread, no standby, a commit every 100 turns, no chaos, no stop, and no journal printed.
+    pub fn usual() -> Settings
+        ensures { result ≡ usual }
+    {
+        Settings {
+            instances: 1,
+            threads: 1,
+            standbys: 0,
+            interval: 100,
+            chaos: None,
+            stop: None,
+            journal: false,
+        }
+    }
+}
