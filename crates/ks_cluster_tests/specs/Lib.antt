@@ -1,3 +1,2 @@
-pub mod Copying
 pub mod Ours
 pub mod Stages

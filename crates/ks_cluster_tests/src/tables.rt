@@ -1,7 +1,6 @@
 //! Tables of calls with their answers.
-ghost use Rattle.std.specs.Prelude.{◌≡◌, ◌∷◌, [], OnOk, IfOk};
+
 ghost use Rattle.ks_cluster_tests.specs.Ours.{IsOurs};
-ghost use Rattle.ks_cluster_tests.specs.Stages.{Stands};
 
 use crate::calls::{Call, answer, new_cluster};
 use crate::commit::{decided, marked, sent};
