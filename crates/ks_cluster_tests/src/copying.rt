@@ -14,7 +14,7 @@ pub struct Copying {
 
 impl Work for Copying {
     ghost use Rattle.ks_replay.specs.Example.{setup};
-    ghost use Rattle.ks_cluster_tests.proofs.Apart.{is_apart};
+    ghost use Rattle.ks_cluster_tests.specs.Copying.{is_apart};
 
     ghost plan = { λ work. setup.plan };
 
