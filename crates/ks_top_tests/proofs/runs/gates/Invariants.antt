@@ -1,5 +1,5 @@
 use Rattle.std.proofs.Common.{◌≡◌, length}
-use Rattle.ks_top_tests.proofs.rows.gates.Given as goal
+use Rattle.ks_top_tests.proofs.runs.gates.Given as goal
 
 -- one gate for each turn so far
 abbrev pub invariant-loop : goal.invariant-loop
