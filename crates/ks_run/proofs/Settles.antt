@@ -56,10 +56,10 @@ answered hash d is setup journal ts fine built records e history few made settle
     let settled' : IsSettled right (at right journal) = subst (λ s. IsSettled s (at s journal)) e settled in
     let few' : records_in right journal < 2 ^ 48 = subst (λ s. records_in s journal < 2 ^ 48) e few in
     let placed = made ∙ records_placed hash d is records in
+    let query = tables_are_the_query rules d (records_of is) journal (keys_have_parts hash) fine built (records_fit d is records) (record { history = history'; produced = placed; settled = settled'; few = few' }) in
     record {
-      tables_are = tables_are ∙ ap (λ s. folded_tables d (at s journal)) e
-          ∙ tables_are_the_query rules d (records_of is) journal (keys_have_parts hash) fine built (records_fit d is records) (record { history = history'; produced = placed; settled = settled'; few = few' });
-      kept = record { history = history'; produced = placed; settled = settled'; run = is_run right journal (works_are_networks rules (plan_of d)) history' };
+      tables_are = tables_are ∙ ap (λ s. folded_tables d (at s journal)) e ∙ query;
+      kept = record { history = history'; produced = placed; settled = settled'; run = is_run right journal (works_are_networks rules (plan_of d)) history'; folds = query; few = few' };
     }
 
 -- ---- the run of a job's tasks

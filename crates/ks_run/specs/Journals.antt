@@ -1,5 +1,5 @@
 -- A run's tables and its journal, by the job.
-use Rattle.std.specs.Prelude.{◌≡◌, ℕ, List, [], ◌∷◌, ◌++◌, map, Option, Some, None, IfSome}
+use Rattle.std.specs.Prelude.{◌≡◌, ◌<◌, ◌^◌, ℕ, List, [], ◌∷◌, ◌++◌, map, Option, Some, None, IfSome}
 use Rattle.ks_topo.specs.Drafts.{DraftView}
 use Rattle.ks_topo.specs.Plan.{plan_of}
 use Rattle.ks_query.specs.Streams.{Input}
@@ -7,6 +7,7 @@ use Rattle.ks_query.specs.Printed.{job_tables}
 use Rattle.ks_machine.specs.Messages.{Rules}
 use Rattle.ks_history.specs.declared.journal.Entry.{Entry}
 use Rattle.ks_history.specs.History.{at, IsHistory}
+use Rattle.ks_history.specs.Count.{records_in}
 use Rattle.ks_history.specs.Settled.{IsSettled as IsAtRest}
 use Rattle.ks_row.specs.declared.record.Rec.{Rec}
 use Rattle.ks_row.specs.declared.record.PartId.{PartId}
@@ -15,6 +16,7 @@ use Rattle.ks_work.specs.Work.{setup_of}
 use Rattle.ks_job.specs.Items.{ItemView, TopologyAt, RecordTo}
 use Rattle.ks_job.specs.Reader.{whole}
 use Rattle.ks_records.specs.Records.{records_of}
+use Rattle.ks_answer.specs.Folded.{folded_tables}
 use Rattle.ks_answer.specs.Jobs.{produced_of, produces}
 use Rattle.ks_run.specs.Stops.{stop_of}
 use Rattle.ks_run.specs.Texts.{settled_text}
@@ -39,6 +41,9 @@ pub record IsJournal (rules : Rules) (d : DraftView) (records : List Input) (jou
   pub settled : IsAtRest (setup_of rules (plan_of d)) (at (setup_of rules (plan_of d)) journal)
   -- what its commits took is one uncrashed run
   pub run : IsRun (setup_of rules (plan_of d)) journal
+  -- the folds of its changelogs are the query's tables
+  pub folds : folded_tables d (at (setup_of rules (plan_of d)) journal) ≡ job_tables d records
+  pub few : records_in (setup_of rules (plan_of d)) journal < 2 ^ 48
 
 -- the bytes, where they are known, are a job; the text has its tables by its query; and the journal settles it
 pub record IsSettled (rules : Rules) (left : Option (List ℕ)) (text : List ℕ) (journal : List Entry) : Type 0 where
