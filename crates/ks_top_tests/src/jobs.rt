@@ -1,4 +1,5 @@
 //! Jobs of several tables, counts and sums, and what they print by `bench/expected-tables`.
+use crate::evaluated::evaluates;
 use crate::runs::gives;
 use std::test::Fail;
 
@@ -167,7 +168,9 @@ fn jobs(rt: HostRuntime) -> Result<(), Fail> {
             "settled\ntable g0 0\ntable s0 2\n[\"a\",{\"r\":\"\"}]\n[\"b\",{\"n\":0,\"r\":\"\"}]\ntable g1 0\n",
         ),
     ] {
-        all = gives(&rt, rt.alloc(), input, output)? && all;
+        all = gives(&rt, rt.alloc(), input, output)?
+            && evaluates(rt.alloc(), input, output)?
+            && all;
     }
     assert!(rt; all);
     Ok(())

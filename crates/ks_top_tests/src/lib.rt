@@ -2,7 +2,11 @@
 #![tactic(auto)]
 
 #[cfg(test)]
+mod evaluated;
+#[cfg(test)]
 mod jobs;
+#[cfg(test)]
+mod kinds;
 #[cfg(test)]
 mod rows;
 #[cfg(test)]
