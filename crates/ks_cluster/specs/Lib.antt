@@ -4,5 +4,6 @@ pub mod Producers
 pub mod Group
 pub mod Replies
 pub mod Reading
+pub mod Marking
 pub mod Moves
 pub mod Kept

@@ -1,8 +1,9 @@
 //! What the readers of a partition are given.
-ghost use Rattle.std.specs.Prelude.{◌≡◌, ◌++◌, ◌∷◌, [], ℕ, List, take, length, map, max, IfOk, ◌≤◌, ◌<◌, ◌==◌, if◌then◌else◌};
+ghost use Rattle.std.specs.Prelude.{◌≡◌, ◌++◌, ◌∷◌, [], ℕ, List, take, length, map, max, IfOk, ◌≤◌, ◌<◌, ◌==◌, if◌then◌else◌, true, false, None};
 ghost use Rattle.ks_history.specs.Partition.{next_mark, stable, past_last, decision};
 ghost use Rattle.ks_history.specs.Faithful.{marker_among};
 ghost use Rattle.ks_cluster.specs.Placed.{slots_in};
+ghost use Rattle.ks_cluster.specs.Marking.{IsMarking};
 ghost use Rattle.ks_cluster.specs.Producers.{waiting_in, pending_in};
 ghost use Rattle.ks_row.specs.declared.record.Rec.{Rec as Record};
 ghost use Rattle.ks_cluster.specs.Reading.{readable_pairs, decided_pairs, at_or_past, end_at};
@@ -36,11 +37,49 @@ fn next_mark_in(log: &[Placed], part: PartId, w: u8, epoch: u64) -> Option<bool>
     None
 }
 
+/// How the next marker of a producer and epoch decides, where that is known.
+#[derive(Clone, Copy)]
+struct Marking {
+    known: bool,
+    producer: u8,
+    epoch: u64,
+    mark: Option<bool>,
+}
+
+/// Nothing is known.
+fn no_marking() -> Marking
+    ensures { result ≡ record { known = false; producer = 0; epoch = 0; mark = None } }
+{
+    Marking {
+        known: false,
+        producer: 0,
+        epoch: 0,
+        mark: None,
+    }
+}
+
+/// What is known of the next marker of this producer and epoch: it is looked for where something else was known.
+fn marking_for(kept: Marking, log: &[Placed], part: PartId, w: u8, epoch: u64) -> Marking
+    requires { IsMarking kept (slots_in part log.now) }
+    ensures { result ≡ record { known = true; producer = w; epoch = epoch; mark = next_mark w epoch (slots_in part log.now) } }
+{
+    if kept.known && w == kept.producer && epoch == kept.epoch {
+        return kept;
+    }
+    Marking {
+        known: true,
+        producer: w,
+        epoch,
+        mark: next_mark_in(log, part, w, epoch),
+    }
+}
+
 /// The last stable offset: where the first record stands that no marker completes, or the end.
 fn stable_in(log: &[Placed], part: PartId) -> u64
     ensures { result ≡ stable (slots_in part log.now) }
 {
     let mut at: u64 = 0;
+    let mut kept = no_marking();
     for (i, placed) in log.iter().enumerate() {
         if part.is(placed.part) {
             match &placed.slot {
@@ -51,11 +90,13 @@ fn stable_in(log: &[Placed], part: PartId) -> u64
                     task: _,
                     rec: _,
                 } => {
-                    if next_mark_in(&log[i + 1..], part, *producer, *epoch).is_none() {
+                    kept = marking_for(kept, &log[i + 1..], part, *producer, *epoch);
+                    if kept.mark.is_none() {
                         return at;
                     }
                 }
-                _ => {}
+                Slot::Plain { rec: _ } => {}
+                _ => kept = no_marking(),
             }
             at += 1;
         }
@@ -94,6 +135,7 @@ pub fn readable_in(
     let mut made = Vec::new(alloc);
     let mut at: u64 = 0;
     let mut left = limit;
+    let mut kept = no_marking();
     for (i, placed) in log.iter().enumerate() {
         if left == 0 {
             return Ok(made);
@@ -107,12 +149,15 @@ pub fn readable_in(
                     number: _,
                     task: _,
                     rec,
-                } => match next_mark_in(&log[i + 1..], part, *producer, *epoch) {
-                    None => return Ok(made),
-                    Some(true) => left = take_at(&mut made, at, rec, from, left)?,
-                    Some(false) => {}
-                },
-                _ => {}
+                } => {
+                    kept = marking_for(kept, &log[i + 1..], part, *producer, *epoch);
+                    match kept.mark {
+                        None => return Ok(made),
+                        Some(true) => left = take_at(&mut made, at, rec, from, left)?,
+                        Some(false) => {}
+                    }
+                }
+                _ => kept = no_marking(),
             }
             at += 1;
         }
@@ -200,17 +245,17 @@ fn waiting_mark(producers: &[Producer], part: PartId, w: u8, epoch: u64) -> Opti
     }
 }
 
-/// How a record of this producer and epoch is decided, where the rest of the log stands behind it.
+/// How a record of this producer and epoch is decided, where the next marker decides so.
 fn decision_in(
-    rest: &[Placed],
+    mark: Option<bool>,
     producers: &[Producer],
     part: PartId,
     w: u8,
     epoch: u64,
 ) -> Option<bool>
-    ensures { result ≡ decision (next_mark w epoch (slots_in part rest.now)) (waiting_in producers.now part w epoch) }
+    ensures { result ≡ decision mark (waiting_in producers.now part w epoch) }
 {
-    match next_mark_in(rest, part, w, epoch) {
+    match mark {
         Some(commit) => Some(commit),
         None => waiting_mark(producers, part, w, epoch),
     }
@@ -227,6 +272,7 @@ pub fn decided_in(
 {
     let mut made = Vec::new(alloc);
     let mut at: u64 = 0;
+    let mut kept = no_marking();
     for (i, placed) in log.iter().enumerate() {
         if part.is(placed.part) {
             match &placed.slot {
@@ -238,17 +284,13 @@ pub fn decided_in(
                     task: _,
                     rec,
                 } => {
-                    match decision_in(&log[i + 1..], producers, part, *producer, *epoch) {
-                        None => {}
+                    kept = marking_for(kept, &log[i + 1..], part, *producer, *epoch);
+                    match decision_in(kept.mark, producers, part, *producer, *epoch) {
                         Some(true) => made.push((at, copy(rec)?))?,
-                        Some(false) => {}
+                        _ => {}
                     }
                 }
-                Slot::Mark {
-                    producer: _,
-                    epoch: _,
-                    commit: _,
-                } => {}
+                _ => kept = no_marking(),
             }
             at += 1;
         }

@@ -6,8 +6,11 @@ use Rattle.ks_expr.specs.Terms.{Set}
 use Rattle.ks_topo.specs.Drafts.{DraftView}
 use Rattle.ks_topo.specs.Plan.{Plan, plan_of}
 use Rattle.ks_topo.specs.Plan.Kind.{ForeignKeyJoin}
-use Rattle.ks_topo.specs.Layout.{parts_of}
+use Rattle.ks_topo.specs.declared.node.Topic.{Topic}
+use Rattle.ks_topo.specs.Layout.{parts_of, parts_of_topic, number_of, drain_order, reads, tasks}
 use Rattle.ks_topo.specs.Infos.{input_numbers}
+use Rattle.ks_history.specs.Machine.{has_topic}
+use Rattle.ks_history.specs.State.{has_task}
 use Rattle.ks_machine.specs.Messages.{Rules}
 use Rattle.ks_rest.specs.WellFormed.{IsWellFormed}
 use Rattle.ks_work.specs.Work.{setup_of}
@@ -28,3 +31,14 @@ JoinsHaveParts p = (n l r : ℕ) (fk : List ℕ) (kind : JoinKind) (set : Set) �
 -- the tasks of a well-formed topology send to partitions of its cluster alone
 abbrev pub TopologiesSendInside : Type 0
 TopologiesSendInside = (rules : Rules) (d : DraftView) → IsWellFormed d → HasParts rules → JoinsHaveParts (plan_of d) → SendsInside (setup_of rules (plan_of d))
+
+-- each partition of each topic of the drain order is an input of one task: that of this partition, of the subtopology that reads the
+-- topic
+abbrev pub PartitionsAreRead : Type 0
+PartitionsAreRead = (d : DraftView) → IsWellFormed d →
+    let p = plan_of d in
+    (i : ℕ) (t : Topic) (part : ℕ) → slice_get (drain_order p) i ≡ Some t → part < parts_of_topic p t →
+    record {
+      task : has_task (record { sub = reads p t; part = part }) (tasks p) ≡ true;
+      input : has_topic (number_of p t) (input_numbers p (reads p t)) ≡ true;
+    }

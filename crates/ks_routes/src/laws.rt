@@ -1,5 +1,5 @@
 //! Where the records of a topology's tasks go. Each law is the contract of a function that does nothing.
-ghost use Rattle.ks_routes.specs.Routes.{InputsAreOnce, TopologiesSendInside};
+ghost use Rattle.ks_routes.specs.Routes.{InputsAreOnce, PartitionsAreRead, TopologiesSendInside};
 
 /// No subtopology has an input twice.
 pub fn inputs_once()
@@ -10,4 +10,9 @@ pub fn inputs_once()
 /// stores hold, where a key's partition is one of those that there are.
 pub fn topologies_send_inside()
     ensures { TopologiesSendInside }
+{}
+
+/// Each partition of each topic of a well-formed topology's drain order is an input of one of its tasks.
+pub fn partitions_are_read()
+    ensures { PartitionsAreRead }
 {}
