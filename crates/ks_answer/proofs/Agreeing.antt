@@ -1,7 +1,7 @@
 -- What a plan's steps must keep, for its runs over bytes and decoded to agree.
 use Rattle.std.specs.Prelude.{◌≡◌, ℕ, false, Some}
 use Rattle.ks_row.specs.declared.record.TaskId.{TaskId}
-use Rattle.ks_topo.specs.Plan.{Plan}
+use Rattle.ks_plan.specs.Plan.{Plan}
 use Rattle.ks_map.specs.Bytes.{empty_store as no_bytes}
 use Rattle.ks_machine.specs.Messages.{Place, Item, Store, Rules}
 use Rattle.ks_machine.specs.Tasks.{step, taker, is_changelog, empty_store}

@@ -10,11 +10,11 @@ use Rattle.ks_row.specs.Texts.{key_from}
 use Rattle.ks_row.specs.declared.record.Rec.{Rec}
 use Rattle.ks_row.specs.declared.record.TaskId.{TaskId}
 use Rattle.ks_expr.specs.Eval.{Row}
-use Rattle.ks_topo.specs.Drafts.{Name, DraftView}
-use Rattle.ks_topo.specs.Plan.{Plan, plan_of, known_nodes, node_number, is_stream}
-use Rattle.ks_topo.specs.declared.node.Topic.TheVariants.{Changelog}
-use Rattle.ks_topo.specs.Layout.{parts_of, kind_at, number_of, sub_of, reads}
-use Rattle.ks_topo.specs.Infos.{changelog_numbers}
+use Rattle.ks_plan.specs.Drafts.{Name, DraftView}
+use Rattle.ks_plan.specs.Plan.{Plan, plan_of, known_nodes, node_number, is_stream}
+use Rattle.ks_plan.specs.declared.node.Topic.TheVariants.{Changelog}
+use Rattle.ks_plan.specs.Layout.{parts_of, kind_at, number_of, sub_of, reads}
+use Rattle.ks_plan.specs.Infos.{changelog_numbers}
 use Rattle.ks_map.specs.FinMap as fin
 use Rattle.ks_map.specs.FinMap.{FinMap}
 use Rattle.ks_map.specs.Bytes.{by_bytes, Store, empty_store}

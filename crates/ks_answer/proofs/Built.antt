@@ -1,8 +1,8 @@
 -- Built kinds are covered, and have nothing to spell.
 use Rattle.std.proofs.Common.{◌≡◌, true, List, [], ◌∷◌, refl}
 use Rattle.std.proofs.lemmas.Bool.{and_parts, and_from}
-use Rattle.ks_topo.specs.Plan.{Kind}
-use Rattle.ks_topo.specs.Plan.Kind.{TableSource, TableAggregate}
+use Rattle.ks_plan.specs.Plan.{Kind}
+use Rattle.ks_plan.specs.Plan.Kind.{TableSource, TableAggregate}
 use Rattle.ks_answer.specs.Plain.{is_covered_kind, are_covered, FitsKind, FitKinds}
 use Rattle.ks_answer.specs.Built.{is_built_kind, are_built}
 

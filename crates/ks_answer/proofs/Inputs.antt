@@ -8,11 +8,11 @@ use Rattle.std.proofs.lemmas.Bool.Decides.{Decides-eqb}
 use Rattle.ks_row.specs.declared.record.Rec.{Rec}
 use Rattle.ks_row.specs.declared.record.PartId.{PartId}
 use Rattle.ks_row.specs.Parts.{same_part}
-use Rattle.ks_topo.specs.declared.node.Topic.{Topic}
-use Rattle.ks_topo.specs.declared.node.Topic.TheVariants.{Input as InputTopic, Repartition, Subscriptions, Responses, Changelog, HashChangelog}
-use Rattle.ks_topo.specs.Plan.{Plan, Kind}
-use Rattle.ks_topo.specs.Plan.Kind.{StreamSource, TableSource}
-use Rattle.ks_topo.specs.Layout.{same_topic, at, parts_of, parts_of_topic, topics_of, topic_at, number_of, sub_of, sub_count, reads, is_read, is_drained, is_source_of, any_source_of, source_of, tasks}
+use Rattle.ks_plan.specs.declared.node.Topic.{Topic}
+use Rattle.ks_plan.specs.declared.node.Topic.TheVariants.{Input as InputTopic, Repartition, Subscriptions, Responses, Changelog, HashChangelog}
+use Rattle.ks_plan.specs.Plan.{Plan, Kind}
+use Rattle.ks_plan.specs.Plan.Kind.{StreamSource, TableSource}
+use Rattle.ks_plan.specs.Layout.{same_topic, at, parts_of, parts_of_topic, topics_of, topic_at, number_of, sub_of, sub_count, reads, is_read, is_drained, is_source_of, any_source_of, source_of, tasks}
 use Rattle.ks_query.specs.Streams.{Input}
 use Rattle.ks_history.specs.declared.journal.Request.{Request}
 use Rattle.ks_history.specs.declared.journal.Request.TheVariants.{Produce, Init, Add, Append, SendOffsets, Decide, MarkNext, Join, Expire, Hold, Probe, Assign, Park, Unpark}

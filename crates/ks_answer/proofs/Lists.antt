@@ -4,9 +4,9 @@ use Rattle.std.specs.Prelude.{◌==◌}
 use Rattle.std.specs.List.{filter}
 use Rattle.std.proofs.lemmas.Bool.{or_cases, or_left, or_right, eq-eqb, eqb-true, true≢false}
 use Rattle.ks_history.specs.Machine.{has_topic}
-use Rattle.ks_topo.specs.Plan.{Kind}
-use Rattle.ks_topo.specs.Layout.{by_node, up_to}
-use Rattle.ks_topo.specs.declared.node.Topic.{Topic}
+use Rattle.ks_plan.specs.Plan.{Kind}
+use Rattle.ks_plan.specs.Layout.{by_node, up_to}
+use Rattle.ks_plan.specs.declared.node.Topic.{Topic}
 
 -- ---- what holds of each of a list
 abbrev pub AllOf : {A : Type 0} → (A → Type 0) → List A → Type 0

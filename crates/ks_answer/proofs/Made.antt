@@ -1,9 +1,9 @@
 -- Printed nodes are nodes of the plan, and tables.
 use Rattle.std.proofs.Common.{◌≡◌, ℕ, zero, suc, ◌<◌, ◌≤◌, Bool, true, false, List, length, [], ◌∷◌, ◌++◌, get_or, fold, refl, sym, ap, subst, ◌∙◌, arith, length-append, append-nil, append_assoc, ⊎_elim}
 use Rattle.std.proofs.lemmas.Bool.{true≢false, cases_lt}
-use Rattle.ks_topo.specs.Plan.{Plan, Kind, is_stream}
-use Rattle.ks_topo.specs.Plan.Kind.{TableSource, TableFilter, TableMap, StreamAggregate, TableAggregate, KeyJoin}
-use Rattle.ks_topo.specs.Layout.{kind_at, no_kind}
+use Rattle.ks_plan.specs.Plan.{Plan, Kind, is_stream}
+use Rattle.ks_plan.specs.Plan.Kind.{TableSource, TableFilter, TableMap, StreamAggregate, TableAggregate, KeyJoin}
+use Rattle.ks_plan.specs.Layout.{kind_at, no_kind}
 use Rattle.ks_rest.specs.AtRest.{made_plainly, IsPlain}
 
 -- ---- flags

@@ -5,10 +5,10 @@ use Rattle.std.specs.Option.{option_or}
 use Rattle.std.proofs.lemmas.Bool.{and_parts, and_from, true≢false, cases_lt}
 use Rattle.std.proofs.lemmas.List.Sums.{fold-append}
 use Rattle.ks_expr.specs.Eval.{same_bytes}
-use Rattle.ks_topo.specs.declared.fault.TopoFault.TheVariants.{UnknownInput, DuplicateName, WrongKind}
-use Rattle.ks_topo.specs.Drafts.{Name, OpView, StreamOf, TableOf, FilterOf, MapOf, KeyOf, CountOf, SumOf, WindowedOf, JoinOf, FkJoinOf, NodeView, DraftView}
-use Rattle.ks_topo.specs.Plan.{Kind, Known, gives_stream, is_stream, known_of, learn, known_from, known_at, known_names, known_nodes, name_place, node_number, plan_of, nothing_known}
-use Rattle.ks_topo.specs.Faults.{Line, first_fitting, first_of, has_name, names_of, inputs_in, unknown_lines, kinds_among, wrong_kind, wiring_in, node_table, nodes_fault, print_lines, printed_fault, print_fault, size_lines}
+use Rattle.ks_plan.specs.declared.fault.TopoFault.TheVariants.{UnknownInput, DuplicateName, WrongKind}
+use Rattle.ks_plan.specs.Drafts.{Name, OpView, StreamOf, TableOf, FilterOf, MapOf, KeyOf, CountOf, SumOf, WindowedOf, JoinOf, FkJoinOf, NodeView, DraftView}
+use Rattle.ks_plan.specs.Plan.{Kind, Known, gives_stream, is_stream, known_of, learn, known_from, known_at, known_names, known_nodes, name_place, node_number, plan_of, nothing_known}
+use Rattle.ks_plan.specs.Faults.{Line, first_fitting, first_of, has_name, names_of, inputs_in, unknown_lines, kinds_among, wrong_kind, wiring_in, node_table, nodes_fault, print_lines, printed_fault, print_fault, size_lines}
 use Rattle.ks_rest.specs.WellFormed.{IsWellFormed}
 use Rattle.ks_rest.specs.AtRest.{made_plainly, plain_nodes}
 use Rattle.ks_answer.specs.Plain.{is_covered_kind, are_covered, IsCovered}

@@ -7,11 +7,11 @@ use Rattle.ks_row.specs.declared.record.Rec.{Rec}
 use Rattle.ks_row.specs.declared.record.PartId.{PartId}
 use Rattle.ks_row.specs.declared.record.TaskId.{TaskId}
 use Rattle.ks_row.specs.Parts.{same_task}
-use Rattle.ks_topo.specs.declared.node.Topic.{Topic}
-use Rattle.ks_topo.specs.declared.node.Topic.TheVariants.{Input}
-use Rattle.ks_topo.specs.Plan.{Plan}
-use Rattle.ks_topo.specs.Layout.{topic_at, reads, sub_count}
-use Rattle.ks_topo.specs.Infos.{input_numbers}
+use Rattle.ks_plan.specs.declared.node.Topic.{Topic}
+use Rattle.ks_plan.specs.declared.node.Topic.TheVariants.{Input}
+use Rattle.ks_plan.specs.Plan.{Plan}
+use Rattle.ks_plan.specs.Layout.{topic_at, reads, sub_count}
+use Rattle.ks_plan.specs.Infos.{input_numbers}
 use Rattle.ks_network.specs.Run.{Machine, RunState, Outcome, sent_to, is_from, same_sender, same_channel, of_input, take_first, advance, initial}
 use Rattle.ks_history.specs.Machine.{has_topic, network, reader_of}
 use Rattle.ks_replay.specs.Law.{OnInputs}

@@ -23,11 +23,11 @@ use Rattle.ks_wire.specs.declared.values.Delta.{Delta}
 use Rattle.ks_wire.proofs.Wired.{delta_codec, agg_codec}
 use Rattle.ks_expr.specs.Terms.{Set, Test}
 use Rattle.ks_expr.specs.Eval.{Row, holds, project}
-use Rattle.ks_topo.specs.declared.node.Topic.{Topic}
-use Rattle.ks_topo.specs.declared.node.Topic.TheVariants.{Input, Repartition}
-use Rattle.ks_topo.specs.Plan.{Plan, Kind}
-use Rattle.ks_topo.specs.Plan.Kind.{TableSource, TableFilter, TableMap, StreamAggregate, TableAggregate, KeyJoin}
-use Rattle.ks_topo.specs.Layout.{kind_at}
+use Rattle.ks_plan.specs.declared.node.Topic.{Topic}
+use Rattle.ks_plan.specs.declared.node.Topic.TheVariants.{Input, Repartition}
+use Rattle.ks_plan.specs.Plan.{Plan, Kind}
+use Rattle.ks_plan.specs.Plan.Kind.{TableSource, TableFilter, TableMap, StreamAggregate, TableAggregate, KeyJoin}
+use Rattle.ks_plan.specs.Layout.{kind_at}
 use Rattle.ks_query.specs.Streams.{Key, StreamItem, filter_item, map_item, rekey_item, group_key}
 use Rattle.ks_query.specs.Aggregates.{int_of, as_i64, amount_in, table_apply, with_amount, share_under, agg_row, count_name, sum_name}
 use Rattle.ks_machine.specs.Messages.{Stored, shown, agg_of, Message}

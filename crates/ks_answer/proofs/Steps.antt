@@ -11,12 +11,12 @@ use Rattle.ks_row.specs.Spelling.{FitsRow}
 use Rattle.ks_row.specs.declared.record.TaskId.{TaskId}
 use Rattle.ks_wire.specs.declared.values.Delta.{Delta}
 use Rattle.ks_expr.specs.Eval.{Row, same_bytes, holds, project, joined}
-use Rattle.ks_topo.specs.declared.node.Topic.{Topic}
-use Rattle.ks_topo.specs.declared.node.Topic.TheVariants.{Input, Repartition, Subscriptions, Changelog, HashChangelog}
-use Rattle.ks_topo.specs.Plan.{Plan, Kind, wiring_of, is_windowed, is_stream}
-use Rattle.ks_topo.specs.Plan.Kind.{StreamSource, TableSource, StreamFilter, TableFilter, StreamMap, TableMap, KeySelected, StreamAggregate, TableAggregate, Windowed, KeyJoin, ForeignKeyJoin}
-use Rattle.ks_topo.specs.Layout.{same_topic, at, wired_parts, parts_of, parts_of_topic, sub_of, sub_count, kind_at, no_kind, number_of, reads, tasks, is_drained, through_topics}
-use Rattle.ks_topo.specs.Infos.{changelog_numbers}
+use Rattle.ks_plan.specs.declared.node.Topic.{Topic}
+use Rattle.ks_plan.specs.declared.node.Topic.TheVariants.{Input, Repartition, Subscriptions, Changelog, HashChangelog}
+use Rattle.ks_plan.specs.Plan.{Plan, Kind, wiring_of, is_windowed, is_stream}
+use Rattle.ks_plan.specs.Plan.Kind.{StreamSource, TableSource, StreamFilter, TableFilter, StreamMap, TableMap, KeySelected, StreamAggregate, TableAggregate, Windowed, KeyJoin, ForeignKeyJoin}
+use Rattle.ks_plan.specs.Layout.{same_topic, at, wired_parts, parts_of, parts_of_topic, sub_of, sub_count, kind_at, no_kind, number_of, reads, tasks, is_drained, through_topics}
+use Rattle.ks_plan.specs.Infos.{changelog_numbers}
 use Rattle.ks_map.specs.FinMap as fin
 use Rattle.ks_map.specs.FinMap.{FinMap}
 use Rattle.ks_map.specs.Bytes.{by_bytes, empty_store as no_bytes}

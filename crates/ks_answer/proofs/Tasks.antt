@@ -9,8 +9,8 @@ use Rattle.std.proofs.lemmas.Bool.{eqb-true, eq-eqb, true≢false, or_cases, or_
 use Rattle.std.proofs.lemmas.Bool.Decides.{Decides-eqb}
 use Rattle.ks_row.specs.declared.record.TaskId.{TaskId}
 use Rattle.ks_row.specs.Parts.{same_task}
-use Rattle.ks_topo.specs.Plan.{Plan}
-use Rattle.ks_topo.specs.Layout.{up_to, sub_of, sub_count, parts_of, subs, first_in, sub_parts, tasks_in, tasks}
+use Rattle.ks_plan.specs.Plan.{Plan}
+use Rattle.ks_plan.specs.Layout.{up_to, sub_of, sub_count, parts_of, subs, first_in, sub_parts, tasks_in, tasks}
 use Rattle.ks_history.specs.Machine.{has_topic}
 use Rattle.ks_history.specs.State.{has_task}
 use Rattle.ks_history.proofs.Names.{same_task-refl}

@@ -5,14 +5,14 @@ use Rattle.std.specs.List.{filter}
 use Rattle.std.proofs.lemmas.Bool.{and_parts, eq-eqb, eqb-true, true≢false}
 use Rattle.std.proofs.lemmas.Bool.Decides.{Decides-eqb}
 use Rattle.ks_row.specs.Parts.{same_part}
-use Rattle.ks_topo.specs.declared.node.Topic.{Topic}
-use Rattle.ks_topo.specs.declared.node.Topic.TheVariants.{Input, Repartition, Changelog}
-use Rattle.ks_topo.specs.declared.node.Wiring.{Wiring}
-use Rattle.ks_topo.specs.declared.node.Wiring.TheVariants as wired
-use Rattle.ks_topo.specs.Plan.{Plan, Kind, wiring_of, is_stream}
-use Rattle.ks_topo.specs.Plan.Kind.{StreamSource, TableSource, StreamFilter, TableFilter, StreamMap, TableMap, KeySelected, StreamAggregate, TableAggregate, Windowed, KeyJoin, ForeignKeyJoin}
-use Rattle.ks_topo.specs.Layout.{same_topic, up_to, place_of, topics_of, number_of, topic_at, kind_at, no_kind, reads, is_read, is_drained, drain_order, inputs, changelogs, by_node, wired_through, through_topics, changelogs_of, input_topics, sub_of}
-use Rattle.ks_topo.specs.Infos.{input_numbers, changelog_numbers}
+use Rattle.ks_plan.specs.declared.node.Topic.{Topic}
+use Rattle.ks_plan.specs.declared.node.Topic.TheVariants.{Input, Repartition, Changelog}
+use Rattle.ks_plan.specs.declared.node.Wiring.{Wiring}
+use Rattle.ks_plan.specs.declared.node.Wiring.TheVariants as wired
+use Rattle.ks_plan.specs.Plan.{Plan, Kind, wiring_of, is_stream}
+use Rattle.ks_plan.specs.Plan.Kind.{StreamSource, TableSource, StreamFilter, TableFilter, StreamMap, TableMap, KeySelected, StreamAggregate, TableAggregate, Windowed, KeyJoin, ForeignKeyJoin}
+use Rattle.ks_plan.specs.Layout.{same_topic, up_to, place_of, topics_of, number_of, topic_at, kind_at, no_kind, reads, is_read, is_drained, drain_order, inputs, changelogs, by_node, wired_through, through_topics, changelogs_of, input_topics, sub_of}
+use Rattle.ks_plan.specs.Infos.{input_numbers, changelog_numbers}
 use Rattle.ks_history.specs.Machine.{has_topic}
 use Rattle.ks_machine.specs.Messages.{Place, same_place}
 use Rattle.ks_machine.specs.Tasks.{is_changelog}

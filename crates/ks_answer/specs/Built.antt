@@ -1,7 +1,7 @@
 -- Plans of the kinds of nodes for which the law here is proved: tables of topics, and counts and sums of tables.
 use Rattle.std.specs.Prelude.{◌≡◌, Bool, true, false, ◌&&◌, List, [], ◌∷◌}
-use Rattle.ks_topo.specs.Plan.{Plan, Kind}
-use Rattle.ks_topo.specs.Plan.Kind.{TableSource, TableAggregate}
+use Rattle.ks_plan.specs.Plan.{Plan, Kind}
+use Rattle.ks_plan.specs.Plan.Kind.{TableSource, TableAggregate}
 
 abbrev pub is_built_kind : Kind → Bool
 is_built_kind (TableSource t) = true

@@ -4,10 +4,10 @@
 use Rattle.std.specs.Prelude.{ℕ, List, map, fold, Option, option_map}
 use Rattle.ks_row.specs.Texts.{key_from}
 use Rattle.ks_row.specs.declared.record.PartId.{PartId}
-use Rattle.ks_topo.specs.Drafts.{Name, DraftView}
-use Rattle.ks_topo.specs.Plan.{Plan, Kind, plan_of, known_nodes, node_number}
-use Rattle.ks_topo.specs.Layout.{up_to, parts_of, kind_at, number_of}
-use Rattle.ks_topo.specs.declared.node.Topic.TheVariants.{Changelog}
+use Rattle.ks_plan.specs.Drafts.{Name, DraftView}
+use Rattle.ks_plan.specs.Plan.{Plan, Kind, plan_of, known_nodes, node_number}
+use Rattle.ks_plan.specs.Layout.{up_to, parts_of, kind_at, number_of}
+use Rattle.ks_plan.specs.declared.node.Topic.TheVariants.{Changelog}
 use Rattle.ks_expr.specs.Eval.{Row}
 use Rattle.ks_map.specs.FinMap as fin
 use Rattle.ks_map.specs.FinMap.{FinMap}

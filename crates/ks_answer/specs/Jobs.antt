@@ -5,9 +5,9 @@ use Rattle.ks_row.specs.Texts.{IsKey}
 use Rattle.ks_row.specs.Spelling.{FitsRow}
 use Rattle.ks_row.specs.declared.record.Rec.{Rec}
 use Rattle.ks_row.specs.declared.record.PartId.{PartId}
-use Rattle.ks_topo.specs.Drafts.{DraftView}
-use Rattle.ks_topo.specs.Plan.{Plan, plan_of}
-use Rattle.ks_topo.specs.declared.node.Topic.TheVariants.{Input as InputTopic}
+use Rattle.ks_plan.specs.Drafts.{DraftView}
+use Rattle.ks_plan.specs.Plan.{Plan, plan_of}
+use Rattle.ks_plan.specs.declared.node.Topic.TheVariants.{Input as InputTopic}
 use Rattle.ks_query.specs.Streams.{Key, Input}
 use Rattle.ks_query.specs.Printed.{job_tables}
 use Rattle.ks_machine.specs.Messages.{Rules}

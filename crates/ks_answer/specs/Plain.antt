@@ -1,8 +1,8 @@
 -- The same law for more kinds of nodes: all but windowed counts and joins on a foreign key.
 use Rattle.std.specs.Prelude.{◌≡◌, Bool, true, false, ◌&&◌, List, [], ◌∷◌}
-use Rattle.ks_topo.specs.Drafts.{DraftView}
-use Rattle.ks_topo.specs.Plan.{Plan, Kind, plan_of}
-use Rattle.ks_topo.specs.Plan.Kind.{StreamMap, TableMap, Windowed, KeyJoin, ForeignKeyJoin}
+use Rattle.ks_plan.specs.Drafts.{DraftView}
+use Rattle.ks_plan.specs.Plan.{Plan, Kind, plan_of}
+use Rattle.ks_plan.specs.Plan.Kind.{StreamMap, TableMap, Windowed, KeyJoin, ForeignKeyJoin}
 use Rattle.ks_query.specs.Streams.{Input}
 use Rattle.ks_query.specs.Printed.{job_tables}
 use Rattle.ks_machine.specs.Messages.{Rules}

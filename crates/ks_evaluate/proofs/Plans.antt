@@ -10,15 +10,15 @@ use Rattle.std.specs.FinMap.{slice_cmp-IsAntisymmetric, nat_cmp-IsAntisymmetric}
 use Rattle.std.proofs.lemmas.Bool.{and_parts, and_from, leb-true, le-leb}
 use Rattle.std.proofs.lemmas.List.Sums.{fold-append}
 use Rattle.ks_expr.specs.Eval.{same_bytes}
-use Rattle.ks_topo.specs.declared.node.Node.{Node}
-use Rattle.ks_topo.specs.declared.node.Wiring.{Wiring}
-use Rattle.ks_topo.specs.Drafts.{Name, OpView, StreamOf, TableOf, FilterOf, MapOf, KeyOf, CountOf, SumOf, WindowedOf, JoinOf, FkJoinOf, NodeView, DraftView}
-use Rattle.ks_topo.specs.Plan.{Plan, Kind, Window, Known, plan_of, known_of, known_from, known_at, known_names, known_nodes, node_number, name_place, learn, is_stream, wiring_of, gives_stream, window_of, natural, or_number}
-use Rattle.ks_topo.specs.Plan.Kind.{StreamFilter, TableFilter, StreamMap, TableMap, StreamAggregate, TableAggregate, Windowed}
-use Rattle.ks_topo.specs.Layout.{kind_at, no_kind}
-use Rattle.ks_topo.specs.Infos.{NodePlace, node_place, built_view, place_in, places_from, node_places}
-use Rattle.ks_topo.specs.declared.fault.TopoFault.TheVariants.{UnknownInput, DuplicateName, WrongKind}
-use Rattle.ks_topo.specs.Faults.{Line, wiring_in, first_fitting, first_of, has_name, names_of as view_names, node_table, nodes_fault, print_lines, printed_fault, print_fault, parts_fault, size_lines, fault_of, window_lines, is_window, is_time, is_advance, int_or}
+use Rattle.ks_plan.specs.declared.node.Node.{Node}
+use Rattle.ks_plan.specs.declared.node.Wiring.{Wiring}
+use Rattle.ks_plan.specs.Drafts.{Name, OpView, StreamOf, TableOf, FilterOf, MapOf, KeyOf, CountOf, SumOf, WindowedOf, JoinOf, FkJoinOf, NodeView, DraftView}
+use Rattle.ks_plan.specs.Plan.{Plan, Kind, Window, Known, plan_of, known_of, known_from, known_at, known_names, known_nodes, node_number, name_place, learn, is_stream, wiring_of, gives_stream, window_of, natural, or_number}
+use Rattle.ks_plan.specs.Plan.Kind.{StreamFilter, TableFilter, StreamMap, TableMap, StreamAggregate, TableAggregate, Windowed}
+use Rattle.ks_plan.specs.Layout.{kind_at, no_kind}
+use Rattle.ks_plan.specs.Infos.{NodePlace, node_place, built_view, place_in, places_from, node_places}
+use Rattle.ks_plan.specs.declared.fault.TopoFault.TheVariants.{UnknownInput, DuplicateName, WrongKind}
+use Rattle.ks_plan.specs.Faults.{Line, wiring_in, first_fitting, first_of, has_name, names_of as view_names, node_table, nodes_fault, print_lines, printed_fault, print_fault, parts_fault, size_lines, fault_of, window_lines, is_window, is_time, is_advance, int_or}
 use Rattle.ks_query.specs.declared.table.Table.{Table}
 use Rattle.ks_query.specs.declared.table.TableRow.{TableRow}
 use Rattle.ks_query.specs.Streams.{Input, some_of, with_some}

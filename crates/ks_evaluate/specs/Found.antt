@@ -1,11 +1,11 @@
 -- The answers of nodes as the program keeps them, in a list.
 use Rattle.std.specs.Prelude.{ℕ, suc, true, List, [], ◌∷◌, get_or, Option, Some, None, cond, fold, option_map, unwrap_or}
-use Rattle.ks_topo.specs.Plan.{Kind}
+use Rattle.ks_plan.specs.Plan.{Kind}
 use Rattle.ks_map.specs.FinMap as fin
 use Rattle.ks_expr.specs.Eval.{holds, project}
-use Rattle.ks_topo.specs.declared.node.Wiring.{Wiring}
-use Rattle.ks_topo.specs.declared.node.Wiring.TheVariants as wired
-use Rattle.ks_topo.specs.Drafts.{OpView}
+use Rattle.ks_plan.specs.declared.node.Wiring.{Wiring}
+use Rattle.ks_plan.specs.declared.node.Wiring.TheVariants as wired
+use Rattle.ks_plan.specs.Drafts.{OpView}
 use Rattle.ks_map.specs.Bytes.{by_bytes}
 use Rattle.ks_map.specs.Table.{latest}
 use Rattle.ks_evaluate.specs.Nodes.{test_in, set_in, key_in, group_in, window_in, join_in, foreign_in}

@@ -1,5 +1,5 @@
 -- Windows as the program keeps them.
-use Rattle.ks_topo.specs.Plan.{Window}
+use Rattle.ks_plan.specs.Plan.{Window}
 use Rattle.ks_evaluate.specs.declared.parts.Hops.{Hops}
 
 abbrev pub hops_view : Hops → Window

@@ -2,12 +2,12 @@
 use Rattle.std.specs.Prelude.{[], Option, Some, None, option_map, unwrap_or, cond, ◌&&◌, nat_le}
 use Rattle.ks_expr.specs.declared.terms.JoinKind.{JoinKind}
 use Rattle.ks_expr.specs.Terms.{Test, Set}
-use Rattle.ks_topo.specs.declared.node.Wiring.{Wiring}
-use Rattle.ks_topo.specs.declared.node.Wiring.TheVariants as wired
-use Rattle.ks_topo.specs.declared.node.Node.{Node}
-use Rattle.ks_topo.specs.Drafts.{Name, OpView, FilterOf, MapOf, KeyOf, CountOf, SumOf, WindowedOf, JoinOf, FkJoinOf, op_view}
-use Rattle.ks_topo.specs.Plan.{Kind, Window, window_of}
-use Rattle.ks_topo.specs.Plan.Kind.{StreamSource, TableSource, StreamFilter, TableFilter, StreamMap, TableMap, KeySelected, StreamAggregate, TableAggregate, Windowed, KeyJoin, ForeignKeyJoin}
+use Rattle.ks_plan.specs.declared.node.Wiring.{Wiring}
+use Rattle.ks_plan.specs.declared.node.Wiring.TheVariants as wired
+use Rattle.ks_plan.specs.declared.node.Node.{Node}
+use Rattle.ks_plan.specs.Drafts.{Name, OpView, FilterOf, MapOf, KeyOf, CountOf, SumOf, WindowedOf, JoinOf, FkJoinOf, op_view}
+use Rattle.ks_plan.specs.Plan.{Kind, Window, window_of}
+use Rattle.ks_plan.specs.Plan.Kind.{StreamSource, TableSource, StreamFilter, TableFilter, StreamMap, TableMap, KeySelected, StreamAggregate, TableAggregate, Windowed, KeyJoin, ForeignKeyJoin}
 
 -- ---- the parts of an operation, where it has them
 abbrev pub test_in : OpView → Option Test

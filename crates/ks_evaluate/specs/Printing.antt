@@ -1,9 +1,9 @@
 -- The tables that are printed, from the nodes and their answers.
 use Rattle.std.specs.Prelude.{ℕ, List, map, slice_get, Option, Some, None, cond}
-use Rattle.ks_topo.specs.declared.node.Node.{Node}
-use Rattle.ks_topo.specs.declared.node.Wiring.{Wiring}
-use Rattle.ks_topo.specs.Drafts.{Name}
-use Rattle.ks_topo.specs.Plan.{name_place, gives_windows}
+use Rattle.ks_plan.specs.declared.node.Node.{Node}
+use Rattle.ks_plan.specs.declared.node.Wiring.{Wiring}
+use Rattle.ks_plan.specs.Drafts.{Name}
+use Rattle.ks_plan.specs.Plan.{name_place, gives_windows}
 use Rattle.ks_map.specs.FinMap as fin
 use Rattle.ks_query.specs.declared.table.Table.{Table}
 use Rattle.ks_query.specs.declared.table.TableRow.{TableRow}

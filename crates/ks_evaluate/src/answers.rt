@@ -4,7 +4,7 @@ ghost use Rattle.ks_map.specs.FinMap as fin;
 ghost use Rattle.ks_map.specs.Bytes.{by_bytes};
 ghost use Rattle.ks_map.specs.Table.{write};
 ghost use Rattle.ks_expr.specs.Eval.{holds, project};
-ghost use Rattle.ks_topo.specs.Drafts.{op_view};
+ghost use Rattle.ks_plan.specs.Drafts.{op_view};
 ghost use Rattle.ks_query.specs.Streams.{some_of, filter_item, map_item, rekey_item, grouped};
 ghost use Rattle.ks_query.specs.Windows.{by_window};
 ghost use Rattle.ks_query.specs.Query.{no_answers, map_values, aggregate, item_rows, grouped_rows, in_windows, add_to, key_join, foreign_join};

@@ -1,9 +1,9 @@
 //! The parts of operations, where they have them.
 ghost use Rattle.std.specs.Prelude.{◌≡◌, ◌≤◌, option_map, option_copied, IfSome};
 ghost use Rattle.ks_expr.specs.Terms.{test_of, set_of};
-ghost use Rattle.ks_topo.specs.Drafts.{op_view};
+ghost use Rattle.ks_plan.specs.Drafts.{op_view};
 ghost use Rattle.ks_evaluate.specs.Nodes.{test_in as has_test, set_in as has_set, key_in as has_key, group_in as has_group, window_in as has_window, join_in as has_join, foreign_in as has_foreign};
-ghost use Rattle.ks_topo.specs.Plan.{natural, or_number, window_of};
+ghost use Rattle.ks_plan.specs.Plan.{natural, or_number, window_of};
 ghost use Rattle.ks_evaluate.specs.Hops.{hops_view};
 
 use ks_expr::{JoinKind, Pred, Proj};

@@ -2,7 +2,7 @@
 ghost use Rattle.std.specs.Prelude.{◌≡◌, true, map, IfOk};
 ghost use Rattle.ks_expr.specs.Eval.{same_bytes};
 ghost use Rattle.ks_map.specs.FinMap as fin;
-ghost use Rattle.ks_topo.specs.Plan.{name_place};
+ghost use Rattle.ks_plan.specs.Plan.{name_place};
 ghost use Rattle.ks_query.specs.Streams.{some_of};
 ghost use Rattle.ks_query.specs.Printed.{plain_row, window_row};
 ghost use Rattle.ks_query.specs.Aggregates.{agg_row as row_of};

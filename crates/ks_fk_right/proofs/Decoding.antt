@@ -23,8 +23,8 @@ use Rattle.ks_map.specs.FinMap as fin
 use Rattle.ks_map.specs.FinMap.{FinMap}
 use Rattle.ks_map.specs.Bytes.{by_bytes, Store}
 use Rattle.ks_query.specs.Streams.{Key, some_of, with_some}
-use Rattle.ks_topo.specs.declared.node.Topic.TheVariants.{HashChangelog}
-use Rattle.ks_topo.specs.Layout.{number_of}
+use Rattle.ks_plan.specs.declared.node.Topic.TheVariants.{HashChangelog}
+use Rattle.ks_plan.specs.Layout.{number_of}
 use Rattle.ks_machine.specs.Bytes.{with_pair, map_from, left_at}
 use Rattle.ks_machine.specs.Laws.{AreBytes}
 use Rattle.ks_machine.proofs.Same.{bytes-is}

@@ -2,9 +2,9 @@
 use Rattle.std.specs.Prelude.{◌≡◌, ℕ, true}
 use Rattle.ks_row.specs.Texts.{IsKey}
 use Rattle.ks_map.specs.FinMap as fin
-use Rattle.ks_topo.specs.Plan.{Plan}
-use Rattle.ks_topo.specs.declared.node.Topic.TheVariants.{HashChangelog}
-use Rattle.ks_topo.specs.Layout.{number_of}
+use Rattle.ks_plan.specs.Plan.{Plan}
+use Rattle.ks_plan.specs.declared.node.Topic.TheVariants.{HashChangelog}
+use Rattle.ks_plan.specs.Layout.{number_of}
 use Rattle.ks_query.specs.Streams.{Key}
 use Rattle.ks_machine.specs.Bytes.{ByteStores, is_own, hashes_from}
 use Rattle.ks_machine.specs.Laws.{AreBytes}

@@ -4,7 +4,7 @@ use Rattle.std.specs.Prelude.{Option, Some, None, Result, Ok, Err, codes, min, n
 use Rattle.std.proofs.lemmas.List.{length-append}
 use Rattle.std.proofs.lemmas.Bool.{leb-true, leb-false}
 use Rattle.serde_json.specs.Data.{Data}
-use Rattle.ks_topo.specs.Drafts.{DraftView}
+use Rattle.ks_plan.specs.Drafts.{DraftView}
 use Rattle.ks_line.specs.declared.fault.JobKind.{JobKind}
 use Rattle.ks_line.specs.declared.fault.JobKind.TheVariants.{TooMany, NotJson, LineTooLong}
 use Rattle.ks_line.specs.declared.record.Input.{Input}

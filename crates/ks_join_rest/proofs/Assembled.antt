@@ -9,8 +9,8 @@ use Rattle.ks_expr.specs.declared.terms.JoinKind.TheVariants.{Inner, Left as Lef
 use Rattle.ks_expr.specs.Terms.{Set}
 use Rattle.ks_expr.specs.Eval.{Row, same_bytes, joined}
 use Rattle.ks_wire.specs.declared.values.Response.{Response as Answer}
-use Rattle.ks_topo.specs.Plan.{Plan}
-use Rattle.ks_topo.specs.Layout.{sub_of}
+use Rattle.ks_plan.specs.Plan.{Plan}
+use Rattle.ks_plan.specs.Layout.{sub_of}
 use Rattle.ks_query.specs.Streams.{Key}
 use Rattle.ks_machine.specs.Messages.{Stored, shown, Rules, Instruction, same_option}
 use Rattle.ks_machine.specs.Messages.Instruction.{Delete, DeleteAndAnswer, Answer as AnswerAlways, AnswerIfThere}

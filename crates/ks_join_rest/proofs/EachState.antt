@@ -8,9 +8,9 @@ use Rattle.ks_row.specs.FieldKeys.{field_key}
 use Rattle.ks_expr.specs.declared.terms.JoinKind.{JoinKind}
 use Rattle.ks_expr.specs.Terms.{Set}
 use Rattle.ks_expr.specs.Eval.{Row, same_bytes, joined}
-use Rattle.ks_topo.specs.declared.node.Topic.TheVariants.{Subscriptions, Responses}
-use Rattle.ks_topo.specs.Plan.{Plan}
-use Rattle.ks_topo.specs.Plan.Kind.{ForeignKeyJoin}
+use Rattle.ks_plan.specs.declared.node.Topic.TheVariants.{Subscriptions, Responses}
+use Rattle.ks_plan.specs.Plan.{Plan}
+use Rattle.ks_plan.specs.Plan.Kind.{ForeignKeyJoin}
 use Rattle.ks_query.specs.Streams.{Key, Input}
 use Rattle.ks_machine.specs.Messages.{Place, Message, Rules, same_option}
 use Rattle.ks_machine.specs.Messages.Message.{Asked, Answered}

@@ -6,10 +6,10 @@ use Rattle.ks_row.specs.declared.record.TaskId.{TaskId}
 use Rattle.ks_expr.specs.declared.terms.JoinKind.TheVariants.{Inner}
 use Rattle.ks_expr.specs.Terms.Term.{LeftOf, RightOf}
 use Rattle.ks_expr.specs.Eval.{Row}
-use Rattle.ks_topo.specs.declared.node.Topic.TheVariants.{Input as InputTopic, Subscriptions, Responses}
-use Rattle.ks_topo.specs.Drafts.{DraftView, TableOf, FkJoinOf}
-use Rattle.ks_topo.specs.Faults.{fault_of}
-use Rattle.ks_topo.specs.Plan.{plan_of}
+use Rattle.ks_plan.specs.declared.node.Topic.TheVariants.{Input as InputTopic, Subscriptions, Responses}
+use Rattle.ks_plan.specs.Drafts.{DraftView, TableOf, FkJoinOf}
+use Rattle.ks_plan.specs.Faults.{fault_of}
+use Rattle.ks_plan.specs.Plan.{plan_of}
 use Rattle.ks_map.specs.FinMap as fin
 use Rattle.ks_query.specs.Streams.{Key}
 use Rattle.ks_machine.specs.Messages.{Place}

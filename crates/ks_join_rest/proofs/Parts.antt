@@ -9,9 +9,9 @@ use Rattle.ks_expr.specs.declared.terms.JoinKind.{JoinKind}
 use Rattle.ks_expr.specs.Terms.{Set}
 use Rattle.ks_expr.specs.Eval.{Row, same_bytes}
 use Rattle.ks_wire.specs.declared.values.Response.{Response as Answer}
-use Rattle.ks_topo.specs.declared.node.Topic.TheVariants.{Subscriptions, Responses}
-use Rattle.ks_topo.specs.Plan.{Plan}
-use Rattle.ks_topo.specs.Layout.{parts_of, parts_of_topic}
+use Rattle.ks_plan.specs.declared.node.Topic.TheVariants.{Subscriptions, Responses}
+use Rattle.ks_plan.specs.Plan.{Plan}
+use Rattle.ks_plan.specs.Layout.{parts_of, parts_of_topic}
 use Rattle.ks_map.specs.FinMap as fin
 use Rattle.ks_map.specs.FinMap.{FinMap}
 use Rattle.ks_map.specs.Bytes.{by_bytes}

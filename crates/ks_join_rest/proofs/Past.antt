@@ -5,8 +5,8 @@ use Rattle.std.proofs.lemmas.Bool.{cases_lt}
 use Rattle.std.proofs.lemmas.Bool.Decides.{Decides-eqb}
 use Rattle.ks_row.specs.declared.record.TaskId.{TaskId}
 use Rattle.ks_expr.specs.Eval.{Row, same_bytes}
-use Rattle.ks_topo.specs.declared.node.Topic.TheVariants.{Changelog, HashChangelog, Subscriptions}
-use Rattle.ks_topo.specs.Plan.{Plan, Kind}
+use Rattle.ks_plan.specs.declared.node.Topic.TheVariants.{Changelog, HashChangelog, Subscriptions}
+use Rattle.ks_plan.specs.Plan.{Plan, Kind}
 use Rattle.ks_query.specs.Streams.{Key, StreamItem}
 use Rattle.ks_network.specs.Run.{sent_to}
 use Rattle.ks_network.proofs.Runs.{sent_to-append}

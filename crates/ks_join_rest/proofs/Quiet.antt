@@ -3,11 +3,11 @@ use Rattle.std.proofs.Common.{◌≡◌, ◌≢◌, ℕ, suc, ◌<◌, Bool, tru
 use Rattle.std.specs.Prelude.{option_and_then}
 use Rattle.std.proofs.lemmas.Bool.Decides.{Decides-eqb}
 use Rattle.ks_expr.specs.Eval.{joined}
-use Rattle.ks_topo.specs.declared.node.Topic.{Topic}
-use Rattle.ks_topo.specs.declared.node.Topic.TheVariants.{Input as InputTopic, Repartition, Responses}
-use Rattle.ks_topo.specs.Plan.{Plan, Kind}
-use Rattle.ks_topo.specs.Plan.Kind.{StreamSource, TableSource, StreamFilter, TableFilter, StreamMap, TableMap, KeySelected, StreamAggregate, TableAggregate, Windowed, KeyJoin, ForeignKeyJoin}
-use Rattle.ks_topo.specs.Layout.{same_topic}
+use Rattle.ks_plan.specs.declared.node.Topic.{Topic}
+use Rattle.ks_plan.specs.declared.node.Topic.TheVariants.{Input as InputTopic, Repartition, Responses}
+use Rattle.ks_plan.specs.Plan.{Plan, Kind}
+use Rattle.ks_plan.specs.Plan.Kind.{StreamSource, TableSource, StreamFilter, TableFilter, StreamMap, TableMap, KeySelected, StreamAggregate, TableAggregate, Windowed, KeyJoin, ForeignKeyJoin}
+use Rattle.ks_plan.specs.Layout.{same_topic}
 use Rattle.ks_query.specs.Streams.{StreamItem, filter_item, map_item, rekey_item}
 use Rattle.ks_query.specs.Query.{with_number}
 use Rattle.ks_machine.specs.Messages.{Stored, Rules}

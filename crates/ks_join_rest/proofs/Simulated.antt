@@ -8,11 +8,11 @@ use Rattle.ks_row.specs.FieldKeys.{field_key}
 use Rattle.ks_expr.specs.declared.terms.JoinKind.{JoinKind}
 use Rattle.ks_expr.specs.Terms.{Set}
 use Rattle.ks_expr.specs.Eval.{Row, same_bytes}
-use Rattle.ks_topo.specs.declared.node.Topic.{Topic}
-use Rattle.ks_topo.specs.declared.node.Topic.TheVariants.{Subscriptions, Responses, Changelog}
-use Rattle.ks_topo.specs.Plan.{Plan, Kind}
-use Rattle.ks_topo.specs.Plan.Kind.{ForeignKeyJoin}
-use Rattle.ks_topo.specs.Layout.{same_topic, sub_of, parts_of_topic}
+use Rattle.ks_plan.specs.declared.node.Topic.{Topic}
+use Rattle.ks_plan.specs.declared.node.Topic.TheVariants.{Subscriptions, Responses, Changelog}
+use Rattle.ks_plan.specs.Plan.{Plan, Kind}
+use Rattle.ks_plan.specs.Plan.Kind.{ForeignKeyJoin}
+use Rattle.ks_plan.specs.Layout.{same_topic, sub_of, parts_of_topic}
 use Rattle.ks_map.specs.FinMap as fin
 use Rattle.ks_query.specs.Streams.{Key, StreamItem}
 use Rattle.ks_network.specs.Run.{same_channel, sent_to}

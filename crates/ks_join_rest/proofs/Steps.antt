@@ -6,10 +6,10 @@ use Rattle.ks_row.specs.declared.record.TaskId.{TaskId}
 use Rattle.ks_row.specs.Parts.{same_task}
 use Rattle.ks_expr.specs.Eval.{same_bytes}
 use Rattle.std.proofs.lemmas.Bool.{and_parts}
-use Rattle.ks_topo.specs.declared.node.Topic.{Topic}
-use Rattle.ks_topo.specs.declared.node.Topic.TheVariants.{Subscriptions}
-use Rattle.ks_topo.specs.Layout.{same_topic}
-use Rattle.ks_topo.specs.Plan.{Plan}
+use Rattle.ks_plan.specs.declared.node.Topic.{Topic}
+use Rattle.ks_plan.specs.declared.node.Topic.TheVariants.{Subscriptions}
+use Rattle.ks_plan.specs.Layout.{same_topic}
+use Rattle.ks_plan.specs.Plan.{Plan}
 use Rattle.ks_map.specs.FinMap as fin
 use Rattle.ks_map.specs.FinMap.{FinMap}
 use Rattle.ks_map.proofs.Tables.{get-write}

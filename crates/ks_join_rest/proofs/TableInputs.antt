@@ -2,12 +2,12 @@
 use Rattle.std.proofs.Common.{◌≡◌, ℕ, zero, suc, Bool, true, false, cond, not, ◌&&◌, List, [], ◌∷◌, ◌++◌, map, get_or, Option, None, Some, refl, sym, ap, ap₂, subst, ◌∙◌, append_assoc, append-nil}
 use Rattle.std.specs.Option.{option_or}
 use Rattle.std.proofs.lemmas.List.Sums.{fold-append}
-use Rattle.ks_topo.specs.declared.fault.TopoFault.TheVariants.{SinkOnly, WrongKind}
-use Rattle.ks_topo.specs.Drafts.{Name, OpView, StreamOf, TableOf, FilterOf, MapOf, KeyOf, CountOf, SumOf, WindowedOf, JoinOf, FkJoinOf, NodeView, DraftView}
-use Rattle.ks_topo.specs.Plan.{Kind, Known, is_stream, is_windowed, known_of, learn, known_from, known_at, node_number, plan_of, nothing_known}
-use Rattle.ks_topo.specs.Plan.Kind.{StreamFilter, TableFilter, StreamMap, TableMap, TableAggregate, KeyJoin, ForeignKeyJoin}
-use Rattle.ks_topo.specs.Layout.{no_kind}
-use Rattle.ks_topo.specs.Faults.{Line, first_fitting, first_of, inputs_in, node_table, nodes_fault, sink_lines, kind_lines, size_lines, print_fault, parts_fault, wrong_kind, wiring_in}
+use Rattle.ks_plan.specs.declared.fault.TopoFault.TheVariants.{SinkOnly, WrongKind}
+use Rattle.ks_plan.specs.Drafts.{Name, OpView, StreamOf, TableOf, FilterOf, MapOf, KeyOf, CountOf, SumOf, WindowedOf, JoinOf, FkJoinOf, NodeView, DraftView}
+use Rattle.ks_plan.specs.Plan.{Kind, Known, is_stream, is_windowed, known_of, learn, known_from, known_at, node_number, plan_of, nothing_known}
+use Rattle.ks_plan.specs.Plan.Kind.{StreamFilter, TableFilter, StreamMap, TableMap, TableAggregate, KeyJoin, ForeignKeyJoin}
+use Rattle.ks_plan.specs.Layout.{no_kind}
+use Rattle.ks_plan.specs.Faults.{Line, first_fitting, first_of, inputs_in, node_table, nodes_fault, sink_lines, kind_lines, size_lines, print_fault, parts_fault, wrong_kind, wiring_in}
 use Rattle.ks_rest.specs.WellFormed.{IsWellFormed}
 use Rattle.ks_join_rest.specs.AtRest.{is_table}
 

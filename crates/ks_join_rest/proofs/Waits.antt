@@ -14,11 +14,11 @@ use Rattle.ks_expr.specs.declared.terms.JoinKind.{JoinKind}
 use Rattle.ks_expr.specs.Terms.{Set}
 use Rattle.ks_expr.specs.Eval.{Row, same_field, same_bytes}
 use Rattle.ks_wire.specs.declared.values.Response.{Response}
-use Rattle.ks_topo.specs.declared.node.Topic.{Topic}
-use Rattle.ks_topo.specs.declared.node.Topic.TheVariants.{Subscriptions, Responses}
-use Rattle.ks_topo.specs.Plan.{Plan, Kind}
-use Rattle.ks_topo.specs.Plan.Kind.{ForeignKeyJoin}
-use Rattle.ks_topo.specs.Layout.{same_topic, sub_of, parts_of, parts_of_topic, kind_at, no_kind, right_of}
+use Rattle.ks_plan.specs.declared.node.Topic.{Topic}
+use Rattle.ks_plan.specs.declared.node.Topic.TheVariants.{Subscriptions, Responses}
+use Rattle.ks_plan.specs.Plan.{Plan, Kind}
+use Rattle.ks_plan.specs.Plan.Kind.{ForeignKeyJoin}
+use Rattle.ks_plan.specs.Layout.{same_topic, sub_of, parts_of, parts_of_topic, kind_at, no_kind, right_of}
 use Rattle.ks_map.specs.FinMap as fin
 use Rattle.ks_query.specs.Streams.{Key, Input, StreamItem}
 use Rattle.ks_network.specs.Run.{Machine, RunState, is_from, same_channel, sent_to, take_first, initial, run}

@@ -6,8 +6,8 @@ use Rattle.std.proofs.lemmas.Bool.{ltb-false}
 use Rattle.ks_row.specs.declared.record.TaskId.{TaskId}
 use Rattle.ks_row.specs.Parts.{same_task}
 use Rattle.ks_machine.proofs.Names.{same_task-is}
-use Rattle.ks_topo.specs.Plan.{Plan, Window}
-use Rattle.ks_topo.specs.Plan.Kind.{Windowed}
+use Rattle.ks_plan.specs.Plan.{Plan, Window}
+use Rattle.ks_plan.specs.Plan.Kind.{Windowed}
 use Rattle.ks_map.specs.FinMap as fin
 use Rattle.ks_network.proofs.Sums.{sum_map}
 use Rattle.ks_query.specs.Streams.{Input}

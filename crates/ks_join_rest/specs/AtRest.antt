@@ -6,9 +6,9 @@ use Rattle.ks_row.specs.FieldKeys.{field_key}
 use Rattle.ks_expr.specs.declared.terms.JoinKind.{JoinKind}
 use Rattle.ks_expr.specs.Terms.{Set}
 use Rattle.ks_expr.specs.Eval.{Row, same_bytes}
-use Rattle.ks_topo.specs.Drafts.{DraftView, Name}
-use Rattle.ks_topo.specs.Plan.{Kind, plan_of, is_stream, is_windowed}
-use Rattle.ks_topo.specs.Plan.Kind.{ForeignKeyJoin}
+use Rattle.ks_plan.specs.Drafts.{DraftView, Name}
+use Rattle.ks_plan.specs.Plan.{Kind, plan_of, is_stream, is_windowed}
+use Rattle.ks_plan.specs.Plan.Kind.{ForeignKeyJoin}
 use Rattle.ks_map.specs.FinMap as map
 use Rattle.ks_query.specs.Streams.{Key, Input}
 use Rattle.ks_machine.specs.Messages.{Place, Rules, same_option}

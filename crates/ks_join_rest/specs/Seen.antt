@@ -5,9 +5,9 @@ use Rattle.ks_expr.specs.declared.terms.JoinKind.{JoinKind}
 use Rattle.ks_expr.specs.Terms.{Set}
 use Rattle.ks_expr.specs.Eval.{Row, same_bytes, joined}
 use Rattle.ks_wire.specs.declared.values.Response.{Response as Answer}
-use Rattle.ks_topo.specs.Plan.{Plan}
-use Rattle.ks_topo.specs.Layout.{sub_of}
-use Rattle.ks_topo.specs.declared.node.Topic.TheVariants.{Subscriptions, Responses}
+use Rattle.ks_plan.specs.Plan.{Plan}
+use Rattle.ks_plan.specs.Layout.{sub_of}
+use Rattle.ks_plan.specs.declared.node.Topic.TheVariants.{Subscriptions, Responses}
 use Rattle.ks_map.specs.FinMap as map
 use Rattle.ks_query.specs.Streams.{Key}
 use Rattle.ks_machine.specs.Messages.{Place, Instruction, Message, Rules, Subscription as Asking}

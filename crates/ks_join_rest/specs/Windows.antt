@@ -5,9 +5,9 @@ use Rattle.ks_row.specs.declared.record.TaskId.{TaskId}
 use Rattle.ks_row.specs.Parts.{same_task}
 use Rattle.ks_row.specs.Rows.{field_of}
 use Rattle.ks_wire.specs.declared.values.Agg.{Agg}
-use Rattle.ks_topo.specs.Drafts.{DraftView, Name}
-use Rattle.ks_topo.specs.Plan.{Window, natural, plan_of}
-use Rattle.ks_topo.specs.Plan.Kind.{Windowed}
+use Rattle.ks_plan.specs.Drafts.{DraftView, Name}
+use Rattle.ks_plan.specs.Plan.{Window, natural, plan_of}
+use Rattle.ks_plan.specs.Plan.Kind.{Windowed}
 use Rattle.ks_map.specs.FinMap as map
 use Rattle.ks_expr.specs.Eval.{Row}
 use Rattle.ks_query.specs.Streams.{Input}

@@ -10,10 +10,10 @@ use Rattle.ks_row.specs.declared.record.TaskId.{TaskId}
 use Rattle.ks_row.specs.Parts.{same_part}
 use Rattle.ks_row.specs.Texts.{key_from}
 use Rattle.ks_row.specs.Reading.{row_from}
-use Rattle.ks_topo.specs.declared.node.Topic.{Topic}
-use Rattle.ks_topo.specs.declared.node.Topic.TheVariants.{Input as InputTopic}
-use Rattle.ks_topo.specs.Plan.{Plan}
-use Rattle.ks_topo.specs.Layout.{topics_of, topic_at, number_of, kind_at, parts_of_topic, reads, up_to, input_topics, by_node, through_topics, changelogs_of}
+use Rattle.ks_plan.specs.declared.node.Topic.{Topic}
+use Rattle.ks_plan.specs.declared.node.Topic.TheVariants.{Input as InputTopic}
+use Rattle.ks_plan.specs.Plan.{Plan}
+use Rattle.ks_plan.specs.Layout.{topics_of, topic_at, number_of, kind_at, parts_of_topic, reads, up_to, input_topics, by_node, through_topics, changelogs_of}
 use Rattle.ks_map.specs.FinMap as fin
 use Rattle.ks_map.specs.Bytes.{by_bytes, Store as ByteStore, empty_store as no_bytes}
 use Rattle.ks_machine.specs.Messages.{Place, Item, Message, Rules, Store}

@@ -23,11 +23,11 @@ use Rattle.ks_wire.specs.declared.values.Response.{Response}
 use Rattle.ks_wire.specs.Spelling.{FitsHash, FitsResponse, FitsDelta, FitsAgg, subscription_bytes, response_bytes, delta_bytes, agg_bytes, hash_bytes, time_bytes, time_key, window_key, subscription_key}
 use Rattle.ks_wire.specs.Reading.{agg_from, delta_from, hash_from, time_from, window_key_from, subscription_from, response_from, subscription_key_from}
 use Rattle.ks_expr.specs.Eval.{Row, same_bytes}
-use Rattle.ks_topo.specs.Plan.{Plan, Kind, Window, is_windowed}
-use Rattle.ks_topo.specs.Plan.Kind.{StreamSource, TableSource, StreamFilter, TableFilter, StreamMap, TableMap, KeySelected, StreamAggregate, TableAggregate, Windowed, KeyJoin, ForeignKeyJoin}
-use Rattle.ks_topo.specs.declared.node.Topic.{Topic}
-use Rattle.ks_topo.specs.declared.node.Topic.TheVariants.{Subscriptions, Changelog, HashChangelog}
-use Rattle.ks_topo.specs.Layout.{kind_at}
+use Rattle.ks_plan.specs.Plan.{Plan, Kind, Window, is_windowed}
+use Rattle.ks_plan.specs.Plan.Kind.{StreamSource, TableSource, StreamFilter, TableFilter, StreamMap, TableMap, KeySelected, StreamAggregate, TableAggregate, Windowed, KeyJoin, ForeignKeyJoin}
+use Rattle.ks_plan.specs.declared.node.Topic.{Topic}
+use Rattle.ks_plan.specs.declared.node.Topic.TheVariants.{Subscriptions, Changelog, HashChangelog}
+use Rattle.ks_plan.specs.Layout.{kind_at}
 use Rattle.ks_map.specs.FinMap as fin
 use Rattle.ks_map.specs.FinMap.{FinMap}
 use Rattle.ks_query.specs.Streams.{Key, StreamItem, group_key}

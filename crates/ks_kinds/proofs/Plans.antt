@@ -2,9 +2,9 @@
 use Rattle.std.proofs.Common.{ℤ, Bool, true, false, cond, List, [], ◌∷◌, ◌++◌, map, fold, Some, None}
 use Rattle.std.specs.Prelude.{◌||◌, is_some, unwrap_or}
 use Rattle.std.specs.List.{AllByRecursion}
-use Rattle.ks_topo.specs.Drafts.{Name, OpView, StreamOf, TableOf, FilterOf, MapOf, KeyOf, CountOf, SumOf, WindowedOf, JoinOf, FkJoinOf, NodeView}
-use Rattle.ks_topo.specs.Plan.{Kind, Known, known_of, known_at, node_number, learn, is_stream}
-use Rattle.ks_topo.specs.Plan.Kind.{StreamFilter, TableFilter, StreamMap, TableMap, StreamAggregate, TableAggregate}
+use Rattle.ks_plan.specs.Drafts.{Name, OpView, StreamOf, TableOf, FilterOf, MapOf, KeyOf, CountOf, SumOf, WindowedOf, JoinOf, FkJoinOf, NodeView}
+use Rattle.ks_plan.specs.Plan.{Kind, Known, known_of, known_at, node_number, learn, is_stream}
+use Rattle.ks_plan.specs.Plan.Kind.{StreamFilter, TableFilter, StreamMap, TableMap, StreamAggregate, TableAggregate}
 use Rattle.ks_kinds.specs.Fitting.{FitsKind, FitsOp, PlansFit}
 
 either : (b : Bool) (x y : Kind) → FitsKind x → FitsKind y → FitsKind (cond b x y)

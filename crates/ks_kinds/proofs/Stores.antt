@@ -17,11 +17,11 @@ use Rattle.ks_wire.specs.Spelling.{FitsAgg, time_key}
 use Rattle.ks_wire.specs.Reading.{agg_from, hash_from, time_from, subscription_key_from, window_key_from}
 use Rattle.ks_wire.proofs.Wired.{agg_codec, hash_codec, time_codec, subscription_key_codec}
 use Rattle.ks_expr.specs.Eval.{Row, same_bytes}
-use Rattle.ks_topo.specs.Plan.{Plan, Kind, is_windowed}
-use Rattle.ks_topo.specs.Plan.Kind.{StreamSource, TableSource, StreamFilter, TableFilter, StreamMap, TableMap, KeySelected, StreamAggregate, TableAggregate, Windowed, KeyJoin, ForeignKeyJoin}
-use Rattle.ks_topo.specs.declared.node.Topic.{Topic}
-use Rattle.ks_topo.specs.declared.node.Topic.TheVariants.{Changelog, HashChangelog}
-use Rattle.ks_topo.specs.Layout.{topics_of, topic_at, number_of, kind_at}
+use Rattle.ks_plan.specs.Plan.{Plan, Kind, is_windowed}
+use Rattle.ks_plan.specs.Plan.Kind.{StreamSource, TableSource, StreamFilter, TableFilter, StreamMap, TableMap, KeySelected, StreamAggregate, TableAggregate, Windowed, KeyJoin, ForeignKeyJoin}
+use Rattle.ks_plan.specs.declared.node.Topic.{Topic}
+use Rattle.ks_plan.specs.declared.node.Topic.TheVariants.{Changelog, HashChangelog}
+use Rattle.ks_plan.specs.Layout.{topics_of, topic_at, number_of, kind_at}
 use Rattle.ks_map.specs.FinMap as fin
 use Rattle.ks_map.specs.FinMap.{FinMap}
 use Rattle.ks_map.specs.Bytes.{by_bytes, empty_store as no_bytes}

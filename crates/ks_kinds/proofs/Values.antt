@@ -11,11 +11,11 @@ use Rattle.ks_wire.specs.Spelling.{FitsAgg}
 use Rattle.ks_expr.specs.declared.terms.JoinKind.{JoinKind}
 use Rattle.ks_expr.specs.Terms.{Set, Test}
 use Rattle.ks_expr.specs.Eval.{Row, holds, project, joined}
-use Rattle.ks_topo.specs.Plan.{Plan, Kind, is_windowed}
-use Rattle.ks_topo.specs.Plan.Kind.{StreamSource, TableSource, StreamFilter, TableFilter, StreamMap, TableMap, KeySelected, StreamAggregate, TableAggregate, Windowed, KeyJoin, ForeignKeyJoin}
-use Rattle.ks_topo.specs.declared.node.Topic.{Topic}
-use Rattle.ks_topo.specs.declared.node.Topic.TheVariants.{Input, Repartition, Responses}
-use Rattle.ks_topo.specs.Layout.{kind_at, same_topic}
+use Rattle.ks_plan.specs.Plan.{Plan, Kind, is_windowed}
+use Rattle.ks_plan.specs.Plan.Kind.{StreamSource, TableSource, StreamFilter, TableFilter, StreamMap, TableMap, KeySelected, StreamAggregate, TableAggregate, Windowed, KeyJoin, ForeignKeyJoin}
+use Rattle.ks_plan.specs.declared.node.Topic.{Topic}
+use Rattle.ks_plan.specs.declared.node.Topic.TheVariants.{Input, Repartition, Responses}
+use Rattle.ks_plan.specs.Layout.{kind_at, same_topic}
 use Rattle.ks_query.specs.Streams.{Key, StreamItem, filter_item, map_item, rekey_item}
 use Rattle.ks_query.specs.Query.{with_number}
 use Rattle.ks_query.specs.Aggregates.{stream_add, table_apply}

@@ -9,11 +9,11 @@ use Rattle.ks_row.specs.Reading.{row_from}
 use Rattle.ks_wire.specs.Reading.{subscription_from, response_from, delta_from, agg_from, hash_from, time_from, subscription_key_from, window_key_from}
 use Rattle.ks_wire.specs.Spelling.{time_key}
 use Rattle.ks_expr.specs.Eval.{same_bytes}
-use Rattle.ks_topo.specs.Plan.{Plan, Kind, is_windowed}
-use Rattle.ks_topo.specs.Plan.Kind.{StreamAggregate, TableAggregate, Windowed}
-use Rattle.ks_topo.specs.declared.node.Topic.{Topic}
-use Rattle.ks_topo.specs.declared.node.Topic.TheVariants.{Input, Repartition, Subscriptions, Responses, Changelog, HashChangelog}
-use Rattle.ks_topo.specs.Layout.{kind_at, topic_at}
+use Rattle.ks_plan.specs.Plan.{Plan, Kind, is_windowed}
+use Rattle.ks_plan.specs.Plan.Kind.{StreamAggregate, TableAggregate, Windowed}
+use Rattle.ks_plan.specs.declared.node.Topic.{Topic}
+use Rattle.ks_plan.specs.declared.node.Topic.TheVariants.{Input, Repartition, Subscriptions, Responses, Changelog, HashChangelog}
+use Rattle.ks_plan.specs.Layout.{kind_at, topic_at}
 use Rattle.ks_machine.specs.Tasks.{is_changelog}
 use Rattle.ks_machine.specs.Bytes.{message_in}
 

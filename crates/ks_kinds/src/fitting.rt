@@ -2,8 +2,8 @@
 ghost use Rattle.std.specs.Prelude.{map};
 ghost use Rattle.std.specs.List.{AllByRecursion};
 ghost use Rattle.ks_expr.specs.Terms.{term_of, set_of, entries_of};
-ghost use Rattle.ks_topo.specs.Drafts.{op_view};
-ghost use Rattle.ks_topo.specs.Infos.{built_view};
+ghost use Rattle.ks_plan.specs.Drafts.{op_view};
+ghost use Rattle.ks_plan.specs.Infos.{built_view};
 ghost use Rattle.ks_topo.specs.Topologies.{plan_in};
 ghost use Rattle.ks_work.specs.Spelled.{FitsTerm, FitsSet};
 ghost use Rattle.ks_kinds.specs.Fitting.{FitsOp, FitsPlan};

@@ -4,8 +4,8 @@ use Rattle.std.specs.Prelude.{map}
 use Rattle.std.proofs.lemmas.List.{map-append}
 use Rattle.ks_expr.specs.declared.terms.Expr.{Expr}
 use Rattle.ks_expr.specs.Terms.{Set, Term, term_of}
-use Rattle.ks_topo.specs.declared.draft.NodeDraft.{NodeDraft}
-use Rattle.ks_topo.specs.Drafts.{node_view, nodes_view}
+use Rattle.ks_plan.specs.declared.draft.NodeDraft.{NodeDraft}
+use Rattle.ks_plan.specs.Drafts.{node_view, nodes_view}
 
 abbrev pub entry_seen : List ℕ × Expr → List ℕ × Term
 entry_seen e = (e.0, term_of e.1)

@@ -8,7 +8,7 @@ use Rattle.ks_expr.specs.declared.terms.JoinKind.{JoinKind}
 use Rattle.ks_expr.specs.declared.terms.JoinKind.TheVariants.{Inner, Left, Outer}
 use Rattle.ks_expr.specs.declared.terms.Expr.{Expr}
 use Rattle.ks_expr.specs.Terms.{Term, Set, term_of}
-use Rattle.ks_topo.specs.Drafts.{OpView, StreamOf, TableOf, FilterOf, MapOf, KeyOf, CountOf, SumOf, WindowedOf, JoinOf, FkJoinOf, NodeView}
+use Rattle.ks_plan.specs.Drafts.{OpView, StreamOf, TableOf, FilterOf, MapOf, KeyOf, CountOf, SumOf, WindowedOf, JoinOf, FkJoinOf, NodeView}
 use Rattle.ks_line.specs.declared.fault.JobKind.{JobKind}
 use Rattle.ks_line.specs.declared.fault.JobKind.TheVariants.{BadShape}
 use Rattle.ks_line.specs.declared.members.Form.{Form}

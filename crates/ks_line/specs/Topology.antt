@@ -7,7 +7,7 @@ use Rattle.ks_row.specs.Texts.{name_of}
 use Rattle.ks_line.specs.declared.fault.JobKind.{JobKind}
 use Rattle.ks_line.specs.declared.fault.JobKind.TheVariants.{BadShape}
 use Rattle.ks_line.specs.declared.members.Form.TheVariants as form
-use Rattle.ks_topo.specs.Drafts.{DraftView}
+use Rattle.ks_plan.specs.Drafts.{DraftView}
 use Rattle.ks_line.specs.Gives.{◌>>=◌, some_or}
 use Rattle.ks_line.specs.Labels.{is_label_byte}
 use Rattle.ks_line.specs.Nodes.{nodes_of}

@@ -3,7 +3,7 @@ ghost use Rattle.std.specs.Prelude.{◌≡◌, [], codes, true, false, map};
 ghost use Rattle.std.specs.List.{list_all};
 ghost use Rattle.serde_json.specs.View.{view, items_view};
 ghost use Rattle.ks_expr.specs.Terms.{set_of as terms_of, test_of};
-ghost use Rattle.ks_topo.specs.Drafts.{op_view, node_view, nodes_view};
+ghost use Rattle.ks_plan.specs.Drafts.{op_view, node_view, nodes_view};
 ghost use Rattle.ks_line.specs.Gives.{Gives};
 ghost use Rattle.ks_line.specs.Nodes.{kind_of, op_from, node_name_from, filter_from, map_from, key_op_from, count_from, sum_from, windowed_from, join_from, fk_join_from, body_from, node_from, nodes_from, nodes_of};
 
@@ -14,7 +14,7 @@ use crate::members::{Form, Kind, read_integer_of, read_member, read_object, read
 use crate::pred::read_where;
 use crate::set::read_set;
 use ks_row::Name;
-use ks_topo::{NodeDraft, Op};
+use ks_plan::{NodeDraft, Op};
 use serde_json::Value;
 use std::alloc::Global;
 

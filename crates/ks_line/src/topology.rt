@@ -3,14 +3,14 @@ ghost use Rattle.std.specs.Prelude.{◌≡◌, [], IfOk};
 ghost use Rattle.serde_json.specs.View.{view, members_view, items_view};
 ghost use Rattle.ks_line.specs.Gives.{Gives};
 ghost use Rattle.ks_line.specs.Topology.{label_from, app_from, parts_from, topic_from, topics_from, topics_of, print_from, print_of, topology_from, names_of};
-ghost use Rattle.ks_topo.specs.Drafts.{draft_view};
+ghost use Rattle.ks_plan.specs.Drafts.{draft_view};
 
 use crate::fault::{ReadError, bad_shape, blob_of};
 use crate::labels::all_labels;
 use crate::members::{Form, read_integer, read_member, read_object, read_text};
 use crate::node::read_nodes;
 use ks_row::{Blob, Name, Seq};
-use ks_topo::Draft;
+use ks_plan::Draft;
 use serde_json::Value;
 use serde_json::value::Map;
 use std::alloc::{AllocError, Global};

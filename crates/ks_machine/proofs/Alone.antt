@@ -7,9 +7,9 @@ use Rattle.ks_row.specs.declared.record.Rec.{Rec}
 use Rattle.ks_row.specs.declared.record.PartId.{PartId}
 use Rattle.ks_row.specs.declared.record.TaskId.{TaskId}
 use Rattle.ks_row.specs.Parts.{same_task, same_part}
-use Rattle.ks_topo.specs.Plan.{Plan}
-use Rattle.ks_topo.specs.declared.node.Topic.{Topic}
-use Rattle.ks_topo.specs.Layout.{topic_at, topics_of, number_of, reads}
+use Rattle.ks_plan.specs.Plan.{Plan}
+use Rattle.ks_plan.specs.declared.node.Topic.{Topic}
+use Rattle.ks_plan.specs.Layout.{topic_at, topics_of, number_of, reads}
 use Rattle.ks_machine.specs.Messages.{Place, Item, Message, Rules}
 use Rattle.ks_machine.specs.Tasks.{step, is_changelog}
 use Rattle.ks_machine.specs.Bytes.{ByteStores, byte_step, step_at, step_read, nothing_made, is_own, is_own_number, is_sent, spelled, part_id, records_at, message_in, store_from}

@@ -22,7 +22,7 @@ use Rattle.ks_map.specs.FinMap as fin
 use Rattle.ks_map.specs.FinMap.{FinMap}
 use Rattle.ks_map.specs.Bytes.{by_bytes, Store as ByteStore}
 use Rattle.ks_map.proofs.Tables.{get-write, get-write_here, equal}
-use Rattle.ks_topo.specs.Plan.{Window}
+use Rattle.ks_plan.specs.Plan.{Window}
 use Rattle.ks_query.specs.Streams.{Key}
 use Rattle.ks_query.specs.Windows.{WindowKey, by_window}
 use Rattle.ks_query.specs.Grace.{is_open}

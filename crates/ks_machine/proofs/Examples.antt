@@ -9,9 +9,9 @@ use Rattle.ks_expr.specs.declared.terms.JoinKind.TheVariants.{Inner, Left as Lef
 use Rattle.ks_expr.specs.Terms.Term.{LeftOf, RightOf, FieldOf, Number}
 use Rattle.ks_expr.specs.Terms.Test.{IsLess}
 use Rattle.ks_expr.specs.Eval.{Row}
-use Rattle.ks_topo.specs.Drafts.{DraftView, NodeView, StreamOf, TableOf, FilterOf, KeyOf, CountOf, SumOf, WindowedOf, JoinOf, FkJoinOf}
-use Rattle.ks_topo.specs.Plan.{plan_of}
-use Rattle.ks_topo.specs.Layout.{sub_count}
+use Rattle.ks_plan.specs.Drafts.{DraftView, NodeView, StreamOf, TableOf, FilterOf, KeyOf, CountOf, SumOf, WindowedOf, JoinOf, FkJoinOf}
+use Rattle.ks_plan.specs.Plan.{plan_of}
+use Rattle.ks_plan.specs.Layout.{sub_count}
 use Rattle.ks_map.specs.FinMap as fin
 use Rattle.ks_network.specs.Run.{RunState}
 use Rattle.ks_query.specs.Streams.{Key, Input}

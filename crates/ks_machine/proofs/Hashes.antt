@@ -13,10 +13,10 @@ use Rattle.ks_wire.specs.Spelling.{subscription_key, hash_bytes}
 use Rattle.ks_wire.specs.Reading.{subscription_key_from, hash_from}
 use Rattle.ks_wire.proofs.Wired.{subscription_key_codec, hash_codec}
 use Rattle.ks_expr.specs.Eval.{same_bytes}
-use Rattle.ks_topo.specs.Plan.{Plan, Kind}
-use Rattle.ks_topo.specs.declared.node.Topic.{Topic}
-use Rattle.ks_topo.specs.declared.node.Topic.TheVariants.{Subscriptions, HashChangelog}
-use Rattle.ks_topo.specs.Layout.{same_topic, number_of}
+use Rattle.ks_plan.specs.Plan.{Plan, Kind}
+use Rattle.ks_plan.specs.declared.node.Topic.{Topic}
+use Rattle.ks_plan.specs.declared.node.Topic.TheVariants.{Subscriptions, HashChangelog}
+use Rattle.ks_plan.specs.Layout.{same_topic, number_of}
 use Rattle.ks_map.specs.FinMap as fin
 use Rattle.ks_map.specs.FinMap.{FinMap}
 use Rattle.ks_map.specs.Bytes.{by_bytes, Store as ByteStore}

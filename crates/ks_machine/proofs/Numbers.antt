@@ -4,13 +4,13 @@ use Rattle.std.specs.Prelude.{slice_get}
 use Rattle.std.specs.List.{filter}
 use Rattle.std.proofs.lemmas.Bool.{or_cases}
 use Rattle.std.proofs.lemmas.Bool.Decides.{Decides-eqb}
-use Rattle.ks_topo.specs.declared.node.Topic.{Topic}
-use Rattle.ks_topo.specs.declared.node.Topic.TheVariants.{Input, Repartition, Subscriptions, Responses, Changelog, HashChangelog}
-use Rattle.ks_topo.specs.declared.node.Wiring.{Wiring}
-use Rattle.ks_topo.specs.declared.node.Wiring.TheVariants as wired
-use Rattle.ks_topo.specs.Plan.{Plan, Kind, wiring_of}
-use Rattle.ks_topo.specs.Layout.{same_topic, place_of, topics_of, number_of, topic_at, reads, sub_count, by_node, wired_through, wired_changelogs, through_topics, changelogs_of, input_topics, drain_order, inputs, changelogs, up_to, is_drained}
-use Rattle.ks_topo.specs.Infos.{input_numbers}
+use Rattle.ks_plan.specs.declared.node.Topic.{Topic}
+use Rattle.ks_plan.specs.declared.node.Topic.TheVariants.{Input, Repartition, Subscriptions, Responses, Changelog, HashChangelog}
+use Rattle.ks_plan.specs.declared.node.Wiring.{Wiring}
+use Rattle.ks_plan.specs.declared.node.Wiring.TheVariants as wired
+use Rattle.ks_plan.specs.Plan.{Plan, Kind, wiring_of}
+use Rattle.ks_plan.specs.Layout.{same_topic, place_of, topics_of, number_of, topic_at, reads, sub_count, by_node, wired_through, wired_changelogs, through_topics, changelogs_of, input_topics, drain_order, inputs, changelogs, up_to, is_drained}
+use Rattle.ks_plan.specs.Infos.{input_numbers}
 use Rattle.ks_machine.specs.Tasks.{is_changelog}
 use Rattle.ks_machine.specs.Bytes.{has_number, is_own_number, taker_at, reader_number}
 use Rattle.ks_machine.specs.Laws.{IsApart}

@@ -11,11 +11,11 @@ use Rattle.ks_row.specs.declared.record.TaskId.{TaskId}
 use Rattle.ks_row.specs.Parts.{same_part}
 use Rattle.ks_wire.specs.declared.values.Delta.{Delta}
 use Rattle.ks_wire.specs.declared.values.Response.{Response}
-use Rattle.ks_topo.specs.Plan.{Plan, Kind}
-use Rattle.ks_topo.specs.Plan.Kind.{StreamSource, TableSource, StreamFilter, TableFilter, StreamMap, TableMap, KeySelected, StreamAggregate, TableAggregate, Windowed, KeyJoin, ForeignKeyJoin}
-use Rattle.ks_topo.specs.declared.node.Topic.{Topic}
-use Rattle.ks_topo.specs.declared.node.Topic.TheVariants.{Subscriptions, Changelog, HashChangelog}
-use Rattle.ks_topo.specs.Layout.{same_topic, topic_at, topics_of, number_of, reads}
+use Rattle.ks_plan.specs.Plan.{Plan, Kind}
+use Rattle.ks_plan.specs.Plan.Kind.{StreamSource, TableSource, StreamFilter, TableFilter, StreamMap, TableMap, KeySelected, StreamAggregate, TableAggregate, Windowed, KeyJoin, ForeignKeyJoin}
+use Rattle.ks_plan.specs.declared.node.Topic.{Topic}
+use Rattle.ks_plan.specs.declared.node.Topic.TheVariants.{Subscriptions, Changelog, HashChangelog}
+use Rattle.ks_plan.specs.Layout.{same_topic, topic_at, topics_of, number_of, reads}
 use Rattle.ks_query.specs.Streams.{Key, StreamItem, group_key}
 use Rattle.ks_query.specs.Aggregates.{table_parts}
 use Rattle.ks_expr.specs.Eval.{Row}

@@ -3,9 +3,9 @@ use Rattle.std.proofs.Common.{◌≡◌, ℕ, true, false, cond, Option, Some, N
 use Rattle.ks_row.specs.declared.record.Rec.{Rec}
 use Rattle.ks_row.specs.declared.record.PartId.{PartId}
 use Rattle.ks_row.specs.declared.record.TaskId.{TaskId}
-use Rattle.ks_topo.specs.Plan.{Plan}
-use Rattle.ks_topo.specs.declared.node.Topic.{Topic}
-use Rattle.ks_topo.specs.Layout.{topic_at, reads}
+use Rattle.ks_plan.specs.Plan.{Plan}
+use Rattle.ks_plan.specs.declared.node.Topic.{Topic}
+use Rattle.ks_plan.specs.Layout.{topic_at, reads}
 use Rattle.ks_network.specs.Run.{Outcome}
 use Rattle.ks_machine.specs.Messages.{Place, Item, Message, Store, Rules}
 use Rattle.ks_machine.specs.Bytes.{ByteStores, step_at, step_read, outcome_of, nothing_made, is_own_number, keep_all, records_at, message_in, store_from}

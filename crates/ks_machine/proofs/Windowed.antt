@@ -12,12 +12,12 @@ use Rattle.ks_wire.specs.Reading.{window_key_from, agg_from, time_from}
 use Rattle.ks_map.specs.FinMap as fin
 use Rattle.ks_map.specs.FinMap.{FinMap}
 use Rattle.ks_map.specs.Bytes.{by_bytes, Store as ByteStore, empty_store as no_bytes}
-use Rattle.ks_topo.specs.Drafts.{Name}
-use Rattle.ks_topo.specs.Plan.{Plan, Kind, Window, is_windowed}
-use Rattle.ks_topo.specs.Plan.Kind.{Windowed}
-use Rattle.ks_topo.specs.declared.node.Topic.{Topic}
-use Rattle.ks_topo.specs.declared.node.Topic.TheVariants.{Changelog}
-use Rattle.ks_topo.specs.Layout.{number_of, kind_at, topic_at}
+use Rattle.ks_plan.specs.Drafts.{Name}
+use Rattle.ks_plan.specs.Plan.{Plan, Kind, Window, is_windowed}
+use Rattle.ks_plan.specs.Plan.Kind.{Windowed}
+use Rattle.ks_plan.specs.declared.node.Topic.{Topic}
+use Rattle.ks_plan.specs.declared.node.Topic.TheVariants.{Changelog}
+use Rattle.ks_plan.specs.Layout.{number_of, kind_at, topic_at}
 use Rattle.ks_query.specs.Streams.{Key, StreamItem}
 use Rattle.ks_query.specs.Query.{with_number}
 use Rattle.ks_query.specs.Windows.{by_window, windows}

@@ -20,12 +20,12 @@ use Rattle.ks_wire.specs.Spelling.{subscription_bytes, response_bytes, delta_byt
 use Rattle.ks_wire.specs.Reading.{subscription_from, response_from, delta_from, agg_from, hash_from, time_from, subscription_key_from, window_key_from}
 use Rattle.ks_wire.specs.declared.values.Agg.{Agg}
 use Rattle.ks_expr.specs.Eval.{same_bytes}
-use Rattle.ks_topo.specs.Plan.{Plan, Kind, is_windowed}
-use Rattle.ks_topo.specs.Plan.Kind.{StreamAggregate, TableAggregate, Windowed}
-use Rattle.ks_topo.specs.declared.node.Topic.{Topic}
-use Rattle.ks_topo.specs.declared.node.Topic.TheVariants.{Input, Repartition, Subscriptions, Responses, Changelog, HashChangelog}
-use Rattle.ks_topo.specs.Infos.{changelog_numbers}
-use Rattle.ks_topo.specs.Layout.{number_of, topic_at, kind_at, reads, sub_count}
+use Rattle.ks_plan.specs.Plan.{Plan, Kind, is_windowed}
+use Rattle.ks_plan.specs.Plan.Kind.{StreamAggregate, TableAggregate, Windowed}
+use Rattle.ks_plan.specs.declared.node.Topic.{Topic}
+use Rattle.ks_plan.specs.declared.node.Topic.TheVariants.{Input, Repartition, Subscriptions, Responses, Changelog, HashChangelog}
+use Rattle.ks_plan.specs.Infos.{changelog_numbers}
+use Rattle.ks_plan.specs.Layout.{number_of, topic_at, kind_at, reads, sub_count}
 use Rattle.ks_network.specs.Run.{Outcome}
 use Rattle.ks_query.specs.Streams.{Key}
 use Rattle.ks_query.specs.Windows.{by_window}

@@ -4,11 +4,11 @@ use Rattle.ks_row.specs.declared.record.TaskId.{TaskId}
 use Rattle.ks_expr.specs.declared.terms.JoinKind.{JoinKind}
 use Rattle.ks_expr.specs.Terms.{Set}
 use Rattle.ks_expr.specs.Eval.{Row, same_bytes}
-use Rattle.ks_topo.specs.Drafts.{Name}
-use Rattle.ks_topo.specs.Plan.{Plan, Kind}
-use Rattle.ks_topo.specs.Plan.Kind.{ForeignKeyJoin}
-use Rattle.ks_topo.specs.declared.node.Topic.TheVariants.{Changelog}
-use Rattle.ks_topo.specs.Layout.{sub_of}
+use Rattle.ks_plan.specs.Drafts.{Name}
+use Rattle.ks_plan.specs.Plan.{Plan, Kind}
+use Rattle.ks_plan.specs.Plan.Kind.{ForeignKeyJoin}
+use Rattle.ks_plan.specs.declared.node.Topic.TheVariants.{Changelog}
+use Rattle.ks_plan.specs.Layout.{sub_of}
 use Rattle.ks_network.specs.Run.{RunState}
 use Rattle.ks_query.specs.Streams.{Key}
 use Rattle.ks_machine.specs.Messages.{Place, shown, Message, Item, Store, Rules}

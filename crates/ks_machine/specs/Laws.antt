@@ -7,19 +7,19 @@ use Rattle.ks_machine.specs.Messages.Message.{Asked}
 use Rattle.ks_row.specs.declared.record.Rec.{Rec}
 use Rattle.ks_row.specs.declared.record.PartId.{PartId}
 use Rattle.ks_row.specs.Parts.{same_task}
-use Rattle.ks_topo.specs.Infos.{input_numbers}
+use Rattle.ks_plan.specs.Infos.{input_numbers}
 use Rattle.ks_machine.specs.Bytes.{ByteStores, byte_step, is_own_number, has_number, reader_number, keep_all, records_at, message_in, stored_from, stored_bytes, store_from, table_from, hashes_from, counts_from, time_of, spelled, is_sent}
 use Rattle.ks_row.specs.declared.record.TaskId.{TaskId}
-use Rattle.ks_topo.specs.Plan.{Plan, Kind, Window, is_windowed}
-use Rattle.ks_topo.specs.declared.node.Topic.{Topic}
-use Rattle.ks_topo.specs.declared.node.Topic.TheVariants.{Changelog, HashChangelog}
-use Rattle.ks_topo.specs.Layout.{sub_of, topic_at, reads, number_of}
+use Rattle.ks_plan.specs.Plan.{Plan, Kind, Window, is_windowed}
+use Rattle.ks_plan.specs.declared.node.Topic.{Topic}
+use Rattle.ks_plan.specs.declared.node.Topic.TheVariants.{Changelog, HashChangelog}
+use Rattle.ks_plan.specs.Layout.{sub_of, topic_at, reads, number_of}
 use Rattle.ks_map.specs.FinMap as fin
 use Rattle.ks_query.specs.Streams.{Key, StreamItem}
 use Rattle.ks_query.specs.Windows.{windows}
 use Rattle.ks_row.specs.Texts.{IsKey}
-use Rattle.ks_topo.specs.Drafts.{Name}
-use Rattle.ks_topo.specs.Plan.Kind.{Windowed}
+use Rattle.ks_plan.specs.Drafts.{Name}
+use Rattle.ks_plan.specs.Plan.Kind.{Windowed}
 use Rattle.ks_machine.specs.Windowed.{greater}
 use Rattle.ks_machine.specs.Step.{Arrival, step_key, item_into, items_from}
 use Rattle.ks_network.specs.Run.{HasNames, Follows, run, local, sent_to}

@@ -5,8 +5,8 @@ use Rattle.ks_map.specs.FinMap.{FinMap}
 use Rattle.ks_map.specs.Bytes.{by_bytes}
 use Rattle.ks_expr.specs.Eval.{Row, same_bytes, same_field}
 use Rattle.ks_query.specs.Streams.{Key}
-use Rattle.ks_topo.specs.declared.node.Topic.{Topic}
-use Rattle.ks_topo.specs.Layout.{same_topic}
+use Rattle.ks_plan.specs.declared.node.Topic.{Topic}
+use Rattle.ks_plan.specs.Layout.{same_topic}
 use Rattle.ks_query.specs.Windows.{WindowKey, by_window}
 use Rattle.ks_wire.specs.Values.{SubscriptionValue}
 use Rattle.ks_wire.specs.declared.values.Agg.{Agg}

@@ -2,10 +2,10 @@
 use Rattle.std.specs.Prelude.{ℕ, List, ◌++◌, map, Option, Some, None, Bool, true, false, ◌&&◌, cond, nat_eq}
 use Rattle.std.specs.List.{filter}
 use Rattle.ks_query.specs.Streams.{Key}
-use Rattle.ks_topo.specs.Plan.{Plan}
-use Rattle.ks_topo.specs.declared.node.Topic.{Topic}
-use Rattle.ks_topo.specs.Layout.{same_topic, parts_of_topic, reads, is_read, sub_count}
-use Rattle.ks_topo.specs.declared.node.Topic.TheVariants.{Input as InputTopic, Changelog, HashChangelog}
+use Rattle.ks_plan.specs.Plan.{Plan}
+use Rattle.ks_plan.specs.declared.node.Topic.{Topic}
+use Rattle.ks_plan.specs.Layout.{same_topic, parts_of_topic, reads, is_read, sub_count}
+use Rattle.ks_plan.specs.declared.node.Topic.TheVariants.{Input as InputTopic, Changelog, HashChangelog}
 use Rattle.ks_map.specs.FinMap as map
 use Rattle.ks_network.specs.Run.{Machine, Outcome}
 use Rattle.ks_query.specs.Streams.{Input}

@@ -2,7 +2,7 @@
 -- Kafka Streams developer guide, "Windowing": a record is dropped from a window whose grace period is over in stream time.
 use Rattle.std.specs.Prelude.{ℕ, ◌+◌, max, List, [], ◌∷◌, ◌++◌, Option, Some, None, cond, fold, nat_eq}
 use Rattle.ks_query.specs.Streams.{Key}
-use Rattle.ks_topo.specs.Plan.{Window}
+use Rattle.ks_plan.specs.Plan.{Window}
 use Rattle.ks_map.specs.FinMap as map
 use Rattle.ks_map.specs.FinMap.{FinMap}
 use Rattle.ks_query.specs.Streams.{StreamItem}

@@ -2,9 +2,9 @@
 -- Kafka Streams developer guide, "Windowing", on the grace period.
 use Rattle.std.specs.Prelude.{◌≡◌, ℕ, ◌+◌, max, List, [], ◌∷◌, Option, Some, Bool, true, ◌&&◌, nat_lt, slice_get}
 use Rattle.ks_query.specs.Streams.{Key}
-use Rattle.ks_topo.specs.Drafts.{Name}
-use Rattle.ks_topo.specs.Plan.{Plan, Window}
-use Rattle.ks_topo.specs.Plan.Kind.{Windowed}
+use Rattle.ks_plan.specs.Drafts.{Name}
+use Rattle.ks_plan.specs.Plan.{Plan, Window}
+use Rattle.ks_plan.specs.Plan.Kind.{Windowed}
 use Rattle.ks_query.specs.Windows.{windows}
 use Rattle.ks_query.specs.Streams.{Input, StreamItem, grouped}
 use Rattle.ks_query.specs.Query.{query}

@@ -5,7 +5,7 @@ use Rattle.std.specs.List.{filter}
 use Rattle.std.specs.declared.cmp.Ordering.{Ordering}
 use Rattle.std.specs.Ordering.{nat_cmp, ordering_then}
 use Rattle.ks_map.specs.Bytes.{by_bytes}
-use Rattle.ks_topo.specs.Plan.{Window}
+use Rattle.ks_plan.specs.Plan.{Window}
 
 -- a group's key and the start of a window
 abbrev pub WindowKey : Type 0

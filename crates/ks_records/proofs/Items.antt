@@ -21,8 +21,8 @@ use Rattle.ks_row.specs.Spelling.{spelling, FitsField, FitsMember, FitsRow}
 use Rattle.ks_row.specs.declared.row.Field.{Field}
 use Rattle.ks_row.specs.declared.row.Field.TheVariants.{Int, Text}
 use Rattle.ks_row.specs.declared.record.Rec.{Rec}
-use Rattle.ks_topo.specs.Drafts.{DraftView}
-use Rattle.ks_topo.specs.Plan.{natural}
+use Rattle.ks_plan.specs.Drafts.{DraftView}
+use Rattle.ks_plan.specs.Plan.{natural}
 use Rattle.ks_line.specs.declared.fault.JobKind.{JobKind}
 use Rattle.ks_line.specs.declared.fault.JobKind.TheVariants.{TooMany, BadShape, BadNumber, UnknownTopic, NotJson, LineTooLong}
 use Rattle.ks_line.specs.declared.record.Input.{Input}

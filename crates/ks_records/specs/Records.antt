@@ -5,8 +5,8 @@ use Rattle.ks_row.specs.Rows.{Member}
 use Rattle.ks_row.specs.Spelling.{spelling, FitsRow}
 use Rattle.ks_row.specs.Reading.{row_from}
 use Rattle.ks_row.specs.declared.record.Rec.{Rec}
-use Rattle.ks_topo.specs.Drafts.{Name}
-use Rattle.ks_topo.specs.Plan.{natural}
+use Rattle.ks_plan.specs.Drafts.{Name}
+use Rattle.ks_plan.specs.Plan.{natural}
 use Rattle.ks_query.specs.Streams.{Input, some_of}
 use Rattle.ks_job.specs.Items.{ItemView, TopologyAt, RecordTo}
 use Rattle.ks_job.specs.Reader.{Reader, Reading, Faulty, Machine}

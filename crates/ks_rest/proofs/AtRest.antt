@@ -10,8 +10,8 @@ use Rattle.ks_row.specs.Parts.{same_task}
 use Rattle.ks_expr.specs.declared.terms.JoinKind.{JoinKind}
 use Rattle.ks_expr.specs.Terms.{Set, Test}
 use Rattle.ks_expr.specs.Eval.{Row, holds, project, joined}
-use Rattle.ks_topo.specs.Plan.{Plan}
-use Rattle.ks_topo.specs.Plan.Kind.{TableSource, TableFilter, TableMap, KeyJoin}
+use Rattle.ks_plan.specs.Plan.{Plan}
+use Rattle.ks_plan.specs.Plan.Kind.{TableSource, TableFilter, TableMap, KeyJoin}
 use Rattle.ks_map.specs.FinMap as fin
 use Rattle.ks_map.specs.Bytes.{by_bytes}
 use Rattle.ks_query.specs.Streams.{Key, Input}

@@ -5,8 +5,8 @@ use Rattle.ks_expr.specs.declared.terms.JoinKind.{JoinKind}
 use Rattle.ks_expr.specs.Terms.{Set, Test}
 use Rattle.ks_expr.specs.Eval.{Row, holds, project, joined}
 use Rattle.ks_row.specs.declared.record.TaskId.{TaskId}
-use Rattle.ks_topo.specs.Plan.{Plan, Kind}
-use Rattle.ks_topo.specs.Plan.Kind.{TableFilter, TableMap, KeyJoin}
+use Rattle.ks_plan.specs.Plan.{Plan, Kind}
+use Rattle.ks_plan.specs.Plan.Kind.{TableFilter, TableMap, KeyJoin}
 use Rattle.ks_query.specs.Streams.{Key}
 use Rattle.ks_network.specs.Run.{run}
 use Rattle.ks_machine.specs.Messages.{Place, shown, Item, Rules}

@@ -5,9 +5,9 @@ use Rattle.std.specs.Prelude.{min, max}
 use Rattle.std.proofs.lemmas.Bool.Decides.{Decides-eqb}
 use Rattle.std.proofs.lemmas.Bool.{eqb-false}
 use Rattle.std.proofs.lemmas.List.Sums.{fold-append}
-use Rattle.ks_topo.specs.Plan.{Plan, Kind, wiring_of}
-use Rattle.ks_topo.specs.Plan.Kind.{StreamSource, TableSource, StreamFilter, TableFilter, StreamMap, TableMap, KeySelected, StreamAggregate, TableAggregate, Windowed, KeyJoin, ForeignKeyJoin}
-use Rattle.ks_topo.specs.Layout.{at, relabel, join_labels, label_next, labels, firsts, sub_of, wired_parts, parts_of, is_source_of, any_source_of, is_read, first_source_of, source_of}
+use Rattle.ks_plan.specs.Plan.{Plan, Kind, wiring_of}
+use Rattle.ks_plan.specs.Plan.Kind.{StreamSource, TableSource, StreamFilter, TableFilter, StreamMap, TableMap, KeySelected, StreamAggregate, TableAggregate, Windowed, KeyJoin, ForeignKeyJoin}
+use Rattle.ks_plan.specs.Layout.{at, relabel, join_labels, label_next, labels, firsts, sub_of, wired_parts, parts_of, is_source_of, any_source_of, is_read, first_source_of, source_of}
 use Rattle.ks_rest.proofs.Mixed.{Stands_at}
 
 abbrev parts_next : Plan → List ℕ → Kind → List ℕ

@@ -12,8 +12,8 @@ use Rattle.ks_expr.specs.declared.terms.JoinKind.TheVariants.{Inner, Left as Lef
 use Rattle.ks_expr.specs.Terms.{Set}
 use Rattle.ks_expr.specs.Eval.{Row, same_bytes, same_field, joined, holds, project}
 use Rattle.ks_query.specs.Streams.{Key}
-use Rattle.ks_topo.specs.Plan.{Plan, Kind}
-use Rattle.ks_topo.specs.Plan.Kind.{TableFilter, TableMap, StreamAggregate, TableAggregate, KeyJoin, ForeignKeyJoin}
+use Rattle.ks_plan.specs.Plan.{Plan, Kind}
+use Rattle.ks_plan.specs.Plan.Kind.{TableFilter, TableMap, StreamAggregate, TableAggregate, KeyJoin, ForeignKeyJoin}
 use Rattle.ks_map.specs.FinMap as map
 use Rattle.ks_query.specs.Query.{with_number}
 use Rattle.ks_map.specs.Bytes.{by_bytes}
@@ -28,7 +28,7 @@ use Rattle.ks_rest.proofs.Following.{EachFollows, values_of, InOrder}
 use Rattle.ks_map.proofs.Tables.{equal, get-write}
 use Rattle.ks_network.proofs.Runs.{kept_by_run}
 use Rattle.ks_rest.proofs.Mixed.{Stands_at}
-use Rattle.ks_topo.specs.declared.node.Topic.TheVariants.{Repartition, Responses}
+use Rattle.ks_plan.specs.declared.node.Topic.TheVariants.{Repartition, Responses}
 
 bytes-is : (a b : List ℕ) → same_bytes a b ≡ true → a ≡ b
 bytes-is a b e = slice_cmp-IsAntisymmetric nat_cmp-IsAntisymmetric a b (equal _ e)

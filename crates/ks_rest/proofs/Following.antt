@@ -2,8 +2,8 @@
 use Rattle.std.specs.Prelude.{◌≡◌, ℕ, suc, ◌<◌, List, [], ◌∷◌, Some, None, cond}
 use Rattle.ks_expr.specs.Eval.{holds, project, joined}
 use Rattle.ks_query.specs.Streams.{Key}
-use Rattle.ks_topo.specs.Plan.{Kind}
-use Rattle.ks_topo.specs.Plan.Kind.{TableFilter, TableMap, KeyJoin}
+use Rattle.ks_plan.specs.Plan.{Kind}
+use Rattle.ks_plan.specs.Plan.Kind.{TableFilter, TableMap, KeyJoin}
 use Rattle.ks_map.specs.FinMap as map
 use Rattle.ks_machine.specs.Messages.{Store}
 use Rattle.ks_machine.specs.Step.{Values, row_in, kept_row, of_row}

@@ -10,10 +10,10 @@ use Rattle.std.specs.Cmp.Lexicographic.{nat_list_cmp_total}
 use Rattle.ks_row.specs.declared.record.TaskId.{TaskId}
 use Rattle.ks_row.specs.Parts.{same_task}
 use Rattle.ks_expr.specs.Eval.{Row}
-use Rattle.ks_topo.specs.declared.node.Topic.TheVariants.{Input as InputTopic}
-use Rattle.ks_topo.specs.Plan.{Plan, Kind}
-use Rattle.ks_topo.specs.Plan.Kind.{TableSource}
-use Rattle.ks_topo.specs.Layout.{sub_of, is_read, at}
+use Rattle.ks_plan.specs.declared.node.Topic.TheVariants.{Input as InputTopic}
+use Rattle.ks_plan.specs.Plan.{Plan, Kind}
+use Rattle.ks_plan.specs.Plan.Kind.{TableSource}
+use Rattle.ks_plan.specs.Layout.{sub_of, is_read, at}
 use Rattle.ks_map.specs.FinMap as fin
 use Rattle.ks_map.specs.Table.{Change, latest}
 use Rattle.ks_map.specs.Bytes.{by_bytes}

@@ -7,9 +7,9 @@ use Rattle.std.specs.FinMap.Entries.{find, is_sorted}
 use Rattle.ks_row.specs.declared.record.TaskId.{TaskId}
 use Rattle.ks_row.specs.Parts.{same_task}
 use Rattle.ks_expr.specs.Eval.{Row}
-use Rattle.ks_topo.specs.Plan.{Plan, Kind, Window, is_windowed}
-use Rattle.ks_topo.specs.Plan.Kind.{StreamSource, TableSource, StreamFilter, TableFilter, StreamMap, TableMap, KeySelected, StreamAggregate, TableAggregate, Windowed, KeyJoin, ForeignKeyJoin}
-use Rattle.ks_topo.specs.Layout.{kind_at}
+use Rattle.ks_plan.specs.Plan.{Plan, Kind, Window, is_windowed}
+use Rattle.ks_plan.specs.Plan.Kind.{StreamSource, TableSource, StreamFilter, TableFilter, StreamMap, TableMap, KeySelected, StreamAggregate, TableAggregate, Windowed, KeyJoin, ForeignKeyJoin}
+use Rattle.ks_plan.specs.Layout.{kind_at}
 use Rattle.ks_map.specs.FinMap as fin
 use Rattle.ks_map.proofs.Tables.{equal, find_below, head_of, tail_of}
 use Rattle.ks_query.specs.Streams.{Key, Input, StreamItem}

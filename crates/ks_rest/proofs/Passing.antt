@@ -5,7 +5,7 @@ use Rattle.std.proofs.lemmas.Bool.{eqb-false}
 use Rattle.std.proofs.lemmas.Bool.Decides.{Decides-eqb}
 use Rattle.ks_row.specs.declared.record.TaskId.{TaskId}
 use Rattle.ks_row.specs.Parts.{same_task}
-use Rattle.ks_topo.specs.Plan.{Plan}
+use Rattle.ks_plan.specs.Plan.{Plan}
 use Rattle.ks_query.specs.Streams.{Input}
 use Rattle.ks_network.specs.Run.{Machine, Outcome, Taken, RunState, Follows, sent_to, local, received, sent, is_from}
 use Rattle.ks_network.proofs.Runs.{after, nothing_made, sent_to-append}

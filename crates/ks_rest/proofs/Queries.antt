@@ -13,8 +13,8 @@ use Rattle.ks_expr.specs.declared.terms.JoinKind.{JoinKind}
 use Rattle.ks_expr.specs.declared.terms.JoinKind.TheVariants.{Inner, Left as LeftJoin, Outer}
 use Rattle.ks_expr.specs.Terms.{Set}
 use Rattle.ks_expr.specs.Eval.{Row, joined}
-use Rattle.ks_topo.specs.Plan.{Plan, Kind}
-use Rattle.ks_topo.specs.Plan.Kind.{StreamSource, TableSource, StreamFilter, TableFilter, StreamMap, TableMap, KeySelected, StreamAggregate, TableAggregate, Windowed, KeyJoin, ForeignKeyJoin}
+use Rattle.ks_plan.specs.Plan.{Plan, Kind}
+use Rattle.ks_plan.specs.Plan.Kind.{StreamSource, TableSource, StreamFilter, TableFilter, StreamMap, TableMap, KeySelected, StreamAggregate, TableAggregate, Windowed, KeyJoin, ForeignKeyJoin}
 use Rattle.ks_map.specs.FinMap as fin
 use Rattle.ks_map.specs.FinMap.{FinMap}
 use Rattle.ks_map.specs.Table.{write}

@@ -9,11 +9,11 @@ use Rattle.std.specs.Cmp.Lexicographic.{nat_list_cmp_total}
 use Rattle.std.specs.FinMap.{slice_cmp-IsAntisymmetric, nat_cmp-IsAntisymmetric, int_cmp-IsAntisymmetric}
 use Rattle.ks_expr.specs.Eval.{Row}
 use Rattle.ks_query.specs.Streams.{Key}
-use Rattle.ks_topo.specs.Plan.{Plan}
-use Rattle.ks_topo.specs.Plan.Kind.{TableAggregate}
-use Rattle.ks_topo.specs.declared.node.Topic.{Topic}
-use Rattle.ks_topo.specs.Layout.{same_topic, parts_of_topic}
-use Rattle.ks_topo.specs.declared.node.Topic.TheVariants.{Repartition}
+use Rattle.ks_plan.specs.Plan.{Plan}
+use Rattle.ks_plan.specs.Plan.Kind.{TableAggregate}
+use Rattle.ks_plan.specs.declared.node.Topic.{Topic}
+use Rattle.ks_plan.specs.Layout.{same_topic, parts_of_topic}
+use Rattle.ks_plan.specs.declared.node.Topic.TheVariants.{Repartition}
 use Rattle.ks_map.specs.FinMap as fin
 use Rattle.ks_map.specs.FinMap.{FinMap}
 use Rattle.ks_map.specs.Bytes.{by_bytes}

@@ -4,8 +4,8 @@ use Rattle.std.specs.Prelude.{pos}
 use Rattle.std.specs.Int.{w64, IsNonNegative}
 use Rattle.std.proofs.lemmas.Int.{to_z_pos}
 use Rattle.ks_row.specs.declared.record.TaskId.{TaskId}
-use Rattle.ks_topo.specs.Plan.{Plan}
-use Rattle.ks_topo.specs.Plan.Kind.{TableAggregate}
+use Rattle.ks_plan.specs.Plan.{Plan}
+use Rattle.ks_plan.specs.Plan.Kind.{TableAggregate}
 use Rattle.ks_map.specs.FinMap as fin
 use Rattle.ks_map.specs.FinMap.{FinMap}
 use Rattle.ks_map.specs.Table.{sum_of, total}

@@ -7,8 +7,8 @@ use Rattle.std.specs.FinMap.{slice_cmp-IsAntisymmetric, nat_cmp-IsAntisymmetric}
 use Rattle.ks_row.specs.declared.record.TaskId.{TaskId}
 use Rattle.ks_expr.specs.Eval.{Row}
 use Rattle.ks_wire.specs.declared.values.Agg.{Agg}
-use Rattle.ks_topo.specs.Plan.{Plan}
-use Rattle.ks_topo.specs.Plan.Kind.{StreamAggregate}
+use Rattle.ks_plan.specs.Plan.{Plan}
+use Rattle.ks_plan.specs.Plan.Kind.{StreamAggregate}
 use Rattle.ks_map.specs.FinMap as fin
 use Rattle.ks_map.specs.Bytes.{by_bytes}
 use Rattle.ks_query.specs.Streams.{Key, Input, StreamItem, grouped}

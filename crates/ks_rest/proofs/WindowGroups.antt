@@ -10,10 +10,10 @@ use Rattle.ks_row.specs.declared.record.TaskId.{TaskId}
 use Rattle.ks_row.specs.Parts.{same_task}
 use Rattle.ks_expr.specs.Eval.{Row}
 use Rattle.ks_wire.specs.declared.values.Agg.{Agg}
-use Rattle.ks_topo.specs.declared.node.Topic.TheVariants.{Repartition}
-use Rattle.ks_topo.specs.Plan.{Plan, Kind, Window}
-use Rattle.ks_topo.specs.Plan.Kind.{StreamSource, Windowed}
-use Rattle.ks_topo.specs.Layout.{same_topic, kind_at, parts_of_topic}
+use Rattle.ks_plan.specs.declared.node.Topic.TheVariants.{Repartition}
+use Rattle.ks_plan.specs.Plan.{Plan, Kind, Window}
+use Rattle.ks_plan.specs.Plan.Kind.{StreamSource, Windowed}
+use Rattle.ks_plan.specs.Layout.{same_topic, kind_at, parts_of_topic}
 use Rattle.ks_map.specs.FinMap as fin
 use Rattle.ks_map.specs.FinMap.{FinMap}
 use Rattle.ks_map.specs.Bytes.{by_bytes}

@@ -8,9 +8,9 @@ use Rattle.std.specs.Ordering.{eq_by_cmp}
 use Rattle.ks_row.specs.declared.record.TaskId.{TaskId}
 use Rattle.ks_row.specs.Parts.{same_task}
 use Rattle.ks_wire.specs.declared.values.Agg.{Agg}
-use Rattle.ks_topo.specs.Plan.{Plan, Window}
-use Rattle.ks_topo.specs.Plan.Kind.{Windowed}
-use Rattle.ks_topo.specs.Layout.{kind_at}
+use Rattle.ks_plan.specs.Plan.{Plan, Window}
+use Rattle.ks_plan.specs.Plan.Kind.{Windowed}
+use Rattle.ks_plan.specs.Layout.{kind_at}
 use Rattle.ks_map.specs.FinMap as fin
 use Rattle.ks_map.specs.FinMap.{FinMap}
 use Rattle.ks_map.proofs.Tables.{equal}

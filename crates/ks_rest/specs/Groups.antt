@@ -7,10 +7,10 @@ use Rattle.ks_expr.specs.Eval.{Row, same_bytes}
 use Rattle.ks_wire.specs.declared.values.Agg.{Agg}
 use Rattle.ks_map.specs.FinMap as map
 use Rattle.ks_map.specs.Bytes.{by_bytes}
-use Rattle.ks_topo.specs.Drafts.{DraftView, Name}
-use Rattle.ks_topo.specs.Plan.{Plan, plan_of}
-use Rattle.ks_topo.specs.Plan.Kind.{TableAggregate}
-use Rattle.ks_topo.specs.declared.node.Topic.TheVariants.{Repartition}
+use Rattle.ks_plan.specs.Drafts.{DraftView, Name}
+use Rattle.ks_plan.specs.Plan.{Plan, plan_of}
+use Rattle.ks_plan.specs.Plan.Kind.{TableAggregate}
+use Rattle.ks_plan.specs.declared.node.Topic.TheVariants.{Repartition}
 use Rattle.ks_network.specs.Run.{received}
 use Rattle.ks_query.specs.Streams.{Key, Input}
 use Rattle.ks_query.specs.Aggregates.{nothing_yet, or_nothing, with_members, moved}

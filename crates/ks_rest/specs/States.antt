@@ -2,8 +2,8 @@
 use Rattle.std.specs.Prelude.{List, Option, option_map, ℕ}
 use Rattle.ks_row.specs.declared.record.TaskId.{TaskId}
 use Rattle.ks_expr.specs.Eval.{Row}
-use Rattle.ks_topo.specs.Plan.{Plan}
-use Rattle.ks_topo.specs.Layout.{sub_of}
+use Rattle.ks_plan.specs.Plan.{Plan}
+use Rattle.ks_plan.specs.Layout.{sub_of}
 use Rattle.ks_map.specs.FinMap as map
 use Rattle.ks_network.specs.Run.{RunState, run}
 use Rattle.ks_query.specs.Streams.{Key, Input}

@@ -6,9 +6,9 @@ use Rattle.ks_row.specs.declared.record.TaskId.{TaskId}
 use Rattle.ks_row.specs.Parts.{same_task}
 use Rattle.ks_expr.specs.Eval.{same_bytes}
 use Rattle.ks_wire.specs.declared.values.Agg.{Agg}
-use Rattle.ks_topo.specs.Drafts.{DraftView, Name}
-use Rattle.ks_topo.specs.Plan.{Plan, plan_of}
-use Rattle.ks_topo.specs.Plan.Kind.{StreamAggregate}
+use Rattle.ks_plan.specs.Drafts.{DraftView, Name}
+use Rattle.ks_plan.specs.Plan.{Plan, plan_of}
+use Rattle.ks_plan.specs.Plan.Kind.{StreamAggregate}
 use Rattle.ks_map.specs.FinMap as map
 use Rattle.ks_map.specs.Bytes.{by_bytes}
 use Rattle.ks_network.specs.Run.{Taken}

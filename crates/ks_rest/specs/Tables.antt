@@ -5,10 +5,10 @@ use Rattle.ks_row.specs.declared.record.TaskId.{TaskId}
 use Rattle.ks_expr.specs.declared.terms.JoinKind.{JoinKind}
 use Rattle.ks_expr.specs.Terms.{Set, Test}
 use Rattle.ks_expr.specs.Eval.{holds, project, joined}
-use Rattle.ks_topo.specs.declared.node.Topic.TheVariants.{Input as InputTopic}
-use Rattle.ks_topo.specs.Drafts.{DraftView}
-use Rattle.ks_topo.specs.Plan.{plan_of}
-use Rattle.ks_topo.specs.Plan.Kind.{TableSource, TableFilter, TableMap, KeyJoin}
+use Rattle.ks_plan.specs.declared.node.Topic.TheVariants.{Input as InputTopic}
+use Rattle.ks_plan.specs.Drafts.{DraftView}
+use Rattle.ks_plan.specs.Plan.{plan_of}
+use Rattle.ks_plan.specs.Plan.Kind.{TableSource, TableFilter, TableMap, KeyJoin}
 use Rattle.ks_map.specs.FinMap as map
 use Rattle.ks_map.specs.Bytes.{by_bytes}
 use Rattle.ks_map.specs.Table.{latest}

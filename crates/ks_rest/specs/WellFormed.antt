@@ -1,7 +1,7 @@
 -- Well-formed topologies.
 use Rattle.std.specs.Prelude.{◌≡◌, None}
-use Rattle.ks_topo.specs.Drafts.{DraftView}
-use Rattle.ks_topo.specs.Faults.{fault_of}
+use Rattle.ks_plan.specs.Drafts.{DraftView}
+use Rattle.ks_plan.specs.Faults.{fault_of}
 
 -- no fault fits
 abbrev pub IsWellFormed : DraftView → Type 0

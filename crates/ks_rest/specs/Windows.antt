@@ -4,7 +4,7 @@ use Rattle.std.specs.Prelude.{◌≡◌, ℕ, zero, suc, ◌+◌, ◌≤◌, len
 use Rattle.std.specs.Int.{w64, cast_signed}
 use Rattle.std.specs.Ordering.{eq_by_cmp}
 use Rattle.ks_wire.specs.declared.values.Agg.{Agg}
-use Rattle.ks_topo.specs.Layout.{kind_at}
+use Rattle.ks_plan.specs.Layout.{kind_at}
 use Rattle.ks_network.specs.Run.{Machine, Taken, late_all}
 use Rattle.ks_query.specs.Grace.{is_open}
 use Rattle.ks_machine.specs.Messages.Message.{Keyed}
@@ -15,9 +15,9 @@ use Rattle.ks_rest.specs.Groups.{place_of}
 use Rattle.ks_rest.specs.Streams.{passed_on, all_waiting}
 use Rattle.ks_row.specs.declared.record.TaskId.{TaskId}
 use Rattle.ks_row.specs.Parts.{same_task}
-use Rattle.ks_topo.specs.Drafts.{DraftView, Name}
-use Rattle.ks_topo.specs.Plan.{Plan, Kind, Window, plan_of, is_windowed}
-use Rattle.ks_topo.specs.Plan.Kind.{Windowed}
+use Rattle.ks_plan.specs.Drafts.{DraftView, Name}
+use Rattle.ks_plan.specs.Plan.{Plan, Kind, Window, plan_of, is_windowed}
+use Rattle.ks_plan.specs.Plan.Kind.{Windowed}
 use Rattle.ks_map.specs.FinMap as map
 use Rattle.ks_query.specs.Streams.{Key, Input, StreamItem, group_key}
 use Rattle.ks_query.specs.Windows.{WindowKey, by_window, windows}

@@ -5,11 +5,11 @@ use Rattle.std.specs.List.{filter}
 use Rattle.std.proofs.lemmas.List.{length-map}
 use Rattle.std.proofs.lemmas.Option.{slice_get_within, get_or_from_slice_get}
 use Rattle.std.proofs.lemmas.Bool.{eq-eqb, or_left, or_right, true≢false}
-use Rattle.ks_topo.specs.declared.node.Topic.{Topic}
-use Rattle.ks_topo.specs.declared.node.Topic.TheVariants.{Input as InputTopic, Repartition, Subscriptions, Changelog, HashChangelog}
-use Rattle.ks_topo.specs.Plan.{Plan, Kind, wiring_of}
-use Rattle.ks_topo.specs.Plan.Kind.{StreamSource, TableSource, StreamFilter, TableFilter, StreamMap, TableMap, KeySelected, StreamAggregate, TableAggregate, Windowed, KeyJoin, ForeignKeyJoin}
-use Rattle.ks_topo.specs.Layout.{same_topic, at, wired_parts, parts_of, parts_of_topic, through_topics, changelogs_of, by_node, topics_of, place_of, number_of, up_to}
+use Rattle.ks_plan.specs.declared.node.Topic.{Topic}
+use Rattle.ks_plan.specs.declared.node.Topic.TheVariants.{Input as InputTopic, Repartition, Subscriptions, Changelog, HashChangelog}
+use Rattle.ks_plan.specs.Plan.{Plan, Kind, wiring_of}
+use Rattle.ks_plan.specs.Plan.Kind.{StreamSource, TableSource, StreamFilter, TableFilter, StreamMap, TableMap, KeySelected, StreamAggregate, TableAggregate, Windowed, KeyJoin, ForeignKeyJoin}
+use Rattle.ks_plan.specs.Layout.{same_topic, at, wired_parts, parts_of, parts_of_topic, through_topics, changelogs_of, by_node, topics_of, place_of, number_of, up_to}
 use Rattle.ks_machine.specs.Messages.{Rules}
 use Rattle.ks_machine.proofs.Names.{topic-is, topic_itself}
 use Rattle.ks_history.specs.Machine.{has_topic}

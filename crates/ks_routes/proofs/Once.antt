@@ -3,9 +3,9 @@ use Rattle.std.proofs.Common.{◌≡◌, ℕ, suc, ◌+◌, ◌≤◌, ◌<◌, 
 use Rattle.std.specs.List.{filter, slice_index}
 use Rattle.std.specs.List.Sorted.{IsStrictlyIncreasing}
 use Rattle.std.proofs.lemmas.Bool.{ne_eqb}
-use Rattle.ks_topo.specs.declared.node.Topic.{Topic}
-use Rattle.ks_topo.specs.Layout.{number_of, drain_order, reads}
-use Rattle.ks_topo.specs.Infos.{drain_numbers, input_numbers}
+use Rattle.ks_plan.specs.declared.node.Topic.{Topic}
+use Rattle.ks_plan.specs.Layout.{number_of, drain_order, reads}
+use Rattle.ks_plan.specs.Infos.{drain_numbers, input_numbers}
 use Rattle.ks_history.specs.Machine.{has_topic}
 use Rattle.ks_work.proofs.Order.{drain_rises}
 use Rattle.ks_follow.specs.Views.{are_topics_once}

@@ -4,12 +4,12 @@ use Rattle.std.specs.List.{filter}
 use Rattle.std.proofs.lemmas.Bool.{or_cases, true≢false}
 use Rattle.std.proofs.lemmas.Bool.Decides.{Decides-eqb}
 use Rattle.std.proofs.lemmas.Option.{slice_get_within, get_or_from_slice_get}
-use Rattle.ks_topo.specs.declared.node.Topic.{Topic}
-use Rattle.ks_topo.specs.declared.node.Topic.TheVariants.{Input as InputTopic, Repartition}
-use Rattle.ks_topo.specs.Plan.{Plan, Kind, plan_of}
-use Rattle.ks_topo.specs.Plan.Kind.{StreamSource, TableSource, StreamFilter, TableFilter, StreamMap, TableMap, KeySelected, StreamAggregate, TableAggregate, Windowed, KeyJoin, ForeignKeyJoin}
-use Rattle.ks_topo.specs.Layout.{at, up_to, sub_of, sub_count, parts_of, parts_of_topic, through_topics, by_node, input_topics, drain_order, is_drained, number_of, reads, tasks, kind_at, no_kind, right_of, is_source_of, any_source_of, is_read, source_of}
-use Rattle.ks_topo.specs.Infos.{input_numbers}
+use Rattle.ks_plan.specs.declared.node.Topic.{Topic}
+use Rattle.ks_plan.specs.declared.node.Topic.TheVariants.{Input as InputTopic, Repartition}
+use Rattle.ks_plan.specs.Plan.{Plan, Kind, plan_of}
+use Rattle.ks_plan.specs.Plan.Kind.{StreamSource, TableSource, StreamFilter, TableFilter, StreamMap, TableMap, KeySelected, StreamAggregate, TableAggregate, Windowed, KeyJoin, ForeignKeyJoin}
+use Rattle.ks_plan.specs.Layout.{at, up_to, sub_of, sub_count, parts_of, parts_of_topic, through_topics, by_node, input_topics, drain_order, is_drained, number_of, reads, tasks, kind_at, no_kind, right_of, is_source_of, any_source_of, is_read, source_of}
+use Rattle.ks_plan.specs.Infos.{input_numbers}
 use Rattle.ks_history.specs.Machine.{has_topic}
 use Rattle.ks_history.specs.State.{has_task}
 use Rattle.ks_rest.proofs.Fits.{Fits, NodeFits, EachFits, Sourced, each_at, node_stands}

@@ -10,11 +10,11 @@ use Rattle.std.proofs.lemmas.Option.{get_or_from_slice_get}
 use Rattle.ks_wire.specs.declared.values.Delta.{Delta}
 use Rattle.ks_wire.specs.declared.values.Response.{Response}
 use Rattle.ks_expr.specs.Eval.{Row}
-use Rattle.ks_topo.specs.declared.node.Topic.{Topic}
-use Rattle.ks_topo.specs.declared.node.Topic.TheVariants.{Repartition, Subscriptions, Responses, Changelog, HashChangelog}
-use Rattle.ks_topo.specs.Plan.{Plan, Kind, is_stream}
-use Rattle.ks_topo.specs.Plan.Kind.{StreamSource, TableSource, StreamFilter, TableFilter, StreamMap, TableMap, KeySelected, StreamAggregate, TableAggregate, Windowed, KeyJoin, ForeignKeyJoin}
-use Rattle.ks_topo.specs.Layout.{same_topic, parts_of, parts_of_topic, through_topics, changelogs_of, by_node, input_topics, topics_of, kind_at, no_kind, right_of}
+use Rattle.ks_plan.specs.declared.node.Topic.{Topic}
+use Rattle.ks_plan.specs.declared.node.Topic.TheVariants.{Repartition, Subscriptions, Responses, Changelog, HashChangelog}
+use Rattle.ks_plan.specs.Plan.{Plan, Kind, is_stream}
+use Rattle.ks_plan.specs.Plan.Kind.{StreamSource, TableSource, StreamFilter, TableFilter, StreamMap, TableMap, KeySelected, StreamAggregate, TableAggregate, Windowed, KeyJoin, ForeignKeyJoin}
+use Rattle.ks_plan.specs.Layout.{same_topic, parts_of, parts_of_topic, through_topics, changelogs_of, by_node, input_topics, topics_of, kind_at, no_kind, right_of}
 use Rattle.ks_map.specs.FinMap as fin
 use Rattle.ks_query.specs.Streams.{Key, StreamItem, group_key}
 use Rattle.ks_query.specs.Query.{with_number}

@@ -7,10 +7,10 @@ use Rattle.ks_row.specs.declared.record.Rec.{Rec}
 use Rattle.ks_row.specs.declared.record.PartId.{PartId}
 use Rattle.ks_row.specs.declared.record.TaskId.{TaskId}
 use Rattle.ks_row.specs.Parts.{same_part}
-use Rattle.ks_topo.specs.declared.node.Topic.{Topic}
-use Rattle.ks_topo.specs.Plan.{Plan, plan_of}
-use Rattle.ks_topo.specs.Layout.{topics_of, topic_at, number_of, parts_of_topic, reads, tasks, by_node, changelogs_of}
-use Rattle.ks_topo.specs.Infos.{input_numbers}
+use Rattle.ks_plan.specs.declared.node.Topic.{Topic}
+use Rattle.ks_plan.specs.Plan.{Plan, plan_of}
+use Rattle.ks_plan.specs.Layout.{topics_of, topic_at, number_of, parts_of_topic, reads, tasks, by_node, changelogs_of}
+use Rattle.ks_plan.specs.Infos.{input_numbers}
 use Rattle.ks_machine.specs.Messages.{Place, Item, Message, Rules, Store}
 use Rattle.ks_machine.specs.Step.{Arrival, Sent, Written}
 use Rattle.ks_machine.specs.Tasks.{step, sent_item, written_item, is_changelog}

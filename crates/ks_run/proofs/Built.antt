@@ -4,13 +4,13 @@ use Rattle.std.specs.Prelude.{ℤ, Option, Some, None}
 use Rattle.std.specs.Option.{option_or}
 use Rattle.std.proofs.lemmas.List.Sums.{fold-append}
 use Rattle.ks_expr.specs.Eval.{same_bytes}
-use Rattle.ks_topo.specs.declared.fault.TopoFault.{TopoFault}
-use Rattle.ks_topo.specs.declared.fault.TopoFault.TheVariants.{UnknownInput}
-use Rattle.ks_topo.specs.Drafts.{Name, OpView, StreamOf, TableOf, FilterOf, MapOf, KeyOf, CountOf, SumOf, WindowedOf, JoinOf, FkJoinOf, NodeView, DraftView}
-use Rattle.ks_topo.specs.Plan.{Known, Kind, nothing_known, is_stream, name_place, known_names, node_number, known_at, known_of, learn, known_from, plan_of}
-use Rattle.ks_topo.specs.Plan.Kind.{StreamSource, TableSource, StreamFilter, TableFilter, StreamMap, TableMap, KeySelected, StreamAggregate, TableAggregate, Windowed, KeyJoin, ForeignKeyJoin}
-use Rattle.ks_topo.specs.Faults.{Line, first_fitting, first_of, has_name, inputs_in, unknown_lines, node_table, nodes_fault, print_fault, size_lines, parts_fault, fault_of}
-use Rattle.ks_topo.proofs.Resolving.{known_names_from}
+use Rattle.ks_plan.specs.declared.fault.TopoFault.{TopoFault}
+use Rattle.ks_plan.specs.declared.fault.TopoFault.TheVariants.{UnknownInput}
+use Rattle.ks_plan.specs.Drafts.{Name, OpView, StreamOf, TableOf, FilterOf, MapOf, KeyOf, CountOf, SumOf, WindowedOf, JoinOf, FkJoinOf, NodeView, DraftView}
+use Rattle.ks_plan.specs.Plan.{Known, Kind, nothing_known, is_stream, name_place, known_names, node_number, known_at, known_of, learn, known_from, plan_of}
+use Rattle.ks_plan.specs.Plan.Kind.{StreamSource, TableSource, StreamFilter, TableFilter, StreamMap, TableMap, KeySelected, StreamAggregate, TableAggregate, Windowed, KeyJoin, ForeignKeyJoin}
+use Rattle.ks_plan.specs.Faults.{Line, first_fitting, first_of, has_name, inputs_in, unknown_lines, node_table, nodes_fault, print_fault, size_lines, parts_fault, fault_of}
+use Rattle.ks_plan.proofs.Resolving.{known_names_from}
 use Rattle.ks_task.specs.Built.{is_built_kind, are_built, IsBuilt}
 use Rattle.ks_run.specs.Stops.{is_built, first_unbuilt}
 

@@ -1,19 +1,19 @@
 -- The partition counts of a job's topics.
 use Rattle.std.proofs.Common.{◌≡◌, ℕ, zero, suc, ◌+◌, ◌<◌, ◌≤◌, List, [], ◌∷◌, ◌++◌, length, map, get_or, Bool, true, false, cond, ◌||◌, refl, sym, ap, ◌∙◌, arith, length-append, negsuc, ◌⊎◌, inl, inr}
 use Rattle.std.specs.Prelude.{ℤ, pos, Option, Some, None, fold, slice_index, nat_lt, codes}
-use Rattle.ks_topo.specs.declared.fault.TopoFault.TheVariants.{TooMany}
+use Rattle.ks_plan.specs.declared.fault.TopoFault.TheVariants.{TooMany}
 use Rattle.std.specs.Option.{option_or}
 use Rattle.std.proofs.lemmas.List.{length-map}
 use Rattle.std.proofs.lemmas.Bool.{ltb-false, cases_lt}
 use Rattle.std.specs.Ordering.{nat_cmp, is_lt}
 use Rattle.std.specs.Cmp.Lexicographic.{slice_cmp}
-use Rattle.ks_topo.specs.declared.node.Topic.TheVariants.{Input as InputTopic}
-use Rattle.ks_topo.specs.Drafts.{Name, DraftView}
-use Rattle.ks_topo.specs.Plan.{Plan, natural, with_topic, sorted_topics, plan_of}
-use Rattle.ks_topo.specs.Layout.{at, up_to, by_node, through_topics, changelogs_of, input_topics, topics_of, parts_of_topic}
-use Rattle.ks_topo.specs.Infos.{info_of, topic_infos}
-use Rattle.ks_topo.specs.declared.node.TopicInfo.{TopicInfo}
-use Rattle.ks_topo.specs.Faults.{first_fitting, is_past, any_past, size_lines, parts_fault, fault_of}
+use Rattle.ks_plan.specs.declared.node.Topic.TheVariants.{Input as InputTopic}
+use Rattle.ks_plan.specs.Drafts.{Name, DraftView}
+use Rattle.ks_plan.specs.Plan.{Plan, natural, with_topic, sorted_topics, plan_of}
+use Rattle.ks_plan.specs.Layout.{at, up_to, by_node, through_topics, changelogs_of, input_topics, topics_of, parts_of_topic}
+use Rattle.ks_plan.specs.Infos.{info_of, topic_infos}
+use Rattle.ks_plan.specs.declared.node.TopicInfo.{TopicInfo}
+use Rattle.ks_plan.specs.Faults.{first_fitting, is_past, any_past, size_lines, parts_fault, fault_of}
 use Rattle.ks_topo.proofs.Sorting.{past_sorted}
 use Rattle.ks_records.specs.Records.{HavePartitions}
 use Rattle.ks_run.specs.Producing.{HasPartsAt}

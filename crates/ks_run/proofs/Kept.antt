@@ -3,7 +3,7 @@ use Rattle.std.proofs.Common.{◌≡◌, ◌⊎◌, inl, inr, ℕ, List, [], ◌
 use Rattle.std.specs.Prelude.{Option, Some, None, IfSome, Ok, Err}
 use Rattle.std.specs.declared.vec.Vec.{Vec}
 use Rattle.std.specs.declared.alloc.Global.{Global}
-use Rattle.ks_topo.specs.Drafts.{DraftView}
+use Rattle.ks_plan.specs.Drafts.{DraftView}
 use Rattle.ks_machine.specs.Messages.{Rules}
 use Rattle.ks_history.specs.State.{Setup}
 use Rattle.ks_history.specs.declared.journal.Entry.{Entry}

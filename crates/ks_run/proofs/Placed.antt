@@ -9,9 +9,9 @@ use Rattle.ks_row.specs.declared.record.Rec.{Rec}
 use Rattle.ks_row.proofs.Spelled.{row_again}
 use Rattle.ks_hash.specs.Partition.{part_of_key}
 use Rattle.ks_hash.specs.Murmur2.{murmur2_of}
-use Rattle.ks_topo.specs.Drafts.{DraftView}
-use Rattle.ks_topo.specs.Plan.{Plan, plan_of}
-use Rattle.ks_topo.specs.Layout.{topics_of, parts_of_topic}
+use Rattle.ks_plan.specs.Drafts.{DraftView}
+use Rattle.ks_plan.specs.Plan.{Plan, plan_of}
+use Rattle.ks_plan.specs.Layout.{topics_of, parts_of_topic}
 use Rattle.ks_work.specs.Spelled.{IfThere}
 use Rattle.ks_job.specs.Items.{ItemView, TopologyAt, RecordTo}
 use Rattle.ks_records.specs.Records.{row_in, input_of, records_of, IsRowBytes, IsRecord, AreRecords}

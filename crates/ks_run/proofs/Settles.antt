@@ -5,10 +5,10 @@ use Rattle.std.specs.Option.{option_or}
 use Rattle.ks_row.specs.declared.record.Rec.{Rec}
 use Rattle.ks_row.specs.declared.record.PartId.{PartId}
 use Rattle.ks_row.specs.declared.record.TaskId.{TaskId}
-use Rattle.ks_topo.specs.Drafts.{DraftView}
-use Rattle.ks_topo.specs.Plan.{plan_of}
-use Rattle.ks_topo.specs.Layout.{topics_of, parts_of_topic, tasks}
-use Rattle.ks_topo.specs.Faults.{fault_of}
+use Rattle.ks_plan.specs.Drafts.{DraftView}
+use Rattle.ks_plan.specs.Plan.{plan_of}
+use Rattle.ks_plan.specs.Layout.{topics_of, parts_of_topic, tasks}
+use Rattle.ks_plan.specs.Faults.{fault_of}
 use Rattle.ks_query.specs.declared.table.Table.{Table}
 use Rattle.ks_history.specs.declared.journal.Entry.{Entry}
 use Rattle.ks_history.specs.Machine.{Plan}

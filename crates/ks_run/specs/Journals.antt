@@ -1,7 +1,7 @@
 -- A run's tables and its journal, by the job.
 use Rattle.std.specs.Prelude.{◌≡◌, ◌<◌, ◌^◌, ℕ, List, [], ◌∷◌, ◌++◌, map, Option, Some, None, IfSome}
-use Rattle.ks_topo.specs.Drafts.{DraftView}
-use Rattle.ks_topo.specs.Plan.{plan_of}
+use Rattle.ks_plan.specs.Drafts.{DraftView}
+use Rattle.ks_plan.specs.Plan.{plan_of}
 use Rattle.ks_query.specs.Streams.{Input}
 use Rattle.ks_query.specs.Printed.{job_tables}
 use Rattle.ks_machine.specs.Messages.{Rules}

@@ -1,6 +1,6 @@
 -- A job that was read to its end, and what its run answers.
 use Rattle.std.specs.Prelude.{◌≡◌, ℕ, List, [], ◌∷◌, Option, Some, None}
-use Rattle.ks_topo.specs.Drafts.{DraftView}
+use Rattle.ks_plan.specs.Drafts.{DraftView}
 use Rattle.ks_query.specs.declared.table.Table.{Table}
 use Rattle.ks_query.specs.Streams.{Input}
 use Rattle.ks_query.specs.Printed.{job_tables}

@@ -2,8 +2,8 @@
 -- not built.
 use Rattle.std.specs.Prelude.{ℕ, List, [], ◌∷◌, Option, Some, None, option_map, Bool, true, false, cond}
 use Rattle.std.specs.Option.{option_or}
-use Rattle.ks_topo.specs.Drafts.{Name, OpView, TableOf, CountOf, SumOf, NodeView, DraftView}
-use Rattle.ks_topo.specs.Faults.{fault_of}
+use Rattle.ks_plan.specs.Drafts.{Name, OpView, TableOf, CountOf, SumOf, NodeView, DraftView}
+use Rattle.ks_plan.specs.Faults.{fault_of}
 use Rattle.ks_job.specs.Items.{ItemView, TopologyAt, RecordTo}
 use Rattle.ks_job.specs.Reader.{Reader, Reading, Faulty, Machine}
 use Rattle.ks_run.specs.declared.stop.Stop.{Stop}

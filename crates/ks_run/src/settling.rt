@@ -1,6 +1,6 @@
 //! Runs a job's tasks over its records, until nothing is left to take.
 ghost use Rattle.std.specs.Prelude.{◌≡◌, ℕ, List, IfOk, None, Some, length, option_map};
-ghost use Rattle.ks_topo.specs.Drafts.{DraftView, draft_view};
+ghost use Rattle.ks_plan.specs.Drafts.{DraftView, draft_view};
 ghost use Rattle.ks_topo.specs.Topologies.{draft_of, plan_in};
 ghost use Rattle.ks_query.specs.Printed.{job_tables};
 ghost use Rattle.ks_job.specs.Items.{TopologyAt, item_view, item_views};

@@ -1,6 +1,6 @@
 //! Why an input is no job that can be run.
 ghost use Rattle.std.specs.Prelude.{◌≡◌, IfOk, option_map};
-ghost use Rattle.ks_topo.specs.Drafts.{op_view, nodes_view, draft_view};
+ghost use Rattle.ks_plan.specs.Drafts.{op_view, nodes_view, draft_view};
 ghost use Rattle.ks_job.specs.Items.{item_views};
 ghost use Rattle.ks_run.specs.Stops.{is_built as built, first_unbuilt as unbuilt, refusal, topology_stop};
 

@@ -11,7 +11,7 @@ use Rattle.ks_follow.specs.Views.{WorkView, IsFrozen, recs_at, names_part, are_o
 use Rattle.ks_follow.proofs.Freezing.{frozen_is_work}
 use Rattle.ks_follow.proofs.Inside.{frozen_is_inside}
 use Rattle.ks_task.specs.declared.task.Task.{Task}
-use Rattle.ks_topo.specs.Drafts.{DraftView}
+use Rattle.ks_plan.specs.Drafts.{DraftView}
 use Rattle.ks_task.specs.Tasks.{task_view, IsTaskOf}
 use Rattle.ks_settle.specs.Reading.{IsClean}
 use Rattle.ks_settle.specs.Drained.{MayDrain, IsDrainedTo, IsFilledTo, IsReadOn, IsRead}

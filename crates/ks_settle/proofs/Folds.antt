@@ -10,10 +10,10 @@ use Rattle.std.proofs.lemmas.Cmp.{nat_list_cmp_total}
 use Rattle.std.proofs.lemmas.List.{length-map, map-append}
 use Rattle.ks_row.specs.Texts.{key_from}
 use Rattle.ks_expr.specs.Eval.{Row}
-use Rattle.ks_topo.specs.Drafts.{Name, DraftView, OpView, op_view}
-use Rattle.ks_topo.specs.declared.node.Node.{Node}
-use Rattle.ks_topo.specs.Plan.{Kind, plan_of, known_nodes, node_number}
-use Rattle.ks_topo.specs.Layout.{up_to, kind_at, topics_of, parts_of_topic}
+use Rattle.ks_plan.specs.Drafts.{Name, DraftView, OpView, op_view}
+use Rattle.ks_plan.specs.declared.node.Node.{Node}
+use Rattle.ks_plan.specs.Plan.{Kind, plan_of, known_nodes, node_number}
+use Rattle.ks_plan.specs.Layout.{up_to, kind_at, topics_of, parts_of_topic}
 use Rattle.ks_map.specs.Bytes.{by_bytes}
 use Rattle.ks_map.specs.FinMap as fin
 use Rattle.ks_map.specs.FinMap.{FinMap, entries-insert}

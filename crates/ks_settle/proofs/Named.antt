@@ -9,18 +9,18 @@ use Rattle.ks_row.specs.Reading.{row_from}
 use Rattle.ks_wire.specs.Reading.{agg_from}
 use Rattle.ks_wire.specs.declared.values.Agg.{Agg}
 use Rattle.ks_expr.specs.Eval.{Row, same_bytes}
-use Rattle.ks_topo.specs.Drafts.{Name, NodeView, DraftView, OpView, StreamOf, TableOf, FilterOf, MapOf, KeyOf, CountOf, SumOf, WindowedOf, JoinOf, FkJoinOf}
-use Rattle.ks_topo.specs.declared.node.Node.{Node}
-use Rattle.ks_topo.specs.declared.node.Wiring.{Wiring}
-use Rattle.ks_topo.specs.declared.node.Wiring.TheVariants as wired
-use Rattle.ks_topo.specs.declared.node.Topic.{Topic}
-use Rattle.ks_topo.specs.declared.node.Topic.TheVariants.{Changelog}
-use Rattle.ks_topo.specs.Plan.{Plan, Kind, Known, wiring_of, gives_stream, is_stream, known_of, learn, known_nodes, known_at, known_names, node_number, name_place, nothing_known, plan_of}
-use Rattle.ks_topo.specs.Plan.Kind.{StreamFilter, TableFilter, StreamMap, TableMap, StreamAggregate, TableAggregate}
-use Rattle.ks_topo.specs.Layout.{same_topic, topics_of, place_of, number_of, parts_of, parts_of_topic, kind_at, no_kind, by_node, input_topics, through_topics, changelogs_of, wired_changelogs}
-use Rattle.ks_topo.specs.Infos.{NodePlace, node_place, node_places, place_in, places_from, built_view}
-use Rattle.ks_topo.specs.Faults.{fault_of, has_name, names_of}
-use Rattle.ks_topo.proofs.Resolving.{known_names_from}
+use Rattle.ks_plan.specs.Drafts.{Name, NodeView, DraftView, OpView, StreamOf, TableOf, FilterOf, MapOf, KeyOf, CountOf, SumOf, WindowedOf, JoinOf, FkJoinOf}
+use Rattle.ks_plan.specs.declared.node.Node.{Node}
+use Rattle.ks_plan.specs.declared.node.Wiring.{Wiring}
+use Rattle.ks_plan.specs.declared.node.Wiring.TheVariants as wired
+use Rattle.ks_plan.specs.declared.node.Topic.{Topic}
+use Rattle.ks_plan.specs.declared.node.Topic.TheVariants.{Changelog}
+use Rattle.ks_plan.specs.Plan.{Plan, Kind, Known, wiring_of, gives_stream, is_stream, known_of, learn, known_nodes, known_at, known_names, node_number, name_place, nothing_known, plan_of}
+use Rattle.ks_plan.specs.Plan.Kind.{StreamFilter, TableFilter, StreamMap, TableMap, StreamAggregate, TableAggregate}
+use Rattle.ks_plan.specs.Layout.{same_topic, topics_of, place_of, number_of, parts_of, parts_of_topic, kind_at, no_kind, by_node, input_topics, through_topics, changelogs_of, wired_changelogs}
+use Rattle.ks_plan.specs.Infos.{NodePlace, node_place, node_places, place_in, places_from, built_view}
+use Rattle.ks_plan.specs.Faults.{fault_of, has_name, names_of}
+use Rattle.ks_plan.proofs.Resolving.{known_names_from}
 use Rattle.ks_topo.proofs.Lines.{no_line}
 use Rattle.ks_query.specs.Aggregates.{agg_row}
 use Rattle.ks_machine.specs.Messages.{shown}

@@ -7,12 +7,12 @@ use Rattle.std.proofs.lemmas.Bool.{true≢false, eqb-true, eqb-false}
 use Rattle.std.proofs.lemmas.Bool.Decides.{nat_tests}
 use Rattle.std.proofs.Math.Nat.{mod-lt}
 use Rattle.ks_row.specs.declared.record.TaskId.{TaskId}
-use Rattle.ks_topo.specs.Drafts.{DraftView}
-use Rattle.ks_topo.specs.Plan.{Plan as Topology, Kind, plan_of}
-use Rattle.ks_topo.specs.Plan.Kind.{ForeignKeyJoin}
-use Rattle.ks_topo.specs.declared.node.Topic.{Topic}
-use Rattle.ks_topo.specs.Layout.{number_of, drain_order, reads}
-use Rattle.ks_topo.specs.Infos.{input_numbers, drain_numbers}
+use Rattle.ks_plan.specs.Drafts.{DraftView}
+use Rattle.ks_plan.specs.Plan.{Plan as Topology, Kind, plan_of}
+use Rattle.ks_plan.specs.Plan.Kind.{ForeignKeyJoin}
+use Rattle.ks_plan.specs.declared.node.Topic.{Topic}
+use Rattle.ks_plan.specs.Layout.{number_of, drain_order, reads}
+use Rattle.ks_plan.specs.Infos.{input_numbers, drain_numbers}
 use Rattle.ks_machine.specs.Messages.{Rules}
 use Rattle.ks_history.specs.Machine.{Plan, has_topic}
 use Rattle.ks_history.specs.State.{Setup}

@@ -4,8 +4,8 @@ use Rattle.std.specs.Prelude.{◌==◌}
 use Rattle.std.specs.List.{filter, starts_with}
 use Rattle.ks_row.specs.declared.record.Rec.{Rec}
 use Rattle.ks_row.specs.declared.record.PartId.{PartId}
-use Rattle.ks_topo.specs.Drafts.{OpView}
-use Rattle.ks_topo.specs.Layout.{up_to}
+use Rattle.ks_plan.specs.Drafts.{OpView}
+use Rattle.ks_plan.specs.Layout.{up_to}
 use Rattle.ks_map.specs.Bytes.{Store, empty_store}
 use Rattle.ks_map.specs.FinMap as fin
 use Rattle.ks_history.specs.Partition.{Logged, recs, with_offsets}

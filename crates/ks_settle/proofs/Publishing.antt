@@ -7,9 +7,9 @@ use Rattle.std.proofs.lemmas.List.{length-set, get_or-set_same, get_or-set_other
 use Rattle.std.proofs.lemmas.Bool.{true≢false, eqb-true, eqb-false}
 use Rattle.ks_row.specs.declared.record.PartId.{PartId}
 use Rattle.ks_row.specs.declared.record.Rec.{Rec}
-use Rattle.ks_topo.specs.Drafts.{DraftView}
-use Rattle.ks_topo.specs.Plan.{plan_of}
-use Rattle.ks_topo.specs.Infos.{changelog_numbers}
+use Rattle.ks_plan.specs.Drafts.{DraftView}
+use Rattle.ks_plan.specs.Plan.{plan_of}
+use Rattle.ks_plan.specs.Infos.{changelog_numbers}
 use Rattle.ks_history.specs.declared.journal.Entry.{Entry}
 use Rattle.ks_history.specs.declared.journal.Request.{Request}
 use Rattle.ks_history.specs.declared.journal.Request.TheVariants.{Produce, Init, Add, Append, SendOffsets, Decide, MarkNext, Join, Expire, Hold, Probe, Assign, Park, Unpark}

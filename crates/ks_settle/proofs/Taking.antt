@@ -16,7 +16,7 @@ use Rattle.ks_history.specs.History.{at, IsHistory}
 use Rattle.ks_follow.specs.Views.{Stands, take_view, take_all, skip_view}
 use Rattle.ks_follow.proofs.Fetching.{fetching_stands}
 use Rattle.ks_task.specs.declared.task.Task.{Task}
-use Rattle.ks_topo.specs.Drafts.{DraftView}
+use Rattle.ks_plan.specs.Drafts.{DraftView}
 use Rattle.ks_task.specs.Tasks.{task_view, IsTaskOf}
 use Rattle.ks_settle.specs.Fetches.{taken_to}
 use Rattle.ks_settle.specs.Reading.{SendsOn, HasRead}

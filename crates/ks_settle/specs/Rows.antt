@@ -8,11 +8,11 @@ use Rattle.ks_row.specs.Reading.{row_from}
 use Rattle.ks_row.specs.declared.record.PartId.{PartId}
 use Rattle.ks_wire.specs.Reading.{agg_from}
 use Rattle.ks_expr.specs.Eval.{Row}
-use Rattle.ks_topo.specs.Drafts.{Name, OpView, CountOf, SumOf, op_view, DraftView}
-use Rattle.ks_topo.specs.declared.node.Node.{Node}
-use Rattle.ks_topo.specs.declared.node.Topic.TheVariants.{Changelog}
-use Rattle.ks_topo.specs.Plan.{plan_of, known_nodes, node_number}
-use Rattle.ks_topo.specs.Layout.{number_of, parts_of, kind_at, topics_of, parts_of_topic}
+use Rattle.ks_plan.specs.Drafts.{Name, OpView, CountOf, SumOf, op_view, DraftView}
+use Rattle.ks_plan.specs.declared.node.Node.{Node}
+use Rattle.ks_plan.specs.declared.node.Topic.TheVariants.{Changelog}
+use Rattle.ks_plan.specs.Plan.{plan_of, known_nodes, node_number}
+use Rattle.ks_plan.specs.Layout.{number_of, parts_of, kind_at, topics_of, parts_of_topic}
 use Rattle.ks_answer.specs.Folded as folded
 use Rattle.ks_map.specs.Bytes.{by_bytes}
 use Rattle.ks_map.specs.FinMap as fin

@@ -2,8 +2,8 @@
 ghost use Rattle.std.specs.Prelude.{◌≡◌, ◌+◌, ◌≤◌, ℕ, true, map, length, [], IfOk, OnOk, option_map};
 ghost use Rattle.std.specs.List.{All};
 ghost use Rattle.ks_topo.specs.Topologies.{draft_of, plan_in};
-ghost use Rattle.ks_topo.specs.Infos.{changelog_numbers};
-ghost use Rattle.ks_topo.specs.Layout.{tasks as all_tasks};
+ghost use Rattle.ks_plan.specs.Infos.{changelog_numbers};
+ghost use Rattle.ks_plan.specs.Layout.{tasks as all_tasks};
 ghost use Rattle.ks_history.specs.Settled.{IsSettled};
 ghost use Rattle.ks_work.specs.Work.{work_of, setup_of as topology_setup};
 ghost use Rattle.ks_cluster.specs.Kept.{Kept, setup_of, state_of};

@@ -1,7 +1,7 @@
 //! A task reads a topic to its end.
 ghost use Rattle.std.specs.Prelude.{◌≡◌, ◌≤◌, true, IfOk, OnOk, IfSome, option_map};
 ghost use Rattle.ks_topo.specs.Topologies.{draft_of, plan_in};
-ghost use Rattle.ks_topo.specs.Infos.{input_numbers};
+ghost use Rattle.ks_plan.specs.Infos.{input_numbers};
 ghost use Rattle.ks_history.specs.Machine.{has_topic};
 ghost use Rattle.ks_work.specs.Work.{work_of};
 ghost use Rattle.ks_cluster.specs.Kept.{Kept, setup_of, state_of};

@@ -1,8 +1,8 @@
 //! The rows that a changelog keeps.
 ghost use Rattle.std.specs.Prelude.{◌≡◌, ◌+◌, ◌≤◌, ℕ, [], map, IfOk, OnOk};
 ghost use Rattle.ks_row.specs.Texts.{key_from};
-ghost use Rattle.ks_topo.specs.Drafts.{op_view};
-ghost use Rattle.ks_topo.specs.Layout.{up_to};
+ghost use Rattle.ks_plan.specs.Drafts.{op_view};
+ghost use Rattle.ks_plan.specs.Layout.{up_to};
 ghost use Rattle.ks_history.specs.State.{IsPart};
 ghost use Rattle.ks_cluster.specs.Kept.{Kept, setup_of, state_of};
 ghost use Rattle.ks_query.specs.Printed.{plain_row};

@@ -1,7 +1,7 @@
 //! The tables that a topology prints, as its changelogs keep them.
 ghost use Rattle.std.specs.Prelude.{◌≡◌, ℕ, [], map, IfOk, option_map};
 ghost use Rattle.ks_topo.specs.Topologies.{draft_of, plan_in};
-ghost use Rattle.ks_topo.specs.Layout.{topics_of, parts_of_topic};
+ghost use Rattle.ks_plan.specs.Layout.{topics_of, parts_of_topic};
 ghost use Rattle.ks_cluster.specs.Kept.{Kept, state_of};
 ghost use Rattle.ks_answer.specs.Folded.{folded_table, folded_tables};
 ghost use Rattle.ks_settle.specs.Rows.{node_named, IsKept, IsPrinted};

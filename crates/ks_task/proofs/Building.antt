@@ -4,17 +4,17 @@ use Rattle.std.specs.Prelude.{ℤ, nat_lt}
 use Rattle.std.proofs.lemmas.Bool.{and_parts, true≢false, ltb-false}
 use Rattle.std.proofs.lemmas.List.{length-map}
 use Rattle.std.proofs.lemmas.List.Sums.{fold-append}
-use Rattle.ks_topo.specs.Drafts.{Name, DraftView, NodeView, OpView, StreamOf, TableOf, FilterOf, MapOf, KeyOf, CountOf, SumOf, WindowedOf, JoinOf, FkJoinOf, op_view}
-use Rattle.ks_topo.specs.Faults.{fault_of, wiring_in}
+use Rattle.ks_plan.specs.Drafts.{Name, DraftView, NodeView, OpView, StreamOf, TableOf, FilterOf, MapOf, KeyOf, CountOf, SumOf, WindowedOf, JoinOf, FkJoinOf, op_view}
+use Rattle.ks_plan.specs.Faults.{fault_of, wiring_in}
 use Rattle.ks_topo.proofs.Lines.{no_line}
-use Rattle.ks_topo.proofs.Resolving.{known_names_from}
-use Rattle.ks_topo.specs.Plan.{Plan, Kind, Known, plan_of, wiring_of, is_stream, gives_stream, known_of, known_at, known_from, learn, sorted_topics, with_topic, natural, node_number}
-use Rattle.ks_topo.specs.Plan.Kind.{StreamSource, TableSource, StreamFilter, TableFilter, StreamMap, TableMap, KeySelected, StreamAggregate, TableAggregate, Windowed, KeyJoin, ForeignKeyJoin}
-use Rattle.ks_topo.specs.declared.node.Node.{Node}
-use Rattle.ks_topo.specs.declared.node.Topic.{Topic}
-use Rattle.ks_topo.specs.declared.node.Topic.TheVariants.{Input, Repartition, Changelog}
-use Rattle.ks_topo.specs.Layout.{up_to, topics_of, number_of, by_node, through_topics, changelogs_of, kind_at, sub_of, parts_of}
-use Rattle.ks_topo.specs.Infos.{NodePlace, node_place, node_places, places_from, place_in, built_view}
+use Rattle.ks_plan.proofs.Resolving.{known_names_from}
+use Rattle.ks_plan.specs.Plan.{Plan, Kind, Known, plan_of, wiring_of, is_stream, gives_stream, known_of, known_at, known_from, learn, sorted_topics, with_topic, natural, node_number}
+use Rattle.ks_plan.specs.Plan.Kind.{StreamSource, TableSource, StreamFilter, TableFilter, StreamMap, TableMap, KeySelected, StreamAggregate, TableAggregate, Windowed, KeyJoin, ForeignKeyJoin}
+use Rattle.ks_plan.specs.declared.node.Node.{Node}
+use Rattle.ks_plan.specs.declared.node.Topic.{Topic}
+use Rattle.ks_plan.specs.declared.node.Topic.TheVariants.{Input, Repartition, Changelog}
+use Rattle.ks_plan.specs.Layout.{up_to, topics_of, number_of, by_node, through_topics, changelogs_of, kind_at, sub_of, parts_of}
+use Rattle.ks_plan.specs.Infos.{NodePlace, node_place, node_places, places_from, place_in, built_view}
 use Rattle.ks_machine.proofs.Agree.{kind-is}
 use Rattle.std.specs.Ordering.{nat_cmp, is_lt}
 use Rattle.std.specs.Cmp.Lexicographic.{slice_cmp}

@@ -6,14 +6,14 @@ use Rattle.std.proofs.lemmas.Bool.{and_parts, and_from, or_right, or_left}
 use Rattle.std.proofs.lemmas.Bool.Decides.{Decides-eqb}
 use Rattle.std.proofs.lemmas.Option.{get_or_from_slice_get}
 use Rattle.ks_row.specs.declared.record.TaskId.{TaskId}
-use Rattle.ks_topo.specs.Drafts.{DraftView}
-use Rattle.ks_topo.specs.Faults.{fault_of}
-use Rattle.ks_topo.specs.Plan.{Plan, Kind, plan_of, wiring_of}
-use Rattle.ks_topo.specs.Plan.Kind.{StreamSource, TableSource, StreamFilter, TableFilter, StreamMap, TableMap, KeySelected, StreamAggregate, TableAggregate, Windowed, KeyJoin, ForeignKeyJoin}
-use Rattle.ks_topo.specs.declared.node.Topic.{Topic}
-use Rattle.ks_topo.specs.declared.node.Topic.TheVariants.{Input, Subscriptions, Responses, Changelog}
-use Rattle.ks_topo.specs.Layout.{at, up_to, wired_parts, node_parts, parts_of, parts_of_topic, sub_of, reads, topics_of, topic_at, number_of, by_node, through_topics, changelogs_of, no_kind, tasks}
-use Rattle.ks_topo.specs.Infos.{changelog_numbers}
+use Rattle.ks_plan.specs.Drafts.{DraftView}
+use Rattle.ks_plan.specs.Faults.{fault_of}
+use Rattle.ks_plan.specs.Plan.{Plan, Kind, plan_of, wiring_of}
+use Rattle.ks_plan.specs.Plan.Kind.{StreamSource, TableSource, StreamFilter, TableFilter, StreamMap, TableMap, KeySelected, StreamAggregate, TableAggregate, Windowed, KeyJoin, ForeignKeyJoin}
+use Rattle.ks_plan.specs.declared.node.Topic.{Topic}
+use Rattle.ks_plan.specs.declared.node.Topic.TheVariants.{Input, Subscriptions, Responses, Changelog}
+use Rattle.ks_plan.specs.Layout.{at, up_to, wired_parts, node_parts, parts_of, parts_of_topic, sub_of, reads, topics_of, topic_at, number_of, by_node, through_topics, changelogs_of, no_kind, tasks}
+use Rattle.ks_plan.specs.Infos.{changelog_numbers}
 use Rattle.ks_machine.specs.Messages.{Rules}
 use Rattle.ks_machine.specs.Bytes.{has_number}
 use Rattle.ks_machine.proofs.Numbers.{place-is, kept_at}

@@ -8,14 +8,14 @@ use Rattle.std.proofs.lemmas.Bool.Decides.{Decides-eqb}
 use Rattle.std.proofs.lemmas.Option.{slice_get_within, get_or_from_slice_get}
 use Rattle.ks_expr.specs.declared.terms.JoinKind.{JoinKind}
 use Rattle.ks_expr.specs.Terms.{Set}
-use Rattle.ks_topo.specs.Drafts.{DraftView}
-use Rattle.ks_topo.specs.Faults.{fault_of}
-use Rattle.ks_topo.specs.Plan.{Plan, Kind, plan_of}
-use Rattle.ks_topo.specs.Plan.Kind.{StreamSource, TableSource, StreamFilter, TableFilter, StreamMap, TableMap, KeySelected, StreamAggregate, TableAggregate, Windowed, KeyJoin, ForeignKeyJoin}
-use Rattle.ks_topo.specs.declared.node.Topic.{Topic}
-use Rattle.ks_topo.specs.declared.node.Topic.TheVariants.{Input, Repartition}
-use Rattle.ks_topo.specs.Layout.{up_to, is_source_of, any_source_of, first_source_of, source_of, sub_of, sub_count, reads, kind_at, right_of, is_drained, input_topics, by_node, through_topics, changelogs_of, number_of}
-use Rattle.ks_topo.specs.Infos.{input_numbers, changelog_numbers, inputs_by_sub, changelogs_by_sub}
+use Rattle.ks_plan.specs.Drafts.{DraftView}
+use Rattle.ks_plan.specs.Faults.{fault_of}
+use Rattle.ks_plan.specs.Plan.{Plan, Kind, plan_of}
+use Rattle.ks_plan.specs.Plan.Kind.{StreamSource, TableSource, StreamFilter, TableFilter, StreamMap, TableMap, KeySelected, StreamAggregate, TableAggregate, Windowed, KeyJoin, ForeignKeyJoin}
+use Rattle.ks_plan.specs.declared.node.Topic.{Topic}
+use Rattle.ks_plan.specs.declared.node.Topic.TheVariants.{Input, Repartition}
+use Rattle.ks_plan.specs.Layout.{up_to, is_source_of, any_source_of, first_source_of, source_of, sub_of, sub_count, reads, kind_at, right_of, is_drained, input_topics, by_node, through_topics, changelogs_of, number_of}
+use Rattle.ks_plan.specs.Infos.{input_numbers, changelog_numbers, inputs_by_sub, changelogs_by_sub}
 use Rattle.ks_machine.proofs.Agree.{kind-is}
 use Rattle.ks_rest.proofs.Fits.{Fits, NodeFits, EachFits}
 use Rattle.ks_rest.proofs.WellFormed.{well_formed_fits}

@@ -10,10 +10,10 @@ use Rattle.ks_row.specs.declared.record.TaskId.{TaskId}
 use Rattle.ks_row.specs.Parts.{same_part}
 use Rattle.ks_map.specs.Bytes.{Store, empty_store}
 use Rattle.ks_network.specs.Run.{Outcome, sent_to}
-use Rattle.ks_topo.specs.Drafts.{DraftView}
-use Rattle.ks_topo.specs.Plan.{Plan, Kind, plan_of}
-use Rattle.ks_topo.specs.Layout.{topic_at}
-use Rattle.ks_topo.specs.Infos.{input_numbers, changelog_numbers}
+use Rattle.ks_plan.specs.Drafts.{DraftView}
+use Rattle.ks_plan.specs.Plan.{Plan, Kind, plan_of}
+use Rattle.ks_plan.specs.Layout.{topic_at}
+use Rattle.ks_plan.specs.Infos.{input_numbers, changelog_numbers}
 use Rattle.ks_machine.specs.Bytes.{ByteStores, byte_step, has_number, stores_after, keep_all, records_at}
 use Rattle.ks_history.specs.Machine.{Plan as Work, has_topic, network, part_of}
 use Rattle.ks_history.specs.State.{with_number, offset_in}

@@ -10,15 +10,15 @@ use Rattle.ks_hash.specs.Partition.{part_of_key}
 use Rattle.ks_wire.specs.Spelling.{delta_bytes}
 use Rattle.ks_wire.specs.Reading.{delta_from}
 use Rattle.ks_wire.specs.declared.values.Delta.{Delta}
-use Rattle.ks_topo.specs.Plan.{Plan, Kind}
-use Rattle.ks_topo.specs.Plan.Kind.{TableSource, TableAggregate}
-use Rattle.ks_topo.specs.Layout.{number_of, sub_of, parts_of, no_kind, place_of}
-use Rattle.ks_topo.specs.Drafts.{OpView, CountOf, SumOf, op_view}
-use Rattle.ks_topo.specs.declared.node.Node.{Node}
-use Rattle.ks_topo.specs.declared.node.Wiring.{Wiring}
-use Rattle.ks_topo.specs.declared.node.Wiring.TheVariants as wired
-use Rattle.ks_topo.specs.declared.node.Topic.{Topic}
-use Rattle.ks_topo.specs.declared.node.Topic.TheVariants.{Input, Repartition, Changelog}
+use Rattle.ks_plan.specs.Plan.{Plan, Kind}
+use Rattle.ks_plan.specs.Plan.Kind.{TableSource, TableAggregate}
+use Rattle.ks_plan.specs.Layout.{number_of, sub_of, parts_of, no_kind, place_of}
+use Rattle.ks_plan.specs.Drafts.{OpView, CountOf, SumOf, op_view}
+use Rattle.ks_plan.specs.declared.node.Node.{Node}
+use Rattle.ks_plan.specs.declared.node.Wiring.{Wiring}
+use Rattle.ks_plan.specs.declared.node.Wiring.TheVariants as wired
+use Rattle.ks_plan.specs.declared.node.Topic.{Topic}
+use Rattle.ks_plan.specs.declared.node.Topic.TheVariants.{Input, Repartition, Changelog}
 use Rattle.ks_query.specs.Streams.{Key}
 use Rattle.ks_query.specs.Aggregates.{table_parts}
 use Rattle.ks_machine.specs.Messages.{Stored, shown, Message, same_option, same_stored}

@@ -2,7 +2,7 @@
 ghost use Rattle.std.specs.Prelude.{◌≡◌, Some, None, IfOk, map, option_map, get_or};
 ghost use Rattle.ks_row.specs.Texts.{key_from};
 ghost use Rattle.ks_row.specs.Reading.{row_from};
-ghost use Rattle.ks_topo.specs.Layout.{no_kind};
+ghost use Rattle.ks_plan.specs.Layout.{no_kind};
 ghost use Rattle.ks_machine.specs.Bytes.{if_there};
 ghost use Rattle.ks_task.specs.Program.{kind_of, step_view, given_as, given_said, moved_said, said_in, arrived_in};
 

@@ -1,7 +1,7 @@
 //! One whole step: each node acts once, in list order, at the step's key alone.
 ghost use Rattle.std.specs.Prelude.{◌≡◌, ◌++◌, IfOk, OnOk, map, get_or, option_map};
 ghost use Rattle.ks_wire.specs.Spelling.{delta_bytes};
-ghost use Rattle.ks_topo.specs.declared.node.Topic.TheVariants.{Input, Repartition};
+ghost use Rattle.ks_plan.specs.declared.node.Topic.TheVariants.{Input, Repartition};
 ghost use Rattle.ks_machine.specs.Messages.{shown};
 ghost use Rattle.ks_machine.specs.Bytes.{stored_bytes};
 ghost use Rattle.ks_machine.specs.Step.{arrived as arrived_at, taken_row, applied, of_row};

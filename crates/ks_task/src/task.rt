@@ -1,11 +1,11 @@
 //! A task at work.
 ghost use Rattle.std.specs.Prelude.{◌≡◌, ◌↔◌, ℕ, List, IfOk, OnOk, map, true, slice_get};
 ghost use Rattle.ks_row.specs.declared.record.PartId.{PartId as Part};
-ghost use Rattle.ks_topo.specs.Drafts.{DraftView};
-ghost use Rattle.ks_topo.specs.Plan.{plan_of};
+ghost use Rattle.ks_plan.specs.Drafts.{DraftView};
+ghost use Rattle.ks_plan.specs.Plan.{plan_of};
 ghost use Rattle.ks_topo.specs.Topologies.{draft_of, plan_in};
-ghost use Rattle.ks_topo.specs.Layout.{tasks, topic_at};
-ghost use Rattle.ks_topo.specs.Infos.{input_numbers, changelog_numbers};
+ghost use Rattle.ks_plan.specs.Layout.{tasks, topic_at};
+ghost use Rattle.ks_plan.specs.Infos.{input_numbers, changelog_numbers};
 ghost use Rattle.ks_machine.specs.Bytes.{stores_after};
 ghost use Rattle.ks_history.specs.Machine.{has_topic};
 ghost use Rattle.ks_history.specs.State.{has_task};

@@ -4,19 +4,19 @@ use Rattle.std.proofs.Math.Seq.{take-suc}
 use Rattle.std.specs.Prelude.{ℤ, Result, Ok, Err, IsErr, IsErrAnd, IfOk}
 use Rattle.std.specs.Option.{option_or}
 use Rattle.std.proofs.lemmas.List.{map-append}
-use Rattle.ks_topo.specs.declared.draft.NodeDraft.{NodeDraft}
-use Rattle.ks_topo.specs.declared.draft.Draft.{Draft}
-use Rattle.ks_topo.specs.declared.fault.TopoFault.{TopoFault}
+use Rattle.ks_plan.specs.declared.draft.NodeDraft.{NodeDraft}
+use Rattle.ks_plan.specs.declared.draft.Draft.{Draft}
+use Rattle.ks_plan.specs.declared.fault.TopoFault.{TopoFault}
 use Rattle.ks_topo.specs.declared.stop.Stop.{Stop}
 use Rattle.ks_topo.specs.declared.stop.Stop.TheVariants.{Memory, Fault}
-use Rattle.ks_topo.specs.Drafts.{Name, NodeView, DraftView, op_view, node_view, nodes_view, draft_view}
+use Rattle.ks_plan.specs.Drafts.{Name, NodeView, DraftView, op_view, node_view, nodes_view, draft_view}
 use Rattle.ks_topo.specs.Earlier.{fault_at, IsNode}
-use Rattle.ks_topo.specs.Plan.{Known, Kind, wiring_of, learn, known_from, plan_of}
-use Rattle.ks_topo.specs.Layout.{wired_parts, node_parts}
-use Rattle.ks_topo.specs.Faults.{node_lines, node_table, nodes_fault, parts_before, first_of}
-use Rattle.ks_topo.specs.Resolve.{resolved, resolved_from, resolved_op}
+use Rattle.ks_plan.specs.Plan.{Known, Kind, wiring_of, learn, known_from, plan_of}
+use Rattle.ks_plan.specs.Layout.{wired_parts, node_parts}
+use Rattle.ks_plan.specs.Faults.{node_lines, node_table, nodes_fault, parts_before, first_of}
+use Rattle.ks_plan.specs.Resolve.{resolved, resolved_from, resolved_op}
 use Rattle.ks_topo.specs.Finds.{Stops, Finds}
-use Rattle.ks_topo.specs.declared.resolve.Resolved.{Resolved}
+use Rattle.ks_plan.specs.declared.resolve.Resolved.{Resolved}
 
 pub fold_push : {A B : Type 0} (f : A → B → A) (a : A) (xs : List B) (x : B) → fold f a (xs ++ x ∷ []) ≡ f (fold f a xs) x
 fold_push f a [] x = refl

@@ -3,26 +3,26 @@ use Rattle.std.proofs.Common.{◌≡◌, ℕ, zero, suc, true, false, cond, Opti
 use Rattle.std.specs.Prelude.{ℤ, Result, Ok, Err, IfOk}
 use Rattle.std.specs.declared.alloc.AllocError.{AllocError}
 use Rattle.std.specs.List.{filter}
-use Rattle.ks_topo.specs.declared.node.Topic.{Topic}
-use Rattle.ks_topo.specs.declared.node.Topic.TheVariants.{Input, Changelog}
-use Rattle.ks_topo.specs.declared.node.Wiring.{Wiring}
-use Rattle.ks_topo.specs.declared.node.Wiring.TheVariants as wired
-use Rattle.ks_topo.specs.declared.draft.NodeDraft.{NodeDraft}
-use Rattle.ks_topo.specs.declared.draft.Draft.{Draft}
-use Rattle.ks_topo.specs.declared.node.Node.{Node}
-use Rattle.ks_topo.proofs.Resolving.{known_names_from}
-use Rattle.ks_topo.specs.declared.resolve.Resolved.{Resolved}
-use Rattle.ks_topo.specs.declared.shape.Shape.{Shape}
-use Rattle.ks_topo.specs.Drafts.{Name, NodeView, DraftView, node_view, nodes_view, draft_view}
-use Rattle.ks_topo.specs.Plan.{Known, wiring_of, gives_stream, known_from, plan_of}
-use Rattle.ks_topo.specs.Layout.{at, sub_of, number_of, kind_at, up_to, wired_through, wired_changelogs, topics_of, drain_order, by_node, input_topics, through_topics, changelogs_of}
-use Rattle.ks_topo.specs.Resolve.{resolved, resolved_from}
-use Rattle.ks_topo.specs.Wired.{wired_labels, wired_counts, flowing, kept, flows, wired_topics, wired_drained, numbers_read, numbers_in, all_tasks}
+use Rattle.ks_plan.specs.declared.node.Topic.{Topic}
+use Rattle.ks_plan.specs.declared.node.Topic.TheVariants.{Input, Changelog}
+use Rattle.ks_plan.specs.declared.node.Wiring.{Wiring}
+use Rattle.ks_plan.specs.declared.node.Wiring.TheVariants as wired
+use Rattle.ks_plan.specs.declared.draft.NodeDraft.{NodeDraft}
+use Rattle.ks_plan.specs.declared.draft.Draft.{Draft}
+use Rattle.ks_plan.specs.declared.node.Node.{Node}
+use Rattle.ks_plan.proofs.Resolving.{known_names_from}
+use Rattle.ks_plan.specs.declared.resolve.Resolved.{Resolved}
+use Rattle.ks_plan.specs.declared.shape.Shape.{Shape}
+use Rattle.ks_plan.specs.Drafts.{Name, NodeView, DraftView, node_view, nodes_view, draft_view}
+use Rattle.ks_plan.specs.Plan.{Known, wiring_of, gives_stream, known_from, plan_of}
+use Rattle.ks_plan.specs.Layout.{at, sub_of, number_of, kind_at, up_to, wired_through, wired_changelogs, topics_of, drain_order, by_node, input_topics, through_topics, changelogs_of}
+use Rattle.ks_plan.specs.Resolve.{resolved, resolved_from}
+use Rattle.ks_plan.specs.Wired.{wired_labels, wired_counts, flowing, kept, flows, wired_topics, wired_drained, numbers_read, numbers_in, all_tasks}
 use Rattle.ks_topo.specs.Built.{IsShapeOf, IsBuilt, wired_topic_info, wired_place, kept_draft}
-use Rattle.ks_topo.specs.Infos.{NodePlace, node_place, built_view, places_from, place_in, store_of, topic_name, role_of, info_of}
-use Rattle.ks_topo.specs.Faults.{fault_of}
+use Rattle.ks_plan.specs.Infos.{NodePlace, node_place, built_view, places_from, place_in, store_of, topic_name, role_of, info_of}
+use Rattle.ks_plan.specs.Faults.{fault_of}
 use Rattle.ks_row.specs.declared.record.TaskId.{TaskId}
-use Rattle.ks_topo.specs.declared.node.TopicInfo.{TopicInfo}
+use Rattle.ks_plan.specs.declared.node.TopicInfo.{TopicInfo}
 use Rattle.ks_topo.proofs.Layouts.{length_over, few_each, map_same, same_flowing, same_kept, same_drained, same_topic_parts, same_wiring, same_sub, same_part, same_tasks, same_inputs, same_changelogs}
 
 wirings_known : (ks : List Known) → map (λ (r : Resolved). r.wiring) (map resolved ks) ≡ map wiring_of (map (λ (k : Known). k.kind) ks)

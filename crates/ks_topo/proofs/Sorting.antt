@@ -4,9 +4,9 @@ use Rattle.std.specs.Prelude.{ℤ}
 use Rattle.std.specs.List.{insert}
 use Rattle.std.specs.Ordering.{nat_cmp, is_lt}
 use Rattle.std.specs.Cmp.Lexicographic.{slice_cmp}
-use Rattle.ks_topo.specs.Drafts.{Name}
-use Rattle.ks_topo.specs.Plan.{with_topic}
-use Rattle.ks_topo.specs.Faults.{any_past, is_past}
+use Rattle.ks_plan.specs.Drafts.{Name}
+use Rattle.ks_plan.specs.Plan.{with_topic}
+use Rattle.ks_plan.specs.Faults.{any_past, is_past}
 use Rattle.ks_topo.specs.Built.{topic_place}
 
 placed : (ys : List (Name × ℤ)) (x : Name × ℤ) → insert ys (topic_place x.0 ys) x ≡ with_topic ys x

@@ -1,14 +1,14 @@
 -- What stands before a node while a draft is judged.
 use Rattle.std.specs.Prelude.{◌≡◌, ◌≤◌, ℕ, ℤ, List, [], ◌∷◌, length, Option, None}
-use Rattle.ks_topo.specs.declared.draft.Draft.{Draft}
-use Rattle.ks_topo.specs.declared.draft.NodeDraft.{NodeDraft}
-use Rattle.ks_topo.specs.declared.fault.TopoFault.{TopoFault}
-use Rattle.ks_topo.specs.declared.resolve.Resolved.{Resolved}
+use Rattle.ks_plan.specs.declared.draft.Draft.{Draft}
+use Rattle.ks_plan.specs.declared.draft.NodeDraft.{NodeDraft}
+use Rattle.ks_plan.specs.declared.fault.TopoFault.{TopoFault}
+use Rattle.ks_plan.specs.declared.resolve.Resolved.{Resolved}
 use Rattle.ks_topo.specs.declared.check.Earlier.{Earlier}
-use Rattle.ks_topo.specs.Drafts.{Name, nodes_view, node_view, op_view}
-use Rattle.ks_topo.specs.Faults.{first_of, node_lines}
-use Rattle.ks_topo.specs.Plan.{Known, known_from}
-use Rattle.ks_topo.specs.Resolve.{resolved_from, resolved_op}
+use Rattle.ks_plan.specs.Drafts.{Name, nodes_view, node_view, op_view}
+use Rattle.ks_plan.specs.Faults.{first_of, node_lines}
+use Rattle.ks_plan.specs.Plan.{Known, known_from}
+use Rattle.ks_plan.specs.Resolve.{resolved_from, resolved_op}
 
 abbrev pub known_of : Earlier → List Known
 known_of e = known_from e.topics.now (nodes_view e.nodes.now)

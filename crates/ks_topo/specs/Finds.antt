@@ -1,6 +1,6 @@
 -- What a test of a draft answers: no fault, or the fault, unless memory ran out.
 use Rattle.std.specs.Prelude.{◌≡◌, Option, Some, None, Result, Ok, Err}
-use Rattle.ks_topo.specs.declared.fault.TopoFault.{TopoFault}
+use Rattle.ks_plan.specs.declared.fault.TopoFault.{TopoFault}
 use Rattle.ks_topo.specs.declared.stop.Stop.{Stop}
 use Rattle.ks_topo.specs.declared.stop.Stop.TheVariants.{Memory, Fault}
 

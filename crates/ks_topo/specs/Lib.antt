@@ -1,12 +1,5 @@
-pub mod Drafts
-pub mod Plan
-pub mod Layout
-pub mod Infos
-pub mod Faults
-pub mod Resolve
 pub mod Finds
 pub mod Earlier
-pub mod Wired
 pub mod Built
 pub mod Topologies
 pub mod WellFormed

@@ -1,12 +1,12 @@
 -- A built topology by the draft that it was built from: what it shows are functions of that.
 use Rattle.std.specs.Prelude.{◌≡◌, Result, Ok, Err, None, Some}
 use Rattle.ks_topo.specs.declared.built.Topology.{Topology}
-use Rattle.ks_topo.specs.declared.fault.TopoFault.{TopoFault}
+use Rattle.ks_plan.specs.declared.fault.TopoFault.{TopoFault}
 use Rattle.ks_topo.specs.declared.stop.Stop.{Stop}
 use Rattle.ks_topo.specs.declared.stop.Stop.TheVariants.{Memory, Fault}
-use Rattle.ks_topo.specs.Drafts.{DraftView}
-use Rattle.ks_topo.specs.Plan.{Plan, plan_of}
-use Rattle.ks_topo.specs.Faults.{fault_of}
+use Rattle.ks_plan.specs.Drafts.{DraftView}
+use Rattle.ks_plan.specs.Plan.{Plan, plan_of}
+use Rattle.ks_plan.specs.Faults.{fault_of}
 use Rattle.ks_topo.specs.Built.{kept_draft}
 
 abbrev pub draft_of : Topology → DraftView

@@ -1,7 +1,7 @@
 -- Well-formed drafts: no line of the table of faults fits, whatever the order.
 use Rattle.std.specs.Prelude.{◌≡◌, false, List, [], ◌∷◌, ◌++◌}
-use Rattle.ks_topo.specs.Drafts.{Name, NodeView, DraftView}
-use Rattle.ks_topo.specs.Faults.{Line, size_lines, node_table, print_lines}
+use Rattle.ks_plan.specs.Drafts.{Name, NodeView, DraftView}
+use Rattle.ks_plan.specs.Faults.{Line, size_lines, node_table, print_lines}
 
 abbrev pub NoneFits : List Line → Type 0
 NoneFits [] = Unit {0}

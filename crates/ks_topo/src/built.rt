@@ -1,9 +1,9 @@
 //! A topology as it is kept.
 ghost use Rattle.std.specs.Prelude.{map};
-ghost use Rattle.ks_topo.specs.Infos.{node_place};
+ghost use Rattle.ks_plan.specs.Infos.{node_place};
 ghost use Rattle.ks_topo.specs.Built.{IsBuilt, kept_draft};
 
-use crate::node::{Node, Topic, TopicInfo};
+use ks_plan::{Node, Topic, TopicInfo};
 use ks_row::{Blob, Name, Seq, TaskId};
 
 /// A well-formed draft with its subtopologies, topics and tasks.

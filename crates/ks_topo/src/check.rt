@@ -1,24 +1,21 @@
 //! The tests that a node of a draft has to pass after those before it, in their order.
 ghost use Rattle.std.specs.Prelude.{◌≡◌, ◌≤◌, ◌++◌, length, IfOk, Some, None, pos, true, ◌≤ℤ◌, not, nat_lt, codes, option_copied};
 ghost use Rattle.std.specs.Option.{option_to_list};
-ghost use Rattle.ks_topo.specs.declared.fault.TopoFault.TheVariants.{UnknownInput, WrongKind, DuplicateName, NotCopartitioned, TooMany, BadWindow, SinkOnly};
-ghost use Rattle.ks_topo.specs.Drafts.{draft_view, nodes_view, op_view, node_view};
-ghost use Rattle.ks_topo.specs.Plan.{gives_windows as are_windows, node_number};
-ghost use Rattle.ks_topo.specs.Layout.{at};
-ghost use Rattle.ks_topo.specs.Faults.{first_fitting, first_of, node_lines, one_line, has_name, names_of, names_of_topics, unknown_lines, taken_lines, topics_in, inputs_in, sources_of, set_length, sink_lines, kind_lines, window_lines, is_window as is_good_window, is_time as within_times, is_advance as suits_size, wrong_kind as is_wrong_kind, wiring_in, sinks_among, kinds_among, sides_among};
+ghost use Rattle.ks_plan.specs.declared.fault.TopoFault.TheVariants.{UnknownInput, WrongKind, DuplicateName, NotCopartitioned, TooMany, BadWindow, SinkOnly};
+ghost use Rattle.ks_plan.specs.Drafts.{draft_view, nodes_view, op_view, node_view};
+ghost use Rattle.ks_plan.specs.Plan.{gives_windows as are_windows, node_number};
+ghost use Rattle.ks_plan.specs.Layout.{at};
+ghost use Rattle.ks_plan.specs.Faults.{first_fitting, first_of, node_lines, one_line, has_name, names_of, names_of_topics, unknown_lines, taken_lines, topics_in, inputs_in, sources_of, set_length, sink_lines, kind_lines, window_lines, is_window as is_good_window, is_time as within_times, is_advance as suits_size, wrong_kind as is_wrong_kind, wiring_in, sinks_among, kinds_among, sides_among};
 ghost use Rattle.ks_topo.specs.Finds.{Finds};
 ghost use Rattle.ks_topo.specs.Earlier.{IsEarlier, known_of};
-ghost use Rattle.ks_topo.specs.Infos.{internal_names};
-ghost use Rattle.ks_topo.specs.Resolve.{resolved_op};
+ghost use Rattle.ks_plan.specs.Infos.{internal_names};
+ghost use Rattle.ks_plan.specs.Resolve.{resolved_op};
 
-use crate::draft::{NodeDraft, Op};
-use crate::fault::TopoFault;
-use crate::internal::{internal_name, push_changelogs, push_through};
-use crate::layout::number_at;
-use crate::names::{is_node, is_source, is_topic};
-use crate::node::Wiring;
-use crate::resolve::{Resolved, find_input, gives_stream, resolve};
 use crate::stop::Stop;
+use ks_plan::{
+    NodeDraft, Op, Resolved, TopoFault, Wiring, find_input, gives_stream, internal_name, is_node,
+    is_source, is_topic, number_at, push_changelogs, push_through, resolve_op,
+};
 use ks_row::{Blob, Name};
 use std::alloc::{AllocError, Global};
 
@@ -300,7 +297,7 @@ fn check_sides(earlier: Earlier<'_>, parts: &[u8], op: &Op) -> Result<(), Stop>
 }
 
 // From 0 to the greatest time, which a float still tells from the next.
-#[tactic(auto, unfolding(crate::specs::Faults::is_time))]
+#[tactic(auto, unfolding(ks_plan::specs::Faults::is_time))]
 fn is_time(span: i64) -> bool
     ensures exact { result ≡ within_times span }
     ensures most { result ≡ true → span ≤ℤ pos 9007199254740992 }
@@ -386,7 +383,7 @@ pub fn check_node(
     check_kinds(alloc, earlier, node)?;
     check_sides(earlier, parts, &node.op)?;
     check_window(alloc, node)?;
-    let resolved = resolve(earlier.topics, earlier.nodes, earlier.known, &node.op);
+    let resolved = resolve_op(earlier.topics, earlier.nodes, earlier.known, &node.op);
     check_internal(alloc, earlier.topics, app, &node.name, resolved.wiring)?;
     Ok(resolved)
 }

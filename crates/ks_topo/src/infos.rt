@@ -1,20 +1,16 @@
 //! What is shown of topics and nodes.
 ghost use Rattle.std.specs.Prelude.{◌≡◌, ◌≤◌, ◌+◌, length, map, fold, get_or, [], ◌∷◌, ◌++◌, OnOk, IfOk, Some, None, false, pos, ◌≤ℤ◌};
-ghost use Rattle.ks_topo.specs.declared.node.Wiring.TheVariants.{StreamSource};
-ghost use Rattle.ks_topo.specs.Drafts.{draft_view, nodes_view};
-ghost use Rattle.ks_topo.specs.Plan.{with_topic, natural as to_natural, sorted_topics};
-ghost use Rattle.ks_topo.specs.Faults.{any_past};
-ghost use Rattle.ks_topo.specs.Infos.{name_in, topic_name as name_of_topic, role_of as role, node_place, built_view, places_from};
+ghost use Rattle.ks_plan.specs.declared.node.Wiring.TheVariants.{StreamSource};
+ghost use Rattle.ks_plan.specs.Drafts.{draft_view, nodes_view};
+ghost use Rattle.ks_plan.specs.Plan.{with_topic, natural as to_natural, sorted_topics};
+ghost use Rattle.ks_plan.specs.Faults.{any_past};
+ghost use Rattle.ks_plan.specs.Infos.{name_in, topic_name as name_of_topic, role_of as role, node_place, built_view, places_from};
 ghost use Rattle.ks_topo.specs.Built.{topic_place, naturals, wired_topic_info, wired_place, wired_store};
 
-use crate::draft::{Draft, NodeDraft};
-use crate::internal::internal_name;
-use crate::layout::{number_at, sub_of};
-use crate::names::is_before;
-use crate::node::{Node, Role, Topic, TopicInfo, Wiring};
-use crate::resolve::gives_stream;
-use crate::shape::Shape;
-use crate::topics::{number_of, parts_of_topic};
+use ks_plan::{
+    Draft, Node, NodeDraft, Role, Shape, Topic, TopicInfo, Wiring, gives_stream, internal_name,
+    is_before, number_at, number_of, parts_of_topic, sub_of,
+};
 use ks_row::{Blob, Name};
 use std::alloc::{AllocError, Global};
 
@@ -64,7 +60,6 @@ fn to_count(number: i64) -> u8
 }
 
 /// The partition counts of topics.
-
 pub fn counts_of(alloc: Global, topics: &[(Name, i64)]) -> Result<Vec<u8>, AllocError>
     requires { any_past topics.now ≡ false }
     ensures items { IfOk result (λ v. v.items ≡ naturals topics.now) }

@@ -1,18 +1,15 @@
 //! A draft judged as a whole, with what each of its nodes is.
 ghost use Rattle.std.specs.Prelude.{◌≡◌, ◌≤◌, length, IfOk, OnOk, ◌<◌, take, drop, false, []};
-ghost use Rattle.ks_topo.specs.Drafts.{draft_view, nodes_view};
-ghost use Rattle.ks_topo.specs.Plan.{plan_of};
-ghost use Rattle.ks_topo.specs.Faults.{first_fitting, size_lines, any_past, nodes_fault, printed_fault, print_lines, parts_fault};
+ghost use Rattle.ks_plan.specs.Drafts.{draft_view, nodes_view};
+ghost use Rattle.ks_plan.specs.Plan.{plan_of};
+ghost use Rattle.ks_plan.specs.Faults.{first_fitting, size_lines, any_past, nodes_fault, printed_fault, print_lines, parts_fault};
 ghost use Rattle.ks_topo.specs.Finds.{Finds};
 ghost use Rattle.ks_topo.specs.Earlier.{IsEarlier, fault_at, IsNode};
-ghost use Rattle.ks_topo.specs.Resolve.{resolved_from};
+ghost use Rattle.ks_plan.specs.Resolve.{resolved_from};
 
 use crate::check::{Earlier, check_node, duplicate, too_many, unknown, wiring_of, wrong_kind};
-use crate::draft::{Draft, NodeDraft};
-use crate::layout::push_parts;
-use crate::names::{is_listed, is_node};
-use crate::resolve::{Resolved, gives_stream};
 use crate::stop::Stop;
+use ks_plan::{Draft, NodeDraft, Resolved, gives_stream, is_listed, is_node, push_parts};
 use ks_row::{Blob, Name};
 use std::alloc::Global;
 

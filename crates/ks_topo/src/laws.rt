@@ -1,7 +1,7 @@
 //! Laws of drafts and plans: each is what an empty function ensures.
 ghost use Rattle.std.specs.Prelude.{◌≡◌, None};
-ghost use Rattle.ks_topo.specs.Drafts.{DraftView};
-ghost use Rattle.ks_topo.specs.Faults.{fault_of};
+ghost use Rattle.ks_plan.specs.Drafts.{DraftView};
+ghost use Rattle.ks_plan.specs.Faults.{fault_of};
 ghost use Rattle.ks_topo.specs.WellFormed.{IsWellFormed};
 
 /// A draft has no first fault exactly where no line of the table of faults fits it.

@@ -1,5 +1,5 @@
 //! Why the judging of a draft ends early.
-use crate::fault::TopoFault;
+use ks_plan::TopoFault;
 use std::alloc::{AllocError, AllocFailed};
 
 /// Want of memory, or a fault of the draft.

@@ -1,28 +1,23 @@
 //! Topologies that were built of well-formed drafts.
 ghost use Rattle.std.specs.Prelude.{◌≡◌, ◌≤◌, ◌<◌, length, map, get_or, [], ◌++◌, IfOk, None};
-ghost use Rattle.ks_topo.specs.Drafts.{DraftView, draft_view, nodes_view};
-ghost use Rattle.ks_topo.specs.Plan.{plan_of, sorted_topics};
-ghost use Rattle.ks_topo.specs.Layout.{topics_of, tasks as all_tasks};
-ghost use Rattle.ks_topo.specs.Infos.{topic_infos as shown_topics, node_places, node_place, built_view, inputs_by_sub, changelogs_by_sub, drain_numbers};
-ghost use Rattle.ks_topo.specs.Faults.{fault_of};
+ghost use Rattle.ks_plan.specs.Drafts.{DraftView, draft_view, nodes_view};
+ghost use Rattle.ks_plan.specs.Plan.{plan_of, sorted_topics};
+ghost use Rattle.ks_plan.specs.Layout.{topics_of, tasks as all_tasks};
+ghost use Rattle.ks_plan.specs.Infos.{topic_infos as shown_topics, node_places, node_place, built_view, inputs_by_sub, changelogs_by_sub, drain_numbers};
+ghost use Rattle.ks_plan.specs.Faults.{fault_of};
 ghost use Rattle.ks_topo.specs.Finds.{Finds};
-ghost use Rattle.ks_topo.specs.Resolve.{resolved_from};
+ghost use Rattle.ks_plan.specs.Resolve.{resolved_from};
 ghost use Rattle.ks_topo.specs.Built.{IsShapeOf, wired_topic_info};
-ghost use Rattle.ks_topo.specs.Wired.{kept, wired_topics, wired_drained, numbers_read, numbers_in, all_tasks as wired_tasks};
+ghost use Rattle.ks_plan.specs.Wired.{kept, wired_topics, wired_drained, numbers_read, numbers_in, all_tasks as wired_tasks};
 ghost use Rattle.ks_topo.specs.Topologies.{draft_of, plan_in, Builds, BuildsOr};
 
 use crate::built::Topology;
-use crate::draft::Draft;
-use crate::fault::TopoFault;
 use crate::infos::{built_nodes, counts_of, sort_topics, topic_infos};
 use crate::judge::{judge_parts, judge_sizes};
-use crate::layout::shape_of;
-use crate::node::{Node, Topic, TopicInfo, Wiring};
-use crate::resolve::Resolved;
-use crate::shape::Shape;
 use crate::stop::Stop;
-use crate::topics::{
-    drained_topics, flowing_topics, kept_topics, numbers_by_sub, numbers_of, tasks_of,
+use ks_plan::{
+    Draft, Node, Resolved, Shape, TopoFault, Topic, TopicInfo, Wiring, drained_topics,
+    flowing_topics, kept_topics, numbers_by_sub, numbers_of, shape_of, tasks_of,
 };
 use ks_row::{Blob, Name, Seq, TaskId};
 use std::alloc::{AllocError, Global};

@@ -8,7 +8,7 @@ use Rattle.ks_map.specs.FinMap as fin
 use Rattle.ks_wire.specs.declared.values.Agg.{Agg}
 use Rattle.ks_wire.specs.Spelling.{agg_bytes, window_key, time_key, time_bytes}
 use Rattle.ks_wire.specs.Reading.{agg_from, time_from}
-use Rattle.ks_topo.specs.Plan.{Window}
+use Rattle.ks_plan.specs.Plan.{Window}
 use Rattle.ks_window.specs.declared.counting.Window.{Window as WindowCode}
 use Rattle.ks_query.specs.Streams.{Key}
 use Rattle.ks_query.specs.Windows.{windows}

@@ -6,7 +6,7 @@ use Rattle.ks_map.specs.FinMap as fin
 use Rattle.ks_map.specs.FinMap.{FinMap}
 use Rattle.ks_wire.specs.declared.values.Agg.{Agg}
 use Rattle.ks_wire.specs.Reading.{window_key_from, agg_from}
-use Rattle.ks_topo.specs.Plan.{Window}
+use Rattle.ks_plan.specs.Plan.{Window}
 use Rattle.ks_query.specs.Streams.{Key}
 use Rattle.ks_query.specs.Windows.{by_window, windows}
 use Rattle.ks_machine.specs.Windowed.{Counted, greater, count_group}

@@ -16,11 +16,11 @@ use Rattle.ks_row.specs.Parts.{same_part}
 use Rattle.ks_wire.specs.declared.values.Delta.{Delta}
 use Rattle.ks_wire.specs.declared.values.Response.{Response}
 use Rattle.ks_expr.specs.Eval.{Row, joined, same_field}
-use Rattle.ks_topo.specs.declared.node.Topic.{Topic}
-use Rattle.ks_topo.specs.declared.node.Topic.TheVariants.{Input as InputTopic, Repartition, Subscriptions, Responses, Changelog, HashChangelog}
-use Rattle.ks_topo.specs.Plan.{Plan, Kind, plan_of}
-use Rattle.ks_topo.specs.Plan.Kind.{StreamSource, TableSource, StreamFilter, TableFilter, StreamMap, TableMap, KeySelected, StreamAggregate, TableAggregate, Windowed, KeyJoin, ForeignKeyJoin}
-use Rattle.ks_topo.specs.Layout.{same_topic, topics_of, topic_at, number_of, reads}
+use Rattle.ks_plan.specs.declared.node.Topic.{Topic}
+use Rattle.ks_plan.specs.declared.node.Topic.TheVariants.{Input as InputTopic, Repartition, Subscriptions, Responses, Changelog, HashChangelog}
+use Rattle.ks_plan.specs.Plan.{Plan, Kind, plan_of}
+use Rattle.ks_plan.specs.Plan.Kind.{StreamSource, TableSource, StreamFilter, TableFilter, StreamMap, TableMap, KeySelected, StreamAggregate, TableAggregate, Windowed, KeyJoin, ForeignKeyJoin}
+use Rattle.ks_plan.specs.Layout.{same_topic, topics_of, topic_at, number_of, reads}
 use Rattle.ks_map.specs.FinMap as fin
 use Rattle.ks_query.specs.Streams.{Key, StreamItem, filter_item, map_item, rekey_item, group_key}
 use Rattle.ks_query.specs.Query.{with_number}

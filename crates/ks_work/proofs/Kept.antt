@@ -5,7 +5,7 @@ use Rattle.std.specs.List.{filter}
 use Rattle.std.proofs.lemmas.Bool.{and_from, eq-eqb}
 use Rattle.std.proofs.lemmas.Bool.Decides.{Decides-eqb}
 use Rattle.ks_row.specs.declared.record.TaskId.{TaskId}
-use Rattle.ks_topo.specs.Plan.{Plan, plan_of}
+use Rattle.ks_plan.specs.Plan.{Plan, plan_of}
 use Rattle.ks_machine.specs.Messages.{Place, Item, Store, Rules}
 use Rattle.ks_machine.specs.Tasks.{step, taker, sent_item, written_item, is_changelog}
 use Rattle.ks_machine.specs.Step.{Arrival, Sent, Written, whole_step, step_key, items_from, olds_at, news_at}

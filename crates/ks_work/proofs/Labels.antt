@@ -4,9 +4,9 @@ use Rattle.std.specs.Prelude.{min, max}
 use Rattle.std.proofs.lemmas.List.{length-map}
 use Rattle.std.proofs.lemmas.Bool.{eqb-false, cases_order}
 use Rattle.std.proofs.lemmas.Bool.Decides.{Decides-eqb}
-use Rattle.ks_topo.specs.Plan.{Plan, Kind}
-use Rattle.ks_topo.specs.Plan.Kind.{StreamSource, TableSource, StreamFilter, TableFilter, StreamMap, TableMap, KeySelected, StreamAggregate, TableAggregate, Windowed, KeyJoin, ForeignKeyJoin}
-use Rattle.ks_topo.specs.Layout.{at, relabel, join_labels, label_next, labels, firsts, sub_of, parts_of}
+use Rattle.ks_plan.specs.Plan.{Plan, Kind}
+use Rattle.ks_plan.specs.Plan.Kind.{StreamSource, TableSource, StreamFilter, TableFilter, StreamMap, TableMap, KeySelected, StreamAggregate, TableAggregate, Windowed, KeyJoin, ForeignKeyJoin}
+use Rattle.ks_plan.specs.Layout.{at, relabel, join_labels, label_next, labels, firsts, sub_of, parts_of}
 use Rattle.ks_rest.proofs.Fits.{Fits, NodeFits, EachFits}
 
 at_before : (xs ys : List ℕ) (n : ℕ) → n < length xs → at (xs ++ ys) n ≡ at xs n

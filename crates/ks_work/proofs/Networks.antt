@@ -6,8 +6,8 @@ use Rattle.ks_row.specs.declared.record.Rec.{Rec}
 use Rattle.ks_row.specs.declared.record.PartId.{PartId}
 use Rattle.ks_row.specs.Parts.{same_part}
 use Rattle.ks_network.specs.Run.{sent_to}
-use Rattle.ks_topo.specs.Plan.{Plan}
-use Rattle.ks_topo.specs.Infos.{changelog_numbers}
+use Rattle.ks_plan.specs.Plan.{Plan}
+use Rattle.ks_plan.specs.Infos.{changelog_numbers}
 use Rattle.ks_machine.specs.Messages.{Rules}
 use Rattle.ks_machine.specs.Bytes.{records_at, keep_bytes, keep_all, has_number, byte_step}
 use Rattle.ks_machine.proofs.Told.{tells}

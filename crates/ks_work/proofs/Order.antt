@@ -3,13 +3,13 @@ use Rattle.std.proofs.Common.{◌≡◌, ℕ, zero, suc, ◌+◌, ◌≤◌, ◌
 use Rattle.std.specs.Prelude.{slice_get}
 use Rattle.std.specs.List.{filter, slice_index}
 use Rattle.std.specs.List.Sorted.{IsStrictlyIncreasing}
-use Rattle.ks_topo.specs.declared.node.Topic.{Topic}
-use Rattle.ks_topo.specs.declared.node.Topic.TheVariants.{Input, Repartition, Subscriptions, Responses, Changelog, HashChangelog}
-use Rattle.ks_topo.specs.declared.node.Wiring.{Wiring}
-use Rattle.ks_topo.specs.declared.node.Wiring.TheVariants as wired
-use Rattle.ks_topo.specs.Plan.{Plan, Kind, wiring_of}
-use Rattle.ks_topo.specs.Layout.{same_topic, up_to, by_node, wired_through, wired_changelogs, through_topics, changelogs_of, input_topics, topics_of, place_of, number_of, is_drained}
-use Rattle.ks_topo.specs.Infos.{drain_numbers}
+use Rattle.ks_plan.specs.declared.node.Topic.{Topic}
+use Rattle.ks_plan.specs.declared.node.Topic.TheVariants.{Input, Repartition, Subscriptions, Responses, Changelog, HashChangelog}
+use Rattle.ks_plan.specs.declared.node.Wiring.{Wiring}
+use Rattle.ks_plan.specs.declared.node.Wiring.TheVariants as wired
+use Rattle.ks_plan.specs.Plan.{Plan, Kind, wiring_of}
+use Rattle.ks_plan.specs.Layout.{same_topic, up_to, by_node, wired_through, wired_changelogs, through_topics, changelogs_of, input_topics, topics_of, place_of, number_of, is_drained}
+use Rattle.ks_plan.specs.Infos.{drain_numbers}
 use Rattle.ks_machine.specs.Tasks.{is_changelog}
 use Rattle.ks_machine.proofs.Names.{topic-is, topic_itself}
 use Rattle.ks_work.specs.Order.{DrainRises}

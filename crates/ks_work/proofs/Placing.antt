@@ -11,11 +11,11 @@ use Rattle.ks_row.specs.Texts.{key_from}
 use Rattle.ks_row.specs.Reading.{◌>>=◌, row_from}
 use Rattle.ks_row.proofs.Spelled.{key_takes}
 use Rattle.ks_wire.specs.Reading.{delta_from, response_from, subscription_from}
-use Rattle.ks_topo.specs.declared.node.Topic.{Topic}
-use Rattle.ks_topo.specs.declared.node.Topic.TheVariants.{Input as InputTopic, Repartition, Subscriptions, Responses, Changelog, HashChangelog}
-use Rattle.ks_topo.specs.Plan.{Plan, Kind, Window, plan_of, is_windowed}
-use Rattle.ks_topo.specs.Plan.Kind.{StreamSource, TableSource, StreamFilter, TableFilter, StreamMap, TableMap, KeySelected, StreamAggregate, TableAggregate, Windowed, KeyJoin, ForeignKeyJoin}
-use Rattle.ks_topo.specs.Layout.{topics_of, topic_at, number_of, parts_of_topic, parts_of, kind_at, no_kind, reads, sub_count}
+use Rattle.ks_plan.specs.declared.node.Topic.{Topic}
+use Rattle.ks_plan.specs.declared.node.Topic.TheVariants.{Input as InputTopic, Repartition, Subscriptions, Responses, Changelog, HashChangelog}
+use Rattle.ks_plan.specs.Plan.{Plan, Kind, Window, plan_of, is_windowed}
+use Rattle.ks_plan.specs.Plan.Kind.{StreamSource, TableSource, StreamFilter, TableFilter, StreamMap, TableMap, KeySelected, StreamAggregate, TableAggregate, Windowed, KeyJoin, ForeignKeyJoin}
+use Rattle.ks_plan.specs.Layout.{topics_of, topic_at, number_of, parts_of_topic, parts_of, kind_at, no_kind, reads, sub_count}
 use Rattle.ks_query.specs.Streams.{Key, StreamItem}
 use Rattle.ks_machine.specs.Messages.{Place, Item, Message, Rules, Store, Stored, same_option, same_stored, subscription_of}
 use Rattle.ks_machine.specs.Messages.Message.{Given, Keyed, Moved, Asked, Answered, Kept, KeptCount, KeptTime, KeptHash}

@@ -9,11 +9,11 @@ use Rattle.std.proofs.lemmas.Bool.{eqb-true, true≢false, or_cases, or_left, or
 use Rattle.std.proofs.lemmas.Bool.Decides.{Decides-eqb}
 use Rattle.ks_row.specs.declared.record.TaskId.{TaskId}
 use Rattle.ks_row.specs.Parts.{same_task}
-use Rattle.ks_topo.specs.declared.node.Topic.{Topic}
-use Rattle.ks_topo.specs.declared.node.Topic.TheVariants.{Input as InputTopic, Repartition, Subscriptions, Responses, Changelog, HashChangelog}
-use Rattle.ks_topo.specs.Plan.{Plan, Kind, plan_of}
-use Rattle.ks_topo.specs.Plan.Kind.{StreamSource, TableSource, StreamFilter, TableFilter, StreamMap, TableMap, KeySelected, StreamAggregate, TableAggregate, Windowed, KeyJoin, ForeignKeyJoin}
-use Rattle.ks_topo.specs.Layout.{same_topic, up_to, through_topics, changelogs_of, by_node, input_topics, topics_of, place_of, number_of, is_drained, drain_order, inputs, changelogs, reads, sub_of, sub_count, parts_of, parts_of_topic, kind_at, right_of, at, is_source_of, any_source_of, is_read, source_of, subs, first_in, sub_parts, tasks_in, tasks}
+use Rattle.ks_plan.specs.declared.node.Topic.{Topic}
+use Rattle.ks_plan.specs.declared.node.Topic.TheVariants.{Input as InputTopic, Repartition, Subscriptions, Responses, Changelog, HashChangelog}
+use Rattle.ks_plan.specs.Plan.{Plan, Kind, plan_of}
+use Rattle.ks_plan.specs.Plan.Kind.{StreamSource, TableSource, StreamFilter, TableFilter, StreamMap, TableMap, KeySelected, StreamAggregate, TableAggregate, Windowed, KeyJoin, ForeignKeyJoin}
+use Rattle.ks_plan.specs.Layout.{same_topic, up_to, through_topics, changelogs_of, by_node, input_topics, topics_of, place_of, number_of, is_drained, drain_order, inputs, changelogs, reads, sub_of, sub_count, parts_of, parts_of_topic, kind_at, right_of, at, is_source_of, any_source_of, is_read, source_of, subs, first_in, sub_parts, tasks_in, tasks}
 use Rattle.ks_machine.specs.Messages.{Rules}
 use Rattle.ks_history.specs.Machine.{has_topic, part_of}
 use Rattle.ks_history.specs.State.{IsSetup, IsPart, has_task, are_once}

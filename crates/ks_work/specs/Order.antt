@@ -7,9 +7,9 @@ use Rattle.ks_row.specs.declared.record.Rec.{Rec}
 use Rattle.ks_row.specs.declared.record.PartId.{PartId}
 use Rattle.ks_row.specs.declared.record.TaskId.{TaskId}
 use Rattle.ks_network.specs.Run.{sent_to}
-use Rattle.ks_topo.specs.Drafts.{DraftView}
-use Rattle.ks_topo.specs.Plan.{Plan, plan_of}
-use Rattle.ks_topo.specs.Infos.{drain_numbers}
+use Rattle.ks_plan.specs.Drafts.{DraftView}
+use Rattle.ks_plan.specs.Plan.{Plan, plan_of}
+use Rattle.ks_plan.specs.Infos.{drain_numbers}
 use Rattle.ks_machine.specs.Messages.{Rules}
 use Rattle.ks_machine.specs.Bytes.{ByteStores, byte_step}
 use Rattle.ks_history.specs.Machine.{network}

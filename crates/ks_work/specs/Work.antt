@@ -2,10 +2,10 @@
 use Rattle.std.specs.Prelude.{List, ◌≡◌, map, length}
 use Rattle.std.specs.List.{filter}
 use Rattle.ks_row.specs.declared.record.TaskId.{TaskId}
-use Rattle.ks_topo.specs.Drafts.{DraftView}
-use Rattle.ks_topo.specs.Plan.{Plan, plan_of}
-use Rattle.ks_topo.specs.Layout.{topics_of, parts_of_topic, tasks}
-use Rattle.ks_topo.specs.Infos.{input_numbers, changelog_numbers}
+use Rattle.ks_plan.specs.Drafts.{DraftView}
+use Rattle.ks_plan.specs.Plan.{Plan, plan_of}
+use Rattle.ks_plan.specs.Layout.{topics_of, parts_of_topic, tasks}
+use Rattle.ks_plan.specs.Infos.{input_numbers, changelog_numbers}
 use Rattle.ks_machine.specs.Messages.{Place, Item, Store, Rules}
 use Rattle.ks_machine.specs.Tasks.{step, taker}
 use Rattle.ks_machine.specs.Bytes.{byte_step, reader_number, is_sent}

@@ -1,6 +1,6 @@
 use Rattle.std.specs.Prelude.{Some}
-use Rattle.ks_topo.specs.declared.node.Topic.TheVariants.{Changelog}
-use Rattle.ks_topo.specs.Layout.{sub_of}
+use Rattle.ks_plan.specs.declared.node.Topic.TheVariants.{Changelog}
+use Rattle.ks_plan.specs.Layout.{sub_of}
 use Rattle.ks_network.proofs.Runs.{Follows-run}
 use Rattle.ks_machine.specs.Tasks.{machine}
 use Rattle.ks_machine.proofs.Names.{names}

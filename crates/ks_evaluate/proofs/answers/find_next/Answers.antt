@@ -1,5 +1,5 @@
 use Rattle.std.proofs.Common.{◌≡◌, List, subst}
-use Rattle.ks_topo.specs.Drafts.{op_view}
+use Rattle.ks_plan.specs.Drafts.{op_view}
 use Rattle.ks_evaluate.specs.declared.answers.Answer.{Answer}
 use Rattle.ks_evaluate.specs.Found.{answers_of, stream_found}
 use Rattle.ks_evaluate.proofs.Founds.{next_is}

@@ -1,5 +1,5 @@
 use Rattle.std.proofs.Common.{◌≡◌, ◌+◌, drop}
-use Rattle.ks_topo.specs.Plan.{name_place}
+use Rattle.ks_plan.specs.Plan.{name_place}
 use Rattle.ks_evaluate.specs.Printing.{names_of}
 use Rattle.ks_evaluate.proofs.printing.place_of.Given as goal
 

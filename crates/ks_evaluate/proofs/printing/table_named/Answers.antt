@@ -1,7 +1,7 @@
 use Rattle.std.proofs.Common.{Some, ap, sym, ◌∙◌}
 use Rattle.std.proofs.lemmas.Option.{slice_get-get_or}
-use Rattle.ks_topo.specs.declared.node.Node.{Node}
-use Rattle.ks_topo.specs.Plan.{name_place}
+use Rattle.ks_plan.specs.declared.node.Node.{Node}
+use Rattle.ks_plan.specs.Plan.{name_place}
 use Rattle.ks_evaluate.specs.Found.{answers_of}
 use Rattle.ks_evaluate.specs.Printing.{names_of}
 use Rattle.ks_evaluate.proofs.Plans.{named_is}

@@ -1,5 +1,5 @@
-use Rattle.ks_topo.specs.Plan.{plan_of}
-use Rattle.ks_topo.specs.Plan.Kind.{ForeignKeyJoin}
+use Rattle.ks_plan.specs.Plan.{plan_of}
+use Rattle.ks_plan.specs.Plan.Kind.{ForeignKeyJoin}
 use Rattle.ks_rest.proofs.Fits.{node_stands}
 use Rattle.ks_rest.proofs.WellFormed.{well_formed_fits}
 use Rattle.ks_join_rest.proofs.EachState.{hashes_are_had, hashes_follow, others_are_forgotten, present_is_answered, results_follow, gone_is_told, alone_is_joined}

@@ -1,6 +1,6 @@
 use Rattle.std.proofs.Common.{◌<◌, ◌+◌, length, arith}
-use Rattle.ks_topo.specs.Plan.{plan_of}
-use Rattle.ks_topo.specs.Plan.Kind.{Windowed}
+use Rattle.ks_plan.specs.Plan.{plan_of}
+use Rattle.ks_plan.specs.Plan.Kind.{Windowed}
 use Rattle.ks_rest.proofs.Fits.{node_stands, each_at, stands_within}
 use Rattle.ks_rest.proofs.WellFormed.{well_formed_fits}
 use Rattle.ks_join_rest.proofs.WindowCounts.{windows_count_less}

@@ -1,7 +1,7 @@
 use Rattle.std.proofs.Common.{◌≡◌, [], length}
 use Rattle.serde_json.specs.View.{items_view}
 use Rattle.ks_line.specs.Nodes.{nodes_from}
-use Rattle.ks_topo.specs.Drafts.{nodes_view}
+use Rattle.ks_plan.specs.Drafts.{nodes_view}
 use Rattle.ks_line.proofs.node.read_node_list.Given as goal
 
 abbrev pub invariant-loop-rest : goal.invariant-loop-rest

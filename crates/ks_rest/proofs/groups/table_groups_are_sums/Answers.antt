@@ -1,5 +1,5 @@
-use Rattle.ks_topo.specs.Plan.{plan_of}
-use Rattle.ks_topo.specs.Plan.Kind.{TableAggregate}
+use Rattle.ks_plan.specs.Plan.{plan_of}
+use Rattle.ks_plan.specs.Plan.Kind.{TableAggregate}
 use Rattle.ks_machine.specs.Tasks.{machine, inputs_of}
 use Rattle.ks_machine.proofs.Names.{names}
 use Rattle.ks_network.proofs.Runs.{Follows-run}

@@ -1,4 +1,4 @@
-use Rattle.ks_topo.specs.Plan.{plan_of}
+use Rattle.ks_plan.specs.Plan.{plan_of}
 use Rattle.ks_rest.proofs.WellFormed.{well_formed_fits}
 use Rattle.ks_rest.proofs.PlainRest.{plain_rests}
 use Rattle.ks_rest.proofs.rest.plain_tables_rest.Goals as goal

@@ -1,5 +1,5 @@
-use Rattle.ks_topo.specs.Plan.{plan_of}
-use Rattle.ks_topo.specs.Plan.Kind.{TableSource}
+use Rattle.ks_plan.specs.Plan.{plan_of}
+use Rattle.ks_plan.specs.Plan.Kind.{TableSource}
 use Rattle.ks_machine.specs.Tasks.{inputs_of}
 use Rattle.ks_rest.proofs.Fits.{each_at, node_stands}
 use Rattle.ks_rest.proofs.WellFormed.{well_formed_fits}

@@ -1,4 +1,4 @@
-use Rattle.ks_topo.specs.Plan.{plan_of}
+use Rattle.ks_plan.specs.Plan.{plan_of}
 use Rattle.ks_rest.proofs.WellFormed.{well_formed_fits}
 use Rattle.ks_rest.proofs.LateTotals.{late_is_all}
 use Rattle.ks_rest.proofs.windows.late_pairs_are_the_late_count.Goals as goal

@@ -1,5 +1,5 @@
-use Rattle.ks_topo.specs.Plan.{plan_of}
-use Rattle.ks_topo.specs.Plan.Kind.{Windowed}
+use Rattle.ks_plan.specs.Plan.{plan_of}
+use Rattle.ks_plan.specs.Plan.Kind.{Windowed}
 use Rattle.ks_rest.specs.States.{state_of}
 use Rattle.ks_rest.proofs.Fits.{node_stands, each_at}
 use Rattle.ks_rest.proofs.WellFormed.{well_formed_fits}

@@ -1,5 +1,5 @@
-use Rattle.ks_topo.specs.Plan.{plan_of}
-use Rattle.ks_topo.specs.Plan.Kind.{Windowed}
+use Rattle.ks_plan.specs.Plan.{plan_of}
+use Rattle.ks_plan.specs.Plan.Kind.{Windowed}
 use Rattle.ks_rest.proofs.Fits.{node_stands}
 use Rattle.ks_rest.proofs.WellFormed.{well_formed_fits}
 use Rattle.ks_rest.proofs.WindowsWhole.{window_whole}

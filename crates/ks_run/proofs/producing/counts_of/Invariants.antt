@@ -1,5 +1,5 @@
 use Rattle.std.proofs.Common.{◌≡◌, map, take}
-use Rattle.ks_topo.specs.declared.node.TopicInfo.{TopicInfo}
+use Rattle.ks_plan.specs.declared.node.TopicInfo.{TopicInfo}
 use Rattle.ks_run.proofs.producing.counts_of.Given as goal
 
 -- the counts so far

@@ -1,5 +1,5 @@
 use Rattle.std.proofs.Common.{◌∙◌, ap, map}
-use Rattle.ks_topo.specs.declared.node.TopicInfo.{TopicInfo}
+use Rattle.ks_plan.specs.declared.node.TopicInfo.{TopicInfo}
 use Rattle.ks_topo.specs.Topologies.{draft_of}
 use Rattle.ks_job.specs.Items.{item_views}
 use Rattle.ks_cluster.specs.Kept as kept

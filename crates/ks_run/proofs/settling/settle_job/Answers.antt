@@ -1,7 +1,7 @@
 use Rattle.std.proofs.Common.{◌∙◌, ap, sym, subst, length}
 use Rattle.std.specs.Prelude.{option_map}
-use Rattle.ks_topo.specs.Drafts.{draft_view}
-use Rattle.ks_topo.specs.Plan.{plan_of}
+use Rattle.ks_plan.specs.Drafts.{draft_view}
+use Rattle.ks_plan.specs.Plan.{plan_of}
 use Rattle.ks_task.specs.Built.{IsBuilt}
 use Rattle.ks_records.specs.Records.{HavePartitions, AreRecords}
 use Rattle.ks_job.specs.Items.{item_views}

@@ -1,5 +1,5 @@
 use Rattle.std.proofs.Common.{◌≡◌, length}
-use Rattle.ks_topo.specs.Drafts.{nodes_view}
+use Rattle.ks_plan.specs.Drafts.{nodes_view}
 use Rattle.ks_run.specs.Stops.{first_unbuilt}
 use Rattle.ks_run.proofs.stop.first_unbuilt.Given as goal
 

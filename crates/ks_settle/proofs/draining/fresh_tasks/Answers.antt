@@ -1,7 +1,7 @@
 use Rattle.std.proofs.Common.{get_or}
 use Rattle.ks_row.specs.declared.record.TaskId.{TaskId}
 use Rattle.ks_topo.specs.Topologies.{draft_of, plan_in}
-use Rattle.ks_topo.specs.Layout.{tasks}
+use Rattle.ks_plan.specs.Layout.{tasks}
 use Rattle.ks_settle.proofs.Works.{there_in, one_more_fresh, same_default}
 use Rattle.ks_settle.proofs.draining.fresh_tasks.Goals as goal
 

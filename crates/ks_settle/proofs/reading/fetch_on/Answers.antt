@@ -1,5 +1,5 @@
 use Rattle.ks_topo.specs.Topologies.{draft_of, plan_in}
-use Rattle.ks_topo.specs.Infos.{input_numbers}
+use Rattle.ks_plan.specs.Infos.{input_numbers}
 use Rattle.ks_work.specs.Work.{work_of}
 use Rattle.ks_history.specs.Machine.{has_topic}
 use Rattle.std.proofs.Common.{◌≡◌, true, subst}

@@ -1,6 +1,6 @@
 use Rattle.std.proofs.Common.{take}
 use Rattle.ks_topo.specs.Topologies.{plan_in}
-use Rattle.ks_topo.specs.Infos.{input_numbers}
+use Rattle.ks_plan.specs.Infos.{input_numbers}
 use Rattle.ks_work.specs.Work.{work_of}
 use Rattle.ks_task.specs.Built.{rules_of}
 use Rattle.ks_task.specs.Tasks.{task_view}

@@ -1,5 +1,5 @@
 use Rattle.std.proofs.Common.{◌≡◌, length}
-use Rattle.ks_topo.specs.Drafts.{op_view}
+use Rattle.ks_plan.specs.Drafts.{op_view}
 use Rattle.ks_settle.specs.Rows.{put_pairs}
 use Rattle.ks_settle.proofs.rows.put_pairs.Given as goal
 

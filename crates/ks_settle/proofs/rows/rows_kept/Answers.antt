@@ -1,4 +1,4 @@
-use Rattle.ks_topo.specs.Drafts.{op_view}
+use Rattle.ks_plan.specs.Drafts.{op_view}
 use Rattle.ks_cluster.specs.Kept.{state_of}
 use Rattle.ks_settle.proofs.Pairs.{one_part_on}
 use Rattle.ks_settle.proofs.rows.rows_kept.Goals as goal

@@ -1,6 +1,6 @@
 use Rattle.std.proofs.Common.{◌≡◌, []}
-use Rattle.ks_topo.specs.Drafts.{op_view}
-use Rattle.ks_topo.specs.Layout.{up_to}
+use Rattle.ks_plan.specs.Drafts.{op_view}
+use Rattle.ks_plan.specs.Layout.{up_to}
 use Rattle.ks_cluster.specs.Kept.{state_of}
 use Rattle.ks_settle.specs.Rows.{put_parts}
 use Rattle.ks_settle.proofs.rows.rows_kept.Given as goal

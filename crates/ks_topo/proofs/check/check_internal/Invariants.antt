@@ -1,6 +1,6 @@
 use Rattle.std.proofs.Common.{◌≡◌, drop, map}
-use Rattle.ks_topo.specs.Infos.{internal_name}
-use Rattle.ks_topo.specs.Faults.{first_fitting, taken_lines, names_of_topics}
+use Rattle.ks_plan.specs.Infos.{internal_name}
+use Rattle.ks_plan.specs.Faults.{first_fitting, taken_lines, names_of_topics}
 use Rattle.ks_topo.proofs.check.check_internal.Given as goal
 
 -- the rest of the topics decides

@@ -1,7 +1,7 @@
 use Rattle.std.proofs.Common.{◌≡◌, ◌≤◌, ◌+◌, ◌++◌, map, length}
 use Rattle.std.specs.Vec.Iter.{into_iter_items}
-use Rattle.ks_topo.specs.Drafts.{nodes_view}
-use Rattle.ks_topo.specs.Infos.{node_place, built_view, places_from}
+use Rattle.ks_plan.specs.Drafts.{nodes_view}
+use Rattle.ks_plan.specs.Infos.{node_place, built_view, places_from}
 use Rattle.ks_topo.specs.Built.{wired_place}
 use Rattle.ks_topo.proofs.infos.built_nodes.Given as goal
 

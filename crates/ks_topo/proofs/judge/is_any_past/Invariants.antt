@@ -1,5 +1,5 @@
 use Rattle.std.proofs.Common.{◌≡◌, drop}
-use Rattle.ks_topo.specs.Faults.{any_past}
+use Rattle.ks_plan.specs.Faults.{any_past}
 use Rattle.ks_topo.proofs.judge.is_any_past.Given as goal
 
 -- the rest of the topics decides

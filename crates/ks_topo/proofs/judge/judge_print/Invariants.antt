@@ -1,6 +1,6 @@
 use Rattle.std.proofs.Common.{◌≡◌, [], take, drop}
-use Rattle.ks_topo.specs.Drafts.{nodes_view}
-use Rattle.ks_topo.specs.Faults.{printed_fault}
+use Rattle.ks_plan.specs.Drafts.{nodes_view}
+use Rattle.ks_plan.specs.Faults.{printed_fault}
 use Rattle.ks_topo.proofs.judge.judge_print.Given as goal
 
 -- the rest of the names decides

@@ -1,7 +1,7 @@
 use Rattle.std.proofs.Common.{◌≡◌, ◌≤◌, ℕ, List, fold, drop}
 use Rattle.ks_row.specs.declared.record.Rec.{Rec}
 use Rattle.ks_map.specs.Bytes.{Store}
-use Rattle.ks_topo.specs.Plan.{Window}
+use Rattle.ks_plan.specs.Plan.{Window}
 use Rattle.ks_query.specs.Streams.{Key}
 use Rattle.ks_window.specs.Counting.{shape, counted, count_start}
 use Rattle.ks_window.proofs.counting.apply.Given as goal

@@ -1,5 +1,5 @@
 use Rattle.std.proofs.Common.{List, ◌≤◌, [], length, ◌∙◌, sym, ap, ap₂, subst}
-use Rattle.ks_topo.specs.declared.node.Topic.{Topic}
+use Rattle.ks_plan.specs.declared.node.Topic.{Topic}
 use Rattle.ks_topo.specs.Topologies.{draft_of}
 use Rattle.ks_task.specs.declared.inputs.Input.{Input}
 use Rattle.ks_task.specs.declared.logs.Log.{Log}

@@ -2,7 +2,7 @@ use Rattle.std.proofs.Common.{List, map, ◌∙◌, ap, ap₂}
 use Rattle.std.specs.Prelude.{slice_get}
 use Rattle.ks_row.specs.declared.record.Rec.{Rec}
 use Rattle.ks_row.specs.declared.record.PartId.{PartId}
-use Rattle.ks_topo.specs.declared.node.Topic.{Topic}
+use Rattle.ks_plan.specs.declared.node.Topic.{Topic}
 use Rattle.ks_topo.specs.Topologies.{draft_of}
 use Rattle.ks_task.specs.declared.program.Step.{Step}
 use Rattle.ks_task.specs.declared.logs.Log.{Log}

@@ -1,0 +1,9 @@
+use Rattle.std.proofs.Common.{◌≡◌, ◌+◌, drop}
+use Rattle.ks_plan.specs.Drafts.{nodes_view}
+use Rattle.ks_plan.specs.Plan.{name_place, topic_number}
+use Rattle.ks_plan.specs.Faults.{has_name, names_of, sources_of, names_of_topics}
+use Rattle.ks_plan.proofs.names.is_listed.Given as goal
+
+-- the rest decides
+abbrev pub invariant-loop-own : goal.invariant-loop-own
+invariant-loop-own l = has_name (drop l.own-index l.names) l.name ≡ has_name l.names l.name

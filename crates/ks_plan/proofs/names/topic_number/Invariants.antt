@@ -1,0 +1,9 @@
+use Rattle.std.proofs.Common.{◌≡◌, ◌≤◌, ◌+◌, drop}
+use Rattle.ks_plan.specs.Drafts.{nodes_view}
+use Rattle.ks_plan.specs.Plan.{name_place, topic_number}
+use Rattle.ks_plan.specs.Faults.{has_name, names_of, sources_of, names_of_topics}
+use Rattle.ks_plan.proofs.names.topic_number.Given as goal
+
+-- the rest decides
+abbrev pub invariant-loop-own : goal.invariant-loop-own
+invariant-loop-own l = record { found : l.number + topic_number (drop l.own-index l.topics) l.name ≡ topic_number l.topics l.name; count : l.number ≤ l.own-index }

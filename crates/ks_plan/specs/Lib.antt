@@ -1,0 +1,7 @@
+pub mod Drafts
+pub mod Plan
+pub mod Layout
+pub mod Infos
+pub mod Faults
+pub mod Resolve
+pub mod Wired

@@ -1,0 +1,25 @@
+//! What a topology is made of: drafts as job lines give them, their faults, and the plan of a draft by numbers.
+#![tactic(auto)]
+
+mod draft;
+mod fault;
+mod internal;
+mod layout;
+mod names;
+mod node;
+mod resolve;
+mod shape;
+mod topics;
+
+pub use draft::{Draft, NodeDraft, Op};
+pub use fault::TopoFault;
+pub use internal::{internal_name, push_changelogs, push_through};
+pub use layout::{number_at, push_parts, shape_of, sub_of};
+pub use names::{is_before, is_listed, is_node, is_source, is_topic};
+pub use node::{Node, Role, Topic, TopicInfo, Wiring};
+pub use resolve::{Input, Resolved, find_input, gives_stream, resolve_op};
+pub use shape::Shape;
+pub use topics::{
+    drained_topics, flowing_topics, kept_topics, number_of, numbers_by_sub, numbers_of,
+    parts_of_topic, tasks_of,
+};
