@@ -7,8 +7,8 @@ ghost use Rattle.ks_job.specs.Lines.{spot, parsed, is_blank_byte, is_blank as bl
 
 use crate::place::Place;
 use ks_line::{JobKind, ReadError, copy_names, read_input, read_topology, too_many};
-use ks_row::{Name, Rec, Seq};
 use ks_plan::Draft;
+use ks_row::{Name, Rec, Seq};
 use serde_json::Value;
 use std::alloc::{AllocError, Global};
 use std::str;

@@ -13,8 +13,8 @@ use crate::labels::all_words;
 use crate::members::{Form, Kind, read_integer_of, read_member, read_object, read_text};
 use crate::pred::read_where;
 use crate::set::read_set;
-use ks_row::Name;
 use ks_plan::{NodeDraft, Op};
+use ks_row::Name;
 use serde_json::Value;
 use std::alloc::Global;
 

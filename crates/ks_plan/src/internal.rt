@@ -21,7 +21,7 @@ fn suffix(topic: Topic) -> &'static str
     }
 }
 
-/// The name of a topic of a node, behind that of the application.
+/// The name of a topic of a node, behind that of the application: `app-node-suffix`. An error only where memory runs out.
 pub fn internal_name(
     alloc: Global,
     app: &Name,
@@ -39,7 +39,7 @@ pub fn internal_name(
     Ok(Blob::of(name))
 }
 
-/// The topics that a node's own parts read, at the end of others.
+/// The topics that a node's own parts read, at the end of others. An error only where memory runs out.
 pub fn push_through(topics: &mut Vec<Topic>, node: u8, wiring: Wiring) -> Result<(), AllocError>
     ensures { OnOk result (topics.new.items ≡ topics.old.items ++ wired_through node wiring) }
 {
@@ -56,7 +56,7 @@ pub fn push_through(topics: &mut Vec<Topic>, node: u8, wiring: Wiring) -> Result
     Ok(())
 }
 
-/// The changelogs of a node's stores, at the end of others.
+/// The changelogs of a node's stores, at the end of others. An error only where memory runs out.
 pub fn push_changelogs(topics: &mut Vec<Topic>, node: u8, wiring: Wiring) -> Result<(), AllocError>
     ensures { OnOk result (topics.new.items ≡ topics.old.items ++ wired_changelogs node wiring) }
 {

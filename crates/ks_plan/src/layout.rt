@@ -18,6 +18,7 @@ pub fn number_at(numbers: &[u8], i: usize) -> u8
 }
 
 /// A node's partition count, behind those of the nodes before it: that of its topic, of its input, or of its left side.
+/// An error only where memory runs out.
 pub fn push_parts(counts: &[u8], parts: &mut Vec<u8>, wiring: Wiring) -> Result<(), AllocError>
     ensures { OnOk result (parts.new.items ≡ wired_parts counts.now parts.old.items wiring) }
 {
@@ -116,7 +117,7 @@ fn labels_of(alloc: Global, wirings: &[Wiring]) -> Result<Vec<u8>, AllocError>
     Ok(labels)
 }
 
-/// Where the nodes lie, and how many partitions each has.
+/// Where the nodes lie, and how many partitions each has, of at most 64 nodes. An error only where memory runs out.
 pub fn shape_of(alloc: Global, counts: Vec<u8>, wirings: Vec<Wiring>) -> Result<Shape, AllocError>
     requires { length wirings.items ≤ 64 }
     ensures counts { IfOk result (λ s. s.counts.items ≡ counts.items) }
@@ -148,7 +149,7 @@ pub fn count_firsts(labels: &[u8], nodes: u8) -> u8
     count
 }
 
-/// The subtopology in which a node lies.
+/// The subtopology in which a node lies, by the node's number.
 pub fn sub_of(shape: &Shape, node: usize) -> u8
     ensures { result ≡ sub_in shape.now.labels.items node }
 {

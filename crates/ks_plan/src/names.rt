@@ -17,13 +17,14 @@ fn same(a: &[u8], b: &[u8]) -> bool
     a == b
 }
 
-/// Byte by byte; of two names of which one begins the other, the shorter first.
+/// Whether the first name stands before the second, byte by byte; of two names of which one begins the other, the shorter first.
 pub fn is_before(a: &[u8], b: &[u8]) -> bool
     ensures { result ≡ is_lt (slice_cmp nat_cmp a.now b.now) }
 {
     a.cmp(b).is_lt()
 }
 
+/// Whether one of the topics has this name.
 pub fn is_topic(topics: &[(Name, i64)], name: &[u8]) -> bool
     ensures { result ≡ has_name (names_of_topics topics.now) name.now }
 {
@@ -35,6 +36,7 @@ pub fn is_topic(topics: &[(Name, i64)], name: &[u8]) -> bool
     false
 }
 
+/// Whether one of the nodes has this name.
 pub fn is_node(nodes: &[NodeDraft], name: &[u8]) -> bool
     ensures { result ≡ has_name (names_of (nodes_view nodes.now)) name.now }
 {
@@ -46,6 +48,7 @@ pub fn is_node(nodes: &[NodeDraft], name: &[u8]) -> bool
     false
 }
 
+/// Whether the name is one of these.
 pub fn is_listed(names: &[Blob], name: &[u8]) -> bool
     ensures { result ≡ has_name names.now name.now }
 {

@@ -16,6 +16,7 @@ pub struct Resolved {
     pub rekeyed: bool,
 }
 
+/// Whether what the node gives is a stream; else it is a table or a windowed count.
 pub fn gives_stream(wiring: Wiring) -> bool
     ensures { result ≡ is_stream_wiring wiring }
 {
@@ -55,7 +56,7 @@ fn resolve_aggregate(input: Input, grouped: bool) -> Resolved
     }
 }
 
-/// The node of this name among those that were resolved so far.
+/// The node of this name among those that were resolved so far, which are at most 64; past all of them, as a source, where none has it.
 pub fn find_input(
     topics: &[(Name, i64)],
     nodes: &[NodeDraft],
@@ -81,8 +82,13 @@ pub fn find_input(
     }
 }
 
-/// What an operation is after these nodes.
-pub fn resolve_op(topics: &[(Name, i64)], nodes: &[NodeDraft], known: &[Resolved], op: &Op) -> Resolved
+/// What an operation is after these nodes, by number: at most 64 nodes and 64 topics.
+pub fn resolve_op(
+    topics: &[(Name, i64)],
+    nodes: &[NodeDraft],
+    known: &[Resolved],
+    op: &Op,
+) -> Resolved
     requires known { known.now ≡ resolved_from topics.now (nodes_view nodes.now) }
     requires few { length nodes.now ≤ 64 }
     requires topics { length topics.now ≤ 64 }

@@ -23,6 +23,7 @@ fn input_topics(alloc: Global, count: u16) -> Result<Vec<Topic>, AllocError>
 }
 
 /// The topics that are drained where somebody reads them: inputs, then those between nodes.
+/// At most 64 nodes; an error only where memory runs out.
 pub fn flowing_topics(
     alloc: Global,
     count: u16,
@@ -40,7 +41,7 @@ pub fn flowing_topics(
     Ok(topics)
 }
 
-/// The changelogs.
+/// The changelogs, by node, of at most 64 nodes. An error only where memory runs out.
 pub fn kept_topics(alloc: Global, wirings: &[Wiring]) -> Result<Vec<Topic>, AllocError>
     requires { length wirings.now ≤ 64 }
     ensures { IfOk result (λ v. v.items ≡ kept wirings.now) }
@@ -68,7 +69,7 @@ fn is_same(a: Topic, b: Topic) -> bool
     }
 }
 
-/// A topic's number: its place among all.
+/// A topic's number: its place among all, which are at most 400; their number where it is none of them.
 pub fn number_of(all: &[Topic], topic: Topic) -> u16
     requires { length all.now ≤ 400 }
     ensures { result ≡ place_of all.now topic }
@@ -184,7 +185,7 @@ fn is_drained(shape: &Shape, topic: Topic) -> bool
     }
 }
 
-/// Those of the topics that somebody reads.
+/// Those of the topics that somebody reads, in their order. An error only where memory runs out.
 pub fn drained_topics(
     alloc: Global,
     shape: &Shape,
@@ -219,7 +220,7 @@ fn topics_read(
     Ok(read)
 }
 
-/// The numbers of some of the topics.
+/// The numbers of some of the topics among all, which are at most 400. An error only where memory runs out.
 pub fn numbers_of(alloc: Global, all: &[Topic], topics: &[Topic]) -> Result<Vec<u16>, AllocError>
     requires { length all.now ≤ 400 }
     ensures { IfOk result (λ v. v.items ≡ numbers_in all.now topics.now) }
@@ -232,6 +233,7 @@ pub fn numbers_of(alloc: Global, all: &[Topic], topics: &[Topic]) -> Result<Vec<
 }
 
 /// Of each subtopology the numbers of those of the topics that it reads, or writes as changelogs.
+/// At most 64 nodes and 400 topics; an error only where memory runs out.
 pub fn numbers_by_sub(
     alloc: Global,
     shape: &Shape,
@@ -284,7 +286,7 @@ fn push_tasks(tasks: &mut Vec<TaskId>, sub: u8, parts: u8) -> Result<(), AllocEr
     Ok(())
 }
 
-/// The tasks, by subtopology, then by partition.
+/// The tasks, by subtopology, then by partition, of at most 64 nodes. An error only where memory runs out.
 #[tactic(auto, using(crate::proofs::Tasks::one_more_sub))]
 pub fn tasks_of(alloc: Global, shape: &Shape) -> Result<Vec<TaskId>, AllocError>
     requires { length shape.now.wirings.items ≤ 64 }

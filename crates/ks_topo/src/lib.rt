@@ -10,6 +10,6 @@ mod stop;
 mod topology;
 
 pub use built::Topology;
-pub use ks_plan::{Draft, Node, NodeDraft, Op, Role, TopoFault, Topic, TopicInfo, Wiring};
+pub use ks_plan::{Draft, Node, NodeDraft, Op, Role, Topic, TopicInfo, TopoFault, Wiring};
 pub use laws::well_formed_drafts;
 pub use topology::first_fault;

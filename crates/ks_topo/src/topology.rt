@@ -16,7 +16,7 @@ use crate::infos::{built_nodes, counts_of, sort_topics, topic_infos};
 use crate::judge::{judge_parts, judge_sizes};
 use crate::stop::Stop;
 use ks_plan::{
-    Draft, Node, Resolved, Shape, TopoFault, Topic, TopicInfo, Wiring, drained_topics,
+    Draft, Node, Resolved, Shape, Topic, TopicInfo, TopoFault, Wiring, drained_topics,
     flowing_topics, kept_topics, numbers_by_sub, numbers_of, shape_of, tasks_of,
 };
 use ks_row::{Blob, Name, Seq, TaskId};
