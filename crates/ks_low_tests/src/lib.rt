@@ -10,12 +10,6 @@ mod job_tables;
 #[cfg(test)]
 mod rows;
 #[cfg(test)]
-mod stores;
-#[cfg(test)]
-mod tables;
-#[cfg(test)]
 mod topologies;
 #[cfg(test)]
 mod topology_tables;
-#[cfg(test)]
-mod wires;

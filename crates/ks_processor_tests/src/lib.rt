@@ -1,7 +1,13 @@
-//! Tests of the processors: the calls that tasks make of one record. The crate has nothing else.
+//! Tests of what tasks are made of: stores, messages, processors and the text of tables. The crate has nothing else.
 #![tactic(auto)]
 
 #[cfg(test)]
 mod kept;
 #[cfg(test)]
 mod plain;
+#[cfg(test)]
+mod stores;
+#[cfg(test)]
+mod tables;
+#[cfg(test)]
+mod wires;
