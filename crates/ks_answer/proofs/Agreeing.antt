@@ -6,7 +6,7 @@ use Rattle.ks_map.specs.Bytes.{empty_store as no_bytes}
 use Rattle.ks_machine.specs.Messages.{Place, Item, Store, Rules}
 use Rattle.ks_machine.specs.Tasks.{step, taker, is_changelog, empty_store}
 use Rattle.ks_machine.specs.Bytes.{ByteStores, byte_step, rec_of, part_id, message_in, store_from, is_own_number}
-use Rattle.ks_answer.proofs.Lists.{AllOf}
+use Rattle.ks_machine.proofs.Each.{AllOf}
 use Rattle.ks_answer.proofs.Topics.{IsTopic}
 
 -- no store but those of the own changelogs

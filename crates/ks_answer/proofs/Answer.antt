@@ -46,7 +46,8 @@ use Rattle.ks_work.proofs.Kept.{nothing_is_held_back}
 use Rattle.ks_answer.specs.Plain.{IsCovered, FitKinds, PlainTablesAreTheQuery}
 use Rattle.ks_answer.specs.Folded.{log_part, fold_pairs, node_rows, folded_table}
 use Rattle.ks_answer.specs.Jobs.{HasParts, FitInputs, IsDone, TablesAreTheQuery}
-use Rattle.ks_answer.proofs.Lists.{AllOf, at_node}
+use Rattle.ks_machine.proofs.Each.{AllOf}
+use Rattle.ks_answer.proofs.Lists.{at_node}
 use Rattle.ks_answer.proofs.Topics.{Covers, NodeIs, nodes_are, IsOwned, owned}
 use Rattle.ks_answer.proofs.Agreeing.{Agrees}
 use Rattle.ks_answer.proofs.Steps.{IsPlace, FitsItem, Held, covered_agrees, kinds_count, get_within}

@@ -28,10 +28,11 @@ use Rattle.ks_machine.proofs.Names.{topic-is}
 use Rattle.ks_rest.proofs.Fits.{Fits, NodeFits, EachFits, Sourced}
 use Rattle.ks_work.specs.Work.{setup_of}
 use Rattle.ks_answer.specs.Jobs.{produced_part, produced_rec, produced_of, produces_by, produces, FitsInput, FitInputs}
-use Rattle.ks_answer.proofs.Lists.{AllOf, all_both}
+use Rattle.ks_machine.proofs.Each.{AllOf, all_both}
 use Rattle.ks_answer.proofs.Topics.{IsTopic, same_part-is, input_number, input_topic}
 use Rattle.ks_answer.proofs.Tasks.{has_node_task}
 use Rattle.ks_answer.proofs.Steps.{FitsItem}
+use Rattle.ks_machine.proofs.Numbered.{get_map}
 
 -- ---- what is produced at a partition
 produced_one : (q : PartId) (request : Request) (more : List (PartId × Rec)) → produced_by request q (records_at q more) ≡ records_at q (produces_by request more)
@@ -85,11 +86,6 @@ unmapped setup f (r ∷ rs) h = (h.0, unmapped setup f rs h.1)
 by_recursion : {A : Type 0} (P : A → Type 0) (xs : List A) → AllByRecursion P xs → AllOf P xs
 by_recursion P [] h = tt
 by_recursion P (x ∷ xs) h = (h.0, by_recursion P xs h.1)
-
-get_map : {A B : Type 0} (f : A → B) (xs : List A) (i : ℕ) (x : A) → slice_get xs i ≡ Some x → slice_get (map f xs) i ≡ Some (f x)
-get_map f [] i x e = absurd cc
-get_map f (y ∷ xs) zero x e = let s : y ≡ x = cc in ap (λ v. Some (f v)) s
-get_map f (y ∷ xs) (suc i) x e = get_map f xs i x e
 
 eq_turned : (a b : ℕ) → nat_eq a b ≡ nat_eq b a
 eq_turned a b = by (nat_eq a b) refl (nat_eq b a) refl

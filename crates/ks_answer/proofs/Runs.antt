@@ -23,7 +23,7 @@ use Rattle.ks_machine.proofs.Names.{same_task-is, same_place-is}
 use Rattle.ks_machine.proofs.Agree.{is_decoded}
 use Rattle.ks_machine.proofs.Told.{tells}
 use Rattle.ks_work.specs.Work.{work_of}
-use Rattle.ks_answer.proofs.Lists.{AllOf, all_append}
+use Rattle.ks_machine.proofs.Each.{AllOf, all_append}
 use Rattle.ks_answer.proofs.Topics.{At, IsTopic, same_part-is, read_topic}
 use Rattle.ks_answer.proofs.Agreeing.{IsNeat, MadeFits, StepAgrees, Agrees}
 

@@ -51,11 +51,13 @@ use Rattle.ks_work.proofs.Rows.{project_fits, joined_fits}
 use Rattle.ks_work.proofs.Writes.{kept, OfSub, written_all, owned as items_owned}
 use Rattle.ks_answer.specs.Plain.{is_covered_kind, are_covered, FitsKind}
 use Rattle.ks_answer.specs.Jobs.{HasParts}
-use Rattle.ks_answer.proofs.Lists.{AllOf, all_append, EachNode, each_both, at_node}
+use Rattle.ks_machine.proofs.Each.{AllOf, all_append}
+use Rattle.ks_answer.proofs.Lists.{EachNode, each_both, at_node}
 use Rattle.ks_answer.proofs.Topics.{Covers, IsOwned, IsTopic, number_is, through_topic, NodeIs, nodes_are, own_log, owned}
 use Rattle.ks_answer.proofs.Tasks.{has_node_task}
 use Rattle.ks_answer.proofs.Spelled.{IsTableAggregate, IsStreamAggregate, FitsMessage, message_again, FitsStored, stored_again, shown_fits, taken_fits, applied_fits, added_fits, rows_fit, kept_fits, test_fits, FitsStreamItem, given_fits, then_fits, filter_fits, map_fits, rekey_fits, group_fits, FitsShare, share_fits}
 use Rattle.ks_answer.proofs.Agreeing.{IsNeat, MadeFits, StepAgrees, Agrees}
+use Rattle.ks_machine.proofs.Numbered.{one_longer}
 
 -- ---- partition counts of nodes
 abbrev next_parts : List ℕ → List ℕ → Kind → List ℕ
@@ -69,9 +71,6 @@ at_first (x ∷ xs) ys (suc i) lt = at_first xs ys i (omega (arith, lt))
 at_last : (xs : List ℕ) (y : ℕ) → at (xs ++ y ∷ []) (length xs) ≡ y
 at_last [] y = refl
 at_last (x ∷ xs) y = at_last xs y
-
-one_longer : (xs : List ℕ) (y : ℕ) → length (xs ++ y ∷ []) ≡ suc (length xs)
-one_longer xs y = omega (arith, length-append xs (y ∷ []))
 
 one_part : (counts cs : List ℕ) (k : Kind) → (c : ℕ) × (next_parts counts cs k ≡ cs ++ c ∷ [])
 one_part counts cs (StreamSource t) = (at counts t, refl)

@@ -16,48 +16,7 @@ use Rattle.ks_history.specs.State.{has_task}
 use Rattle.ks_history.proofs.Names.{same_task-refl}
 use Rattle.ks_rest.proofs.Fits.{Fits}
 use Rattle.ks_work.proofs.Labels.{one_count, sub_within}
-
--- ---- numbers below another
-length_up_to : (n : ℕ) → length (up_to n) ≡ n
-length_up_to zero = refl
-length_up_to (suc n) = omega (arith, length-append (up_to n) (n ∷ []), length_up_to n)
-
-get_first : {A : Type 0} (xs ys : List A) (i : ℕ) → i < length xs → slice_get (xs ++ ys) i ≡ slice_get xs i
-get_first [] ys i lt = absurd (omega arith)
-get_first (x ∷ xs) ys zero lt = refl
-get_first (x ∷ xs) ys (suc i) lt = get_first xs ys i (omega arith)
-
-get_last : {A : Type 0} (xs : List A) (x : A) → slice_get (xs ++ x ∷ []) (length xs) ≡ Some x
-get_last [] x = refl
-get_last (y ∷ xs) x = get_last xs x
-
-get_up_to : (n i : ℕ) → i < n → slice_get (up_to n) i ≡ Some i
-get_up_to zero i lt = absurd (omega arith)
-get_up_to (suc n) i lt = by (i == n) refl (λ less. get_up_to n i less)
-  where
-    by : (b : Bool) → (i == n) ≡ b → (i < n → slice_get (up_to n) i ≡ Some i) → slice_get (up_to n ++ n ∷ []) i ≡ Some i
-    by true e more =
-        let is : i ≡ n = eqb-true i n e in
-        ap (slice_get (up_to n ++ n ∷ [])) (is ∙ sym (length_up_to n)) ∙ get_last (up_to n) n ∙ ap (λ (k : ℕ). Some k) (sym is)
-    by false e more =
-        let ne : i ≡ n → ⊥ = λ is. true≢false (sym (eq-eqb i n is) ∙ e) in
-        let less : i < n = omega (arith, lt) in
-        get_first (up_to n) (n ∷ []) i (omega (arith, less, length_up_to n)) ∙ more less
-
-get_map : {A B : Type 0} (f : A → B) (xs : List A) (i : ℕ) (x : A) → slice_get xs i ≡ Some x → slice_get (map f xs) i ≡ Some (f x)
-get_map f [] i x e = absurd cc
-get_map f (y ∷ xs) zero x e = let s : y ≡ x = cc in ap (λ v. Some (f v)) s
-get_map f (y ∷ xs) (suc i) x e = get_map f xs i x e
-
--- the first with a number, where one has it
-first_has : (sub : ℕ) (ss : List ℕ) (m : ℕ) → slice_get ss m ≡ Some sub → slice_get ss (first_in sub ss) ≡ Some sub
-first_has sub [] m e = absurd cc
-first_has sub (s ∷ ss) m e = by (nat_eq s sub) refl m e (λ i g. first_has sub ss i g)
-  where
-    by : (b : Bool) → nat_eq s sub ≡ b → (m : ℕ) → slice_get (s ∷ ss) m ≡ Some sub → ((i : ℕ) → slice_get ss i ≡ Some sub → slice_get ss (first_in sub ss) ≡ Some sub) → slice_get (s ∷ ss) (cond b 0 (suc (first_in sub ss))) ≡ Some sub
-    by true is m e f = ap (λ (v : ℕ). Some v) ((Decides-eqb s sub).0 is)
-    by false is zero e f = let g : s ≡ sub = cc in absurd (true≢false (sym ((Decides-eqb s sub).1 g) ∙ is))
-    by false is (suc i) e f = f i e
+use Rattle.ks_machine.proofs.Numbered.{length_up_to, get_up_to, get_map, first_has}
 
 in_last : (i n : ℕ) (xs : List ℕ) → has_topic i xs ≡ true → has_topic i (xs ++ n ∷ []) ≡ true
 in_last i n [] h = absurd (true≢false (sym h))

@@ -21,7 +21,10 @@ use Rattle.ks_machine.proofs.Names.{topic-is, topic_itself}
 use Rattle.ks_machine.proofs.Numbers.{place-is}
 use Rattle.ks_rest.proofs.Fits.{Fits, NodeFits, EachFits}
 use Rattle.ks_answer.specs.Plain.{is_covered_kind, are_covered, IsCovered, FitsKind, FitKinds}
-use Rattle.ks_answer.proofs.Lists.{AllOf, all_map, all_left, all_right, all_append, all_both, all_filter, all_kept, all_cond, all_unmapped, all_up_to, EachNode, each_node, each_both, each_map, of_nodes, by_nodes, all_numbered, Numbered, numbered}
+use Rattle.ks_machine.proofs.Each.{AllOf, all_map, all_left, all_right, all_append, all_both, all_filter, all_cond}
+use Rattle.ks_answer.proofs.Lists.{all_kept, all_unmapped, all_up_to, EachNode, each_node, each_both, each_map, of_nodes, by_nodes, all_numbered, Numbered, numbered}
+use Rattle.ks_machine.proofs.Numbered.{length_up_to}
+use Rattle.ks_machine.proofs.Numbers.{NoLog, through_none}
 
 -- ---- places in a list of topics
 abbrev Found : List Topic → Topic → Type 0
@@ -38,23 +41,6 @@ all_found [] = tt
 all_found (y ∷ us) = (ap (λ b. slice_get (y ∷ us) (cond b 0 (suc (place_of us y)))) (topic_itself y), all_map (Found us) (Found (y ∷ us)) (found_more y us) us (all_found us))
 
 -- ---- which topics are changelogs
-abbrev NoLog : Topic → Type 0
-NoLog t = is_changelog t ≡ false
-
-through_none : (n : ℕ) (w : Wiring) → AllOf NoLog (wired_through n w)
-through_none n (wired.StreamSource t) = tt
-through_none n (wired.TableSource t) = tt
-through_none n (wired.StreamFilter f) = tt
-through_none n (wired.TableFilter f) = tt
-through_none n (wired.StreamMap f) = tt
-through_none n (wired.TableMap f) = tt
-through_none n (wired.KeySelected f) = tt
-through_none n (wired.StreamAggregate f through) = all_cond NoLog through (Repartition n ∷ []) [] (refl, tt) tt
-through_none n (wired.TableAggregate f) = (refl, tt)
-through_none n (wired.Windowed f through) = all_cond NoLog through (Repartition n ∷ []) [] (refl, tt) tt
-through_none n (wired.KeyJoin l r) = tt
-through_none n (wired.ForeignKeyJoin l r) = (refl, (refl, tt))
-
 through_nodes : (n : ℕ) (ks : List Kind) → AllOf NoLog (by_node through_topics n ks)
 through_nodes n [] = tt
 through_nodes n (k ∷ ks) = all_append NoLog (through_topics n k) (by_node through_topics (suc n) ks) (through_none n (wiring_of k)) (through_nodes (suc n) ks)
@@ -82,10 +68,6 @@ place_past m (x ∷ xs) ys h =
 all_below : (n m : ℕ) → n < suc m → AllOf (λ x. x < m) (up_to n)
 all_below zero m le = tt
 all_below (suc n) m le = all_append (λ x. x < m) (up_to n) (n ∷ []) (all_below n m (omega (arith, le))) (omega (arith, le), tt)
-
-length_up_to : (n : ℕ) → length (up_to n) ≡ n
-length_up_to zero = refl
-length_up_to (suc n) = omega (arith, length-append (up_to n) (n ∷ []), length_up_to n)
 
 map_inputs : (xs : List ℕ) (n : ℕ) (ys : List Topic) → map Input (xs ++ n ∷ []) ++ ys ≡ map Input xs ++ Input n ∷ ys
 map_inputs [] n ys = refl

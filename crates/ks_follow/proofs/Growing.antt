@@ -31,6 +31,7 @@ use Rattle.ks_replay.proofs.Slots.{next_mark-sent, decided-sent, decided-append,
 use Rattle.ks_replay.proofs.Sound.{IsOfTx, Owned, Distinct, Sound}
 use Rattle.ks_follow.specs.Commits.{commit_by, commits_by, commits_for}
 use Rattle.ks_follow.proofs.Offsets.{below-append}
+use Rattle.ks_replay.proofs.Undecided.{renewed_quiet, add_quiet, offsets_quiet, named, named_quiet, appended}
 
 -- the list with more at its end
 abbrev pub Longer : List Logged → List Logged → Type 0
@@ -163,64 +164,21 @@ module _ (setup : Setup) (net : IsNetwork setup.plan) where
     }
 
   -- ---- the others decide nothing
-  has_task-more : (t u : TaskId) (ts : List TaskId) → has_task t ts ≡ true → has_task t (ts ++ u ∷ []) ≡ true
-  has_task-more t u [] h = absurd (true≢false (sym h))
-  has_task-more t u (x ∷ xs) h = ⊎_elim (λ l. or_left (same_task t x) _ l) (λ g. or_right (same_task t x) _ (has_task-more t u xs g)) (or_cases (same_task t x) (has_task t xs) h)
-
-  has_task-last : (t : TaskId) (ts : List TaskId) → has_task t (ts ++ t ∷ []) ≡ true
-  has_task-last t [] = or_left (same_task t t) false (same_task-refl t)
-  has_task-last t (x ∷ xs) = or_right (same_task t x) _ (has_task-last t xs)
-
-  add_quiet : (s : State) (w e : ℕ) (p : PartId) → markers_waiting (s.producer w) ≡ None → Sound setup s → Quiet s (effect s (Add w e p))
-  add_quiet s w e p free sound =
-      producer_quiet setup s w _ sound
-      (grow_goes (s.producer w) _ (record (tx_of (s.producer w)) { parts = insert_part p (tx_of (s.producer w)).parts }) (none_waiting (s.producer w) (sound.markers w) free) refl refl refl
-      (λ t h. h) (λ q h. has_part-insert q p (tx_of (s.producer w)).parts h) (subst Distinct (tx_pending (s.producer w)) (sound.distinct w)))
-
-  offsets_quiet : (s : State) (w e g : ℕ) (t : TaskId) (offsets order : List (ℕ × ℕ)) (late : ℕ) → markers_waiting (s.producer w) ≡ None → Sound setup s → Quiet s (effect s (SendOffsets w e g t offsets order late))
-  offsets_quiet s w e g t offsets order late free sound =
-      let new : Pending = record { task = t; offsets = offsets; order = order; late = late } in
-      producer_quiet setup s w _ sound
-      (grow_goes (s.producer w) _ (record (tx_of (s.producer w)) { pending = with_pending new (tx_of (s.producer w)).pending }) (none_waiting (s.producer w) (sound.markers w) free) refl refl refl
-      (λ t h. h) (λ q h. h) (Distinct-with new (tx_of (s.producer w)).pending (subst Distinct (tx_pending (s.producer w)) (sound.distinct w))))
-
-  module _ (s : State) (w e number : ℕ) (t : TaskId) (p : PartId) (rs : List Rec) (tx : Transaction) (is : (s.producer w).undecided ≡ Some tx) (there : has_part p tx.parts ≡ true) (now_epoch : e ≡ (s.producer w).epoch) (sound : Sound setup s) where
-    abbrev tx_more : Transaction
-    tx_more = record (tx_of (s.producer w)) { tasks = (tx_of (s.producer w)).tasks ++ t ∷ [] }
-
-    abbrev named : State
-    named = record s { producer = with_number s.producer w (record (s.producer w) { undecided = Some (record (tx_of (s.producer w)) { tasks = (tx_of (s.producer w)).tasks ++ t ∷ [] }) }) }
-
-    named_quiet : Quiet s named
-    named_quiet = producer_quiet setup s w _ sound
-        (grow_goes (s.producer w) _ tx_more (sound.markers w tx is) refl refl refl (λ u h. has_task-more u t (tx_of (s.producer w)).tasks h) (λ q h. h) (subst Distinct (tx_pending (s.producer w)) (sound.distinct w)))
-
-    not_lost : is_commit (waiting_at (markers_of named) p w e) ≡ false
-    not_lost = at_number (λ (x : Producer). is_commit (marker_among p e x.waiting)) s.producer w _ refl w ∙ ap (λ l. is_commit (marker_among p e l)) (sound.markers w tx is)
-
-    is_owned : Owned named.producer p w e t
-    is_owned = subst (λ b. (marker_among p e (cond b (record (s.producer w) { undecided = Some tx_more }) (s.producer w)).waiting ≢ None) ⊎ IsOfTx (cond b (record (s.producer w) { undecided = Some tx_more }) (s.producer w)) p e t)
-        (sym (eq-eqb w w refl))
-        (inr (record { tx = tx_more; undecided = refl; epoch = now_epoch; task = has_task-last t (tx_of (s.producer w)).tasks; part = ap (λ (x : Transaction). has_part p x.parts) (tx_is (s.producer w) tx is) ∙ there }))
-
-    appended : Quiet named (effect s (Append w e number t p rs))
-    appended = slots_quiet setup named p (sent_slots w e number t rs) (quiet_sound setup s named named_quiet sound) (λ v d. next_mark-sent v d w e number t rs)
-        (λ n. decided-sent (waiting_at (markers_of named) p) w e not_lost n number t rs) (Open-sent (Owned named.producer p) w e number t rs is_owned)
-
-    append_moved : Moved s (Append w e number t p rs) None (effect s (Append w e number t p rs))
-    append_moved = record {
-      grown = grown_twice s named _ (decided_grown s named named_quiet.decided_same named_quiet.stable_grows) (decided_grown named _ appended.decided_same appended.stable_grows);
-      rests = λ u none. record { committed = λ topic. refl; own = λ q. ap (by_sender (Some u)) (appended.decided_same q ∙ named_quiet.decided_same q) };
-    }
-
-  renewed_quiet : (s : State) (w : ℕ) → Sound setup s → Quiet s (record s { producer = with_number s.producer w (renewed (s.producer w)) })
-  renewed_quiet s w sound = producer_quiet setup s w _ sound (abort_goes (s.producer w) (renewed (s.producer w)) (s.producer w).undecided refl (closed_undecided (s.producer w) false) (closed_waiting (s.producer w)))
+  append_moved : (s : State) (w e number : ℕ) (t : TaskId) (p : PartId) (rs : List Rec) (tx : Transaction) → (s.producer w).undecided ≡ Some tx → has_part p tx.parts ≡ true → e ≡ (s.producer w).epoch → Sound setup s
+      → Moved s (Append w e number t p rs) None (effect s (Append w e number t p rs))
+  append_moved s w e number t p rs tx is there now_epoch sound =
+      let first : Quiet s (named setup s w e number t p rs tx is there now_epoch sound) = named_quiet setup s w e number t p rs tx is there now_epoch sound in
+      let second = appended setup s w e number t p rs tx is there now_epoch sound in
+      record {
+        grown = grown_twice s (named setup s w e number t p rs tx is there now_epoch sound) _ (decided_grown s _ first.decided_same first.stable_grows) (decided_grown _ _ second.decided_same second.stable_grows);
+        rests = λ u none. record { committed = λ topic. refl; own = λ q. ap (by_sender (Some u)) (second.decided_same q ∙ first.decided_same q) };
+      }
 
   -- ---- any entry
   pub moved : (s : State) (request : Request) (r : Option Refused) → refusal setup s request ≡ r → CommitsFaithfully setup s request → Sound setup s → Moved s request r (state_by s request r)
   moved s (Produce p rec) None is f sound = produce_moved s p rec
-  moved s (Init w) None is f sound = quiet_moved s _ (Init w) None (renewed_quiet s w sound)
-  moved s (Add w e p) None is f sound = quiet_moved s _ (Add w e p) None (add_quiet s w e p (both_none _ _ is).1 sound)
+  moved s (Init w) None is f sound = quiet_moved s _ (Init w) None (renewed_quiet setup s w sound)
+  moved s (Add w e p) None is f sound = quiet_moved s _ (Add w e p) None (add_quiet setup s w e p (both_none _ _ is).1 sound)
   moved s (Append w e number t p rs) None is f sound =
       let a = both_none (fenced (s.producer w) e) _ is in
       let b = both_none (without_part (s.producer w) p) _ a.1 in
@@ -231,7 +189,7 @@ module _ (setup : Setup) (net : IsNetwork setup.plan) where
       let a = both_none (fenced (s.producer w) e) (or_else (old_generation s g) (or_else (not_assigned s w t) (or_else (markers_waiting (s.producer w)) last))) is in
       let b = both_none (old_generation s g) (or_else (not_assigned s w t) (or_else (markers_waiting (s.producer w)) last)) a.1 in
       let c = both_none (not_assigned s w t) (or_else (markers_waiting (s.producer w)) last) b.1 in
-      quiet_moved s _ (SendOffsets w e g t offsets order late) None (offsets_quiet s w e g t offsets order late (both_none (markers_waiting (s.producer w)) last c.1).0 sound)
+      quiet_moved s _ (SendOffsets w e g t offsets order late) None (offsets_quiet setup s w e g t offsets order late (both_none (markers_waiting (s.producer w)) last c.1).0 sound)
   moved s (Decide w e true) None is f sound =
       let u = some_undecided (s.producer w) e is in
       commit_moved s w e u.0 u.1 sound (f is u.0 u.1)
@@ -261,7 +219,7 @@ module _ (setup : Setup) (net : IsNetwork setup.plan) where
             assignment = None;
           }) s)
       by true =
-          let quiet = renewed_quiet s w sound in
+          let quiet = renewed_quiet setup s w sound in
           record {
             grown = decided_grown s _ quiet.decided_same quiet.stable_grows;
             rests = λ t none. record { committed = λ topic. refl; own = λ q. ap (by_sender (Some t)) (quiet.decided_same q) };

@@ -1,5 +1,7 @@
 pub mod Names
 pub mod Told
+pub mod Each
+pub mod Numbered
 pub mod Numbers
 pub mod Alone
 pub mod Pairs

@@ -15,57 +15,21 @@ use Rattle.ks_machine.specs.Tasks.{is_changelog}
 use Rattle.ks_machine.specs.Bytes.{has_number, is_own_number, taker_at, reader_number}
 use Rattle.ks_machine.specs.Laws.{IsApart}
 use Rattle.ks_machine.proofs.Names.{topic-is, topic_itself}
-
--- ---- what holds of each of a list
-abbrev AllOf : {A : Type 0} → (A → Type 0) → List A → Type 0
-AllOf P [] = Unit {0}
-AllOf P (x ∷ xs) = P x × AllOf P xs
-
-all_map : {A : Type 0} (P Q : A → Type 0) → ((x : A) → P x → Q x) → (xs : List A) → AllOf P xs → AllOf Q xs
-all_map P Q f [] h = tt
-all_map P Q f (x ∷ xs) h = (f x h.0, all_map P Q f xs h.1)
-
-all_left : {A : Type 0} (P : A → Type 0) (xs ys : List A) → AllOf P (xs ++ ys) → AllOf P xs
-all_left P [] ys h = tt
-all_left P (x ∷ xs) ys h = (h.0, all_left P xs ys h.1)
-
-all_right : {A : Type 0} (P : A → Type 0) (xs ys : List A) → AllOf P (xs ++ ys) → AllOf P ys
-all_right P [] ys h = h
-all_right P (x ∷ xs) ys h = all_right P xs ys h.1
-
-all_append : {A : Type 0} (P : A → Type 0) (xs ys : List A) → AllOf P xs → AllOf P ys → AllOf P (xs ++ ys)
-all_append P [] ys g h = h
-all_append P (x ∷ xs) ys g h = (g.0, all_append P xs ys g.1 h)
-
-all_both : {A : Type 0} (P Q : A → Type 0) (xs : List A) → AllOf P xs → AllOf Q xs → AllOf (λ x. P x × Q x) xs
-all_both P Q [] g h = tt
-all_both P Q (x ∷ xs) g h = ((g.0, h.0), all_both P Q xs g.1 h.1)
-
-all_filter : {A : Type 0} (P : A → Type 0) (f : A → Bool) (xs : List A) → AllOf P xs → AllOf (λ x. P x × (f x ≡ true)) (filter f xs)
-all_filter P f [] h = tt
-all_filter P f (x ∷ xs) h =
-    let rest = all_filter P f xs h.1 in
-    elim (f x) as (λ b. f x ≡ b → AllOf (λ x. P x × (f x ≡ true)) (cond b (x ∷ filter f xs) (filter f xs))) [
-      | true ↦ λ e. ((h.0, e), rest)
-      | false ↦ λ e. rest
-    ] refl
+use Rattle.ks_machine.proofs.Numbered.{length_up_to}
+use Rattle.ks_machine.proofs.Each.{AllOf, all_map, all_left, all_right, all_append, all_both, all_filter, all_cond}
 
 all_nodes : (P : Topic → Type 0) (f : ℕ → Kind → List Topic) → ((n : ℕ) (k : Kind) → AllOf P (f n k)) → (n : ℕ) (ks : List Kind) → AllOf P (by_node f n ks)
 all_nodes P f h n [] = tt
 all_nodes P f h n (k ∷ ks) = all_append P (f n k) (by_node f (suc n) ks) (h n k) (all_nodes P f h (suc n) ks)
 
-all_cond : (P : Topic → Type 0) (b : Bool) (xs ys : List Topic) → AllOf P xs → AllOf P ys → AllOf P (cond b xs ys)
-all_cond P true xs ys g h = g
-all_cond P false xs ys g h = h
-
 -- ---- which topics are changelogs
 abbrev pub IsLog : Topic → Type 0
 IsLog t = is_changelog t ≡ true
 
-abbrev NoLog : Topic → Type 0
+abbrev pub NoLog : Topic → Type 0
 NoLog t = is_changelog t ≡ false
 
-through_none : (n : ℕ) (w : Wiring) → AllOf NoLog (wired_through n w)
+pub through_none : (n : ℕ) (w : Wiring) → AllOf NoLog (wired_through n w)
 through_none n (wired.StreamSource t) = tt
 through_none n (wired.TableSource t) = tt
 through_none n (wired.StreamFilter f) = tt
@@ -204,14 +168,6 @@ module _ (p : Plan) where
   after_inputs (n ∷ ns) ys t h =
       let rest : length ns ≤ place_of (map Input ns ++ ys) t = after_inputs ns ys t h in
       rw (no_input_log n t h) (omega arith)
-
-  length_push : (xs : List ℕ) (x : ℕ) → length (xs ++ x ∷ []) ≡ length xs + 1
-  length_push [] x = refl
-  length_push (y ∷ ys) x = let rest : length (ys ++ x ∷ []) ≡ length ys + 1 = length_push ys x in omega arith
-
-  length_up_to : (n : ℕ) → length (up_to n) ≡ n
-  length_up_to zero = refl
-  length_up_to (suc n) = let e : length (up_to n) ≡ n = length_up_to n in let f : length (up_to n ++ n ∷ []) ≡ length (up_to n) + 1 = length_push (up_to n) n in omega arith
 
   no_source : (sub n : ℕ) → is_own_number p sub n ≡ true → length p.counts ≤ n
   no_source sub n h =

@@ -7,6 +7,7 @@ pub mod Commits
 pub mod Quiet
 pub mod Inputs
 pub mod Refusals
+pub mod Undecided
 pub mod Replays
 pub mod Keeping
 pub mod Counts

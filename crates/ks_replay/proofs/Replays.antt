@@ -36,6 +36,7 @@ use Rattle.ks_replay.proofs.Quiet.{Quiet, quiet_shows, quiet_sound, produce_show
 use Rattle.ks_replay.proofs.Refusals.{some_undecided, both_none, not_fenced, with_part, closed_undecided, closed_waiting}
 use Rattle.ks_replay.proofs.Slots.{next_mark-sent, decided-sent, Open-sent, decided_below}
 use Rattle.ks_replay.proofs.Sound.{IsOfTx, Owned, Distinct, Shows, Sound}
+use Rattle.ks_replay.proofs.Undecided.{renewed_quiet, add_quiet, offsets_quiet, named, named_quiet, appended}
 
 module _ {Task Place Store Item : Type 0} (m : Machine Task Place Store Item) where
   TakesEach-append : (st : RunState Task Place Store Item) (xs ys : List (Option Task × Place)) → TakesEach m st xs → TakesEach m (fold (advance m) st xs) ys → TakesEach m st (xs ++ ys)
@@ -69,50 +70,6 @@ module _ (setup : Setup) (net : IsNetwork setup.plan) where
         goes = λ more. (fed_later (network setup.plan) (has_names setup.plan) more st _ t.each).1;
       }
 
-  has_task-more : (t u : TaskId) (ts : List TaskId) → has_task t ts ≡ true → has_task t (ts ++ u ∷ []) ≡ true
-  has_task-more t u [] h = absurd (true≢false (sym h))
-  has_task-more t u (x ∷ xs) h = ⊎_elim (λ l. or_left (same_task t x) _ l) (λ g. or_right (same_task t x) _ (has_task-more t u xs g)) (or_cases (same_task t x) (has_task t xs) h)
-
-  has_task-last : (t : TaskId) (ts : List TaskId) → has_task t (ts ++ t ∷ []) ≡ true
-  has_task-last t [] = or_left (same_task t t) false (same_task-refl t)
-  has_task-last t (x ∷ xs) = or_right (same_task t x) _ (has_task-last t xs)
-
-  add_step : (s : State) (st : RunState TaskId PartId Stores Rec) (w e : ℕ) (p : PartId) → markers_waiting (s.producer w) ≡ None → Sound setup s → Quiet s (effect s (Add w e p))
-  add_step s st w e p free sound =
-      producer_quiet setup s w _ sound
-      (grow_goes (s.producer w) _ (record (tx_of (s.producer w)) { parts = insert_part p (tx_of (s.producer w)).parts }) (none_waiting (s.producer w) (sound.markers w) free) refl refl refl
-      (λ t h. h) (λ q h. has_part-insert q p (tx_of (s.producer w)).parts h) (subst Distinct (tx_pending (s.producer w)) (sound.distinct w)))
-
-  offsets_step : (s : State) (w e g : ℕ) (t : TaskId) (offsets order : List (ℕ × ℕ)) (late : ℕ) → markers_waiting (s.producer w) ≡ None → Sound setup s → Quiet s (effect s (SendOffsets w e g t offsets order late))
-  offsets_step s w e g t offsets order late free sound =
-      let new : Pending = record { task = t; offsets = offsets; order = order; late = late } in
-      producer_quiet setup s w _ sound
-      (grow_goes (s.producer w) _ (record (tx_of (s.producer w)) { pending = with_pending new (tx_of (s.producer w)).pending }) (none_waiting (s.producer w) (sound.markers w) free) refl refl refl
-      (λ t h. h) (λ q h. h) (Distinct-with new (tx_of (s.producer w)).pending (subst Distinct (tx_pending (s.producer w)) (sound.distinct w))))
-
-  module _ (s : State) (w e number : ℕ) (t : TaskId) (p : PartId) (rs : List Rec) (tx : Transaction) (is : (s.producer w).undecided ≡ Some tx) (there : has_part p tx.parts ≡ true) (now_epoch : e ≡ (s.producer w).epoch) (sound : Sound setup s) where
-    abbrev tx_more : Transaction
-    tx_more = record (tx_of (s.producer w)) { tasks = (tx_of (s.producer w)).tasks ++ t ∷ [] }
-
-    abbrev named : State
-    named = record s { producer = with_number s.producer w (record (s.producer w) { undecided = Some (record (tx_of (s.producer w)) { tasks = (tx_of (s.producer w)).tasks ++ t ∷ [] }) }) }
-
-    named_quiet : Quiet s named
-    named_quiet = producer_quiet setup s w _ sound
-        (grow_goes (s.producer w) _ tx_more (sound.markers w tx is) refl refl refl (λ u h. has_task-more u t (tx_of (s.producer w)).tasks h) (λ q h. h) (subst Distinct (tx_pending (s.producer w)) (sound.distinct w)))
-
-    not_lost : is_commit (waiting_at (markers_of named) p w e) ≡ false
-    not_lost = at_number (λ (x : Producer). is_commit (marker_among p e x.waiting)) s.producer w _ refl w ∙ ap (λ l. is_commit (marker_among p e l)) (sound.markers w tx is)
-
-    is_owned : Owned named.producer p w e t
-    is_owned = subst (λ b. (marker_among p e (cond b (record (s.producer w) { undecided = Some tx_more }) (s.producer w)).waiting ≢ None) ⊎ IsOfTx (cond b (record (s.producer w) { undecided = Some tx_more }) (s.producer w)) p e t)
-        (sym (eq-eqb w w refl))
-        (inr (record { tx = tx_more; undecided = refl; epoch = now_epoch; task = has_task-last t (tx_of (s.producer w)).tasks; part = ap (λ (x : Transaction). has_part p x.parts) (tx_is (s.producer w) tx is) ∙ there }))
-
-    appended : Quiet named (effect s (Append w e number t p rs))
-    appended = slots_quiet setup named p (sent_slots w e number t rs) (quiet_sound setup s named named_quiet sound) (λ v d. next_mark-sent v d w e number t rs)
-        (λ n. decided-sent (waiting_at (markers_of named) p) w e not_lost n number t rs) (Open-sent (Owned named.producer p) w e number t rs is_owned)
-
   -- ---- what neither partitions nor producers nor offsets show
   beside : (s : State) (st : RunState TaskId PartId Stores Rec) (request : Request) (generation : ℕ) (members : List ℕ) (assignment : Option Assignment) (held : ℕ → List (TaskId × ℕ)) (parked : ℕ → TaskId → Bool)
       → Sound setup s → Shows setup s st → (takes_by setup s request None ≡ []) → ((q : PartId) (more : List Rec) → produced_by request q more ≡ more)
@@ -125,9 +82,6 @@ module _ (setup : Setup) (net : IsNetwork setup.plan) where
     each = λ more. subst (λ (l : List (Taken TaskId PartId Rec)). TakesEach (network setup.plan) (fed (network setup.plan) st (λ q. produced_by request q (more q))) (map (channel (network setup.plan)) l)) (sym none) tt;
     goes = λ more. ap₂ (λ (l : List (Taken TaskId PartId Rec)) (inputs : PartId → List Rec). fold (advance (network setup.plan)) (fed (network setup.plan) st inputs) (map (channel (network setup.plan)) l)) none (λ i q. same q (more q) i);
   }
-
-  renewed_quiet : (s : State) (w : ℕ) → Sound setup s → Quiet s (record s { producer = with_number s.producer w (renewed (s.producer w)) })
-  renewed_quiet s w sound = producer_quiet setup s w _ sound (abort_goes (s.producer w) (renewed (s.producer w)) (s.producer w).undecided refl (closed_undecided (s.producer w) false) (closed_waiting (s.producer w)))
 
   -- ---- any entry
   step : (s : State) (st : RunState TaskId PartId Stores Rec) (request : Request) (r : Option Refused) → refusal setup s request ≡ r → Meets setup s request → CommitsFaithfully setup s request
@@ -148,19 +102,19 @@ module _ (setup : Setup) (net : IsNetwork setup.plan) where
   step s st (Produce p rec) (Some refused) is meets f sound shows = absurd cc
   step s st (Init w) (Some refused) is meets f sound shows = absurd cc
   step s st (Init w) None is meets f sound shows =
-      let quiet = renewed_quiet s w sound in
+      let quiet = renewed_quiet setup s w sound in
       record { now = st; shows = quiet_shows setup s _ st quiet shows; sound = quiet_sound setup s _ quiet sound; taken = sym (append-nil st.taken); each = λ more. tt; goes = λ more. refl }
   step s st (Add w e p) (Some refused) is meets f sound shows = record { now = st; shows = shows; sound = sound; taken = sym (append-nil st.taken); each = λ more. tt; goes = λ more. refl }
   step s st (Add w e p) None is meets f sound shows =
-      let quiet = add_step s st w e p (both_none _ _ is).1 sound in
+      let quiet = add_quiet setup s w e p (both_none _ _ is).1 sound in
       record { now = st; shows = quiet_shows setup s _ st quiet shows; sound = quiet_sound setup s _ quiet sound; taken = sym (append-nil st.taken); each = λ more. tt; goes = λ more. refl }
   step s st (Append w e number t p rs) (Some refused) is meets f sound shows = record { now = st; shows = shows; sound = sound; taken = sym (append-nil st.taken); each = λ more. tt; goes = λ more. refl }
   step s st (Append w e number t p rs) None is meets f sound shows =
       let a = both_none (fenced (s.producer w) e) _ is in
       let b = both_none (without_part (s.producer w) p) _ a.1 in
       let c = with_part (s.producer w) p b.0 in
-      let first : Quiet s (named s w e number t p rs c.0 c.1 c.2 (not_fenced (s.producer w) e a.0) sound) = named_quiet s w e number t p rs c.0 c.1 c.2 (not_fenced (s.producer w) e a.0) sound in
-      let second = appended s w e number t p rs c.0 c.1 c.2 (not_fenced (s.producer w) e a.0) sound in
+      let first : Quiet s (named setup s w e number t p rs c.0 c.1 c.2 (not_fenced (s.producer w) e a.0) sound) = named_quiet setup s w e number t p rs c.0 c.1 c.2 (not_fenced (s.producer w) e a.0) sound in
+      let second = appended setup s w e number t p rs c.0 c.1 c.2 (not_fenced (s.producer w) e a.0) sound in
       record {
         now = st;
         shows = quiet_shows setup _ _ st second (quiet_shows setup s _ st first shows);
@@ -175,7 +129,7 @@ module _ (setup : Setup) (net : IsNetwork setup.plan) where
       let a = both_none (fenced (s.producer w) e) (or_else (old_generation s g) (or_else (not_assigned s w t) (or_else (markers_waiting (s.producer w)) last))) is in
       let b = both_none (old_generation s g) (or_else (not_assigned s w t) (or_else (markers_waiting (s.producer w)) last)) a.1 in
       let c = both_none (not_assigned s w t) (or_else (markers_waiting (s.producer w)) last) b.1 in
-      let quiet = offsets_step s w e g t offsets order late (both_none (markers_waiting (s.producer w)) last c.1).0 sound in
+      let quiet = offsets_quiet setup s w e g t offsets order late (both_none (markers_waiting (s.producer w)) last c.1).0 sound in
       record { now = st; shows = quiet_shows setup s _ st quiet shows; sound = quiet_sound setup s _ quiet sound; taken = sym (append-nil st.taken); each = λ more. tt; goes = λ more. refl }
   step s st (Decide w e true) (Some refused) is meets f sound shows = record { now = st; shows = shows; sound = sound; taken = sym (append-nil st.taken); each = λ more. tt; goes = λ more. refl }
   step s st (Decide w e true) None is meets f sound shows =
@@ -214,7 +168,7 @@ module _ (setup : Setup) (net : IsNetwork setup.plan) where
             assignment = None;
           }) s)
       by true =
-          let quiet = renewed_quiet s w sound in
+          let quiet = renewed_quiet setup s w sound in
           let aborted : State = record s { producer = with_number s.producer w (renewed (s.producer w)) } in
           let more : Stepped aborted st (Expire w) None (record aborted { members = without_number w s.members; held = with_number s.held w []; generation = s.generation + 1; assignment = None }) =
           beside aborted st (Expire w) _ _ _ _ _ (quiet_sound setup s _ quiet sound) (quiet_shows setup s _ st quiet shows) refl (λ q more. refl) in

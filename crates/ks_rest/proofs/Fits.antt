@@ -80,10 +80,10 @@ length_map f [] = refl
 length_map f (x ∷ xs) = ap (λ n. suc n) (length_map f xs)
 
 -- ---- labels: each kind adds one, and nodes with one label keep one label
-one_more : (xs : List ℕ) (x : ℕ) → length (xs ++ x ∷ []) ≡ suc (length xs)
+pub one_more : (xs : List ℕ) (x : ℕ) → length (xs ++ x ∷ []) ≡ suc (length xs)
 one_more xs x = omega (arith, length-append xs (x ∷ []))
 
-label_count : (ls : List ℕ) (k : Kind) → length (label_next ls k) ≡ suc (length ls)
+pub label_count : (ls : List ℕ) (k : Kind) → length (label_next ls k) ≡ suc (length ls)
 label_count ls (KeyJoin l r kind s) =
     let a = min (at ls l) (at ls r) in
     let b = max (at ls l) (at ls r) in

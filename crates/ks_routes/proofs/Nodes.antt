@@ -15,6 +15,7 @@ use Rattle.ks_machine.proofs.Names.{topic-is, topic_itself}
 use Rattle.ks_history.specs.Machine.{has_topic}
 use Rattle.ks_history.specs.State.{IsPart}
 use Rattle.ks_work.specs.Work.{setup_of}
+use Rattle.ks_machine.proofs.Numbered.{get_map}
 
 -- ---- lists of topics
 abbrev pub Among : Topic → List Topic → Type 0
@@ -59,11 +60,6 @@ named number f t (x ∷ xs) h e = by (f x) refl h (λ g. named number f t xs g e
     by true is (inr g) k = or_right (number t == number x) _ (k g)
     by false is (inl g) k = absurd (true≢false (sym e ∙ ap f (sym g) ∙ is))
     by false is (inr g) k = k g
-
-get_map : {A B : Type 0} (f : A → B) (xs : List A) (i : ℕ) (x : A) → slice_get xs i ≡ Some x → slice_get (map f xs) i ≡ Some (f x)
-get_map f [] i x e = absurd cc
-get_map f (y ∷ xs) zero x e = let s : y ≡ x = cc in ap (λ v. Some (f v)) s
-get_map f (y ∷ xs) (suc i) x e = get_map f xs i x e
 
 module _ (rules : Rules) (p : Plan) where
   -- as many partitions as the topic has

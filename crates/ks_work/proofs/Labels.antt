@@ -7,7 +7,7 @@ use Rattle.std.proofs.lemmas.Bool.Decides.{Decides-eqb}
 use Rattle.ks_plan.specs.Plan.{Plan, Kind}
 use Rattle.ks_plan.specs.Plan.Kind.{StreamSource, TableSource, StreamFilter, TableFilter, StreamMap, TableMap, KeySelected, StreamAggregate, TableAggregate, Windowed, KeyJoin, ForeignKeyJoin}
 use Rattle.ks_plan.specs.Layout.{at, relabel, join_labels, label_next, labels, firsts, sub_of, parts_of}
-use Rattle.ks_rest.proofs.Fits.{Fits, NodeFits, EachFits}
+use Rattle.ks_rest.proofs.Fits.{Fits, NodeFits, EachFits, one_more, label_count}
 
 at_before : (xs ys : List ℕ) (n : ℕ) → n < length xs → at (xs ++ ys) n ≡ at xs n
 at_before [] ys n lt = absurd (omega arith)
@@ -22,9 +22,6 @@ at_map : (f : ℕ → ℕ) (xs : List ℕ) (n : ℕ) → n < length xs → at (m
 at_map f [] n lt = absurd (omega arith)
 at_map f (x ∷ xs) zero lt = refl
 at_map f (x ∷ xs) (suc n) lt = at_map f xs n (omega arith)
-
-one_more : (xs : List ℕ) (x : ℕ) → length (xs ++ x ∷ []) ≡ suc (length xs)
-one_more xs x = omega (arith, length-append xs (x ∷ []))
 
 -- each label is that of a node before it, which labels itself, with the same partitions
 record Labelled (P : ℕ → ℕ) (ls : List ℕ) : Type 0 where
@@ -143,23 +140,6 @@ module _ (p : Plan) where
   labelled_next ls (Windowed f by w false) h fit = let b = fit.1 refl in follows (parts_of p) ls f h b.before b.parts
   labelled_next ls (KeyJoin l r kind s) h fit = joins (parts_of p) ls l r h fit.0.before fit.1.before fit.0.parts fit.1.parts
   labelled_next ls (ForeignKeyJoin l r fk kind s) h fit = follows (parts_of p) ls l h fit.0.before fit.0.parts
-
-  label_count : (ls : List ℕ) (k : Kind) → length (label_next ls k) ≡ suc (length ls)
-  label_count ls (KeyJoin l r kind s) =
-      let a = min (at ls l) (at ls r) in
-      let b = max (at ls l) (at ls r) in
-      one_more (relabel a b ls) a ∙ ap (λ n. suc n) (length-map ls (λ x. cond (nat_eq x b) a x))
-  label_count ls (StreamSource t) = one_more ls _
-  label_count ls (TableSource t) = one_more ls _
-  label_count ls (StreamFilter f p) = one_more ls _
-  label_count ls (TableFilter f p) = one_more ls _
-  label_count ls (StreamMap f s) = one_more ls _
-  label_count ls (TableMap f s) = one_more ls _
-  label_count ls (KeySelected f k) = one_more ls _
-  label_count ls (StreamAggregate f by field through) = one_more ls _
-  label_count ls (TableAggregate f by field) = one_more ls _
-  label_count ls (Windowed f by w through) = one_more ls _
-  label_count ls (ForeignKeyJoin l r fk kind s) = one_more ls _
 
   labelled_all : (ls : List ℕ) (n : ℕ) (ks : List Kind) → n ≡ length ls → Labelled (parts_of p) ls → EachFits p n ks → Labelled (parts_of p) (fold label_next ls ks) × (length (fold label_next ls ks) ≡ n + length ks)
   labelled_all ls n [] e h fit = (h, omega (arith, e))
