@@ -7,7 +7,7 @@ use Rattle.ks_history.specs.Machine.{has_topic}
 use Rattle.ks_plan.specs.Plan.{Kind}
 use Rattle.ks_plan.specs.Layout.{by_node, up_to}
 use Rattle.ks_plan.specs.declared.node.Topic.{Topic}
-use Rattle.ks_machine.proofs.Each.{AllOf, all_left, all_right}
+use Rattle.ks_machine.proofs.Each.{AllOf, all_map, all_left, all_right, all_append}
 
 -- ---- what holds of each of a list
 -- of those that a filter keeps

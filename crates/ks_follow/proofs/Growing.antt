@@ -1,13 +1,12 @@
 -- What a state keeps of an earlier one, entry by entry.
-use Rattle.std.proofs.Common.{◌≡◌, ◌≢◌, ℕ, ◌+◌, ◌≤◌, Bool, true, false, cond, ◌⊎◌, inl, inr, List, [], ◌∷◌, ◌++◌, length, Option, Some, None, refl, sym, ap, subst, ◌∙◌, arith, append_assoc, append-nil, ⊎_elim}
-use Rattle.std.proofs.lemmas.Bool.{eq-eqb, true≢false, or_cases, or_left, or_right}
+use Rattle.std.proofs.Common.{◌≡◌, ℕ, ◌+◌, ◌≤◌, Bool, true, false, cond, inl, inr, List, [], ◌∷◌, ◌++◌, length, Option, Some, None, refl, sym, ap, ◌∙◌, arith, append_assoc, append-nil}
 use Rattle.ks_row.specs.declared.record.Rec.{Rec}
 use Rattle.ks_row.specs.declared.record.PartId.{PartId}
 use Rattle.ks_row.specs.declared.record.TaskId.{TaskId}
 use Rattle.ks_row.specs.declared.assignment.Refused.{Refused}
 use Rattle.ks_row.specs.declared.assignment.Assignment.{Assignment}
 use Rattle.ks_row.specs.declared.assignment.Marker.{Marker}
-use Rattle.ks_row.specs.Parts.{same_part, same_task}
+use Rattle.ks_row.specs.Parts.{same_part}
 use Rattle.ks_history.specs.declared.partition.Slot.TheVariants.{Plain, Mark}
 use Rattle.ks_history.specs.declared.journal.Request.{Request}
 use Rattle.ks_history.specs.declared.journal.Request.TheVariants.{Produce, Init, Add, Append, SendOffsets, Decide, MarkNext, Join, Expire, Hold, Probe, Assign, Park, Unpark}
@@ -15,20 +14,19 @@ use Rattle.ks_history.specs.declared.journal.Entry.{Entry}
 use Rattle.ks_history.specs.declared.transaction.Pending.{Pending}
 use Rattle.ks_history.specs.declared.transaction.Transaction.{Transaction}
 use Rattle.ks_history.specs.declared.transaction.Producer.{Producer}
-use Rattle.ks_history.specs.Partition.{Logged, stable, is_commit, sent_slots, by_sender, below, decided_from, open_from}
+use Rattle.ks_history.specs.Partition.{Logged, stable, by_sender, below, decided_from, open_from}
 use Rattle.ks_history.specs.Machine.{IsNetwork}
-use Rattle.ks_history.specs.State.{State, Setup, with_number, grown, insert_part, has_part, has_task, with_pending, without_number, pending_of, offset_in}
-use Rattle.ks_history.specs.Step.{refusal, effect, state_by, pending_at, fenced, or_else, without_part, markers_waiting, old_generation, not_assigned, unstable_beside, renewed, can_expire, closed, tx_of}
+use Rattle.ks_history.specs.State.{State, Setup, with_number, grown, has_part, has_task, without_number, pending_of, offset_in}
+use Rattle.ks_history.specs.Step.{refusal, effect, state_by, pending_at, fenced, or_else, without_part, markers_waiting, old_generation, not_assigned, unstable_beside, renewed, can_expire, closed}
 use Rattle.ks_history.specs.Faithful.{decided, marker_among, waiting_at, markers_of, IsFaithful}
 use Rattle.ks_history.specs.History.{state_after, Each, IsFaithfulEntry, CommitsFaithfully}
 use Rattle.ks_history.proofs.Histories.{stable-le}
-use Rattle.ks_history.proofs.Names.{same_task-is, same_task-refl}
+use Rattle.ks_history.proofs.Names.{same_task-is}
 use Rattle.ks_replay.proofs.Commits.{grows, pending_is}
-use Rattle.ks_replay.proofs.Order.{Distinct-with}
-use Rattle.ks_replay.proofs.Quiet.{Quiet, quiet_sound, producer_quiet, slots_quiet, mark_quiet, abort_goes, grow_goes, none_waiting, tx_pending, tx_is, has_part-insert, at_number}
+use Rattle.ks_replay.proofs.Quiet.{Quiet, producer_quiet, mark_quiet, abort_goes}
 use Rattle.ks_replay.proofs.Refusals.{some_undecided, both_none, not_fenced, with_part, closed_undecided, closed_waiting}
-use Rattle.ks_replay.proofs.Slots.{next_mark-sent, decided-sent, decided-append, stable-append, Open-sent, open_none, by_sender-append, readable_decided, below_none}
-use Rattle.ks_replay.proofs.Sound.{IsOfTx, Owned, Distinct, Sound}
+use Rattle.ks_replay.proofs.Slots.{decided-append, stable-append, open_none, by_sender-append, readable_decided, below_none}
+use Rattle.ks_replay.proofs.Sound.{Owned, Sound}
 use Rattle.ks_follow.specs.Commits.{commit_by, commits_by, commits_for}
 use Rattle.ks_follow.proofs.Offsets.{below-append}
 use Rattle.ks_replay.proofs.Undecided.{renewed_quiet, add_quiet, offsets_quiet, named, named_quiet, appended}

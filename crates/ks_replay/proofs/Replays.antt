@@ -1,7 +1,6 @@
 -- What a legal, faithful journal commits is one run.
-use Rattle.std.proofs.Common.{length, ◌≡◌, ◌≢◌, ℕ, ◌+◌, Bool, true, false, cond, ◌⊎◌, inr, List, [], ◌∷◌, ◌++◌, fold, map, Option, Some, None, refl, sym, ap, ap₂, subst, ◌∙◌, arith, append_assoc, append-nil, ⊎_elim}
+use Rattle.std.proofs.Common.{length, ◌≡◌, ℕ, ◌+◌, Bool, true, false, cond, List, [], ◌∷◌, ◌++◌, fold, map, Option, Some, None, refl, sym, ap, ap₂, subst, ◌∙◌, arith, append_assoc, append-nil}
 use Rattle.std.proofs.lemmas.List.Sums.{fold-append}
-use Rattle.std.proofs.lemmas.Bool.{eq-eqb, true≢false, or_cases, or_left, or_right}
 use Rattle.ks_row.specs.declared.record.Rec.{Rec}
 use Rattle.ks_row.specs.declared.record.PartId.{PartId}
 use Rattle.ks_row.specs.declared.record.TaskId.{TaskId}
@@ -10,32 +9,29 @@ use Rattle.ks_row.specs.declared.assignment.Assignment.{Assignment}
 use Rattle.ks_row.specs.declared.assignment.Marker.{Marker}
 use Rattle.ks_history.specs.declared.partition.Slot.TheVariants.{Mark}
 use Rattle.ks_map.specs.Bytes.{empty_store}
-use Rattle.ks_row.specs.Parts.{same_part, same_task}
+use Rattle.ks_row.specs.Parts.{same_part}
 use Rattle.ks_history.specs.declared.journal.Entry.{Entry}
 use Rattle.ks_history.specs.declared.journal.Request.{Request}
 use Rattle.ks_history.specs.declared.journal.Request.TheVariants.{Produce, Init, Add, Append, SendOffsets, Decide, MarkNext, Join, Expire, Hold, Probe, Assign, Park, Unpark}
-use Rattle.ks_history.specs.declared.transaction.Pending.{Pending}
 use Rattle.ks_history.specs.declared.transaction.Transaction.{Transaction}
-use Rattle.ks_history.specs.declared.transaction.Producer.{Producer}
 use Rattle.ks_network.specs.Run.{Machine, RunState, Taken, advance, channel, TakesEach, fed, of_input}
 use Rattle.ks_network.proofs.Takes.{fed_later}
-use Rattle.ks_history.specs.Faithful.{decided, marker_among, waiting_at, markers_of, IsFaithful}
+use Rattle.ks_history.specs.Faithful.{decided, waiting_at, markers_of, IsFaithful}
 use Rattle.ks_history.specs.History.{state_after, at, Each, IsStep, IsFaithfulEntry, IsHistory, Meets, CommitsFaithfully}
 use Rattle.ks_history.specs.Machine.{reader_of, Stores, network, part_of, has_topic, IsNetwork}
-use Rattle.ks_history.specs.Partition.{is_commit, sent_slots, recs, by_sender, past_from}
+use Rattle.ks_history.specs.Partition.{recs, by_sender, past_from}
 use Rattle.ks_history.specs.Replay.{takes_of, takes_by, replayed, produced_by, produced}
-use Rattle.ks_history.specs.State.{State, Setup, start, with_number, grown, insert_part, has_part, has_task, with_pending, without_number}
-use Rattle.ks_history.specs.Step.{refusal, effect, state_by, pending_at, fenced, or_else, without_part, markers_waiting, old_generation, not_assigned, unstable_beside, renewed, can_expire, closed, tx_of}
-use Rattle.ks_history.proofs.Names.{has_names, same_task-refl}
+use Rattle.ks_history.specs.State.{State, Setup, start, with_number, grown, without_number}
+use Rattle.ks_history.specs.Step.{refusal, effect, state_by, pending_at, fenced, or_else, without_part, markers_waiting, old_generation, not_assigned, unstable_beside, renewed, can_expire, closed}
+use Rattle.ks_history.proofs.Names.{has_names}
 use Rattle.ks_replay.specs.Law.{OfHistories, IsRun, TellsStores, TellsAll, TellsPasts, TellsLists, TellsLate, SettledIsEmpty}
 use Rattle.ks_replay.proofs.Stores.{only_sender}
 use Rattle.ks_replay.proofs.Commits.{took, shows_after, sound_after}
 use Rattle.ks_replay.proofs.Inputs.{replayed-topics}
-use Rattle.ks_replay.proofs.Order.{Distinct-with}
-use Rattle.ks_replay.proofs.Quiet.{Quiet, quiet_shows, quiet_sound, produce_shows, produce_sound, start_sound, producer_quiet, slots_quiet, mark_quiet, abort_goes, grow_goes, none_waiting, tx_pending, tx_is, has_part-insert, at_number}
+use Rattle.ks_replay.proofs.Quiet.{Quiet, quiet_shows, quiet_sound, produce_shows, produce_sound, start_sound, producer_quiet, mark_quiet, abort_goes}
 use Rattle.ks_replay.proofs.Refusals.{some_undecided, both_none, not_fenced, with_part, closed_undecided, closed_waiting}
-use Rattle.ks_replay.proofs.Slots.{next_mark-sent, decided-sent, Open-sent, decided_below}
-use Rattle.ks_replay.proofs.Sound.{IsOfTx, Owned, Distinct, Shows, Sound}
+use Rattle.ks_replay.proofs.Slots.{decided_below}
+use Rattle.ks_replay.proofs.Sound.{Shows, Sound}
 use Rattle.ks_replay.proofs.Undecided.{renewed_quiet, add_quiet, offsets_quiet, named, named_quiet, appended}
 
 module _ {Task Place Store Item : Type 0} (m : Machine Task Place Store Item) where
