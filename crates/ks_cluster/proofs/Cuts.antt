@@ -1,24 +1,14 @@
 -- A step of a read.
-use Rattle.std.proofs.Common.{◌≡◌, ◌≢◌, ℕ, zero, suc, ◌+◌, ◌-◌, ◌<◌, ◌≤◌, cond, List, [], ◌∷◌, ◌++◌, length, take, get_or, refl, sym, ap, ◌∙◌, arith, append_assoc}
-use Rattle.std.proofs.lemmas.Bool.{le-leb}
+use Rattle.std.proofs.Common.{◌≡◌, ◌≢◌, ℕ, zero, suc, ◌+◌, ◌-◌, List, [], ◌∷◌, ◌++◌, length, take, get_or, refl, ap, ◌∙◌, arith, append_assoc}
 use Rattle.ks_row.specs.declared.record.Rec.{Rec}
-use Rattle.ks_cluster.specs.Reading.{at_or_past}
 use Rattle.ks_history.specs.Partition.{past_last}
 
 abbrev Pair : Type 0
 Pair = ℕ × Rec
 
-taken_one : (left : ℕ) (made : List Pair) (x : Pair) (rest : List Pair) → left ≢ 0 → (made ++ x ∷ []) ++ take (left - 1) rest ≡ made ++ take left (x ∷ rest)
+pub taken_one : (left : ℕ) (made : List Pair) (x : Pair) (rest : List Pair) → left ≢ 0 → (made ++ x ∷ []) ++ take (left - 1) rest ≡ made ++ take left (x ∷ rest)
 taken_one zero made x rest h = absurd (h refl)
 taken_one (suc left) made x rest h = append_assoc made (x ∷ []) (take (suc left - 1) rest) ∙ ap (λ k. made ++ x ∷ take k rest) (let e : suc left - 1 ≡ left = omega arith in e)
-
--- a record that is at or past the first offset
-pub taken_at : (made new : List Pair) (at from left : ℕ) (rec : Rec) → 0 < left → from ≤ at → new ≡ made ++ (at, rec) ∷ []
-    → (rest : List Pair) → new ++ take (left - 1) (at_or_past from rest) ≡ made ++ take left (at_or_past from ((at, rec) ∷ rest))
-taken_at made new at from left rec some past is rest =
-    ap (λ l. l ++ take (left - 1) (at_or_past from rest)) is
-    ∙ taken_one left made (at, rec) (at_or_past from rest) (λ e. absurd (omega (arith, some, e)))
-    ∙ ap (λ b. made ++ take left (cond b ((at, rec) ∷ at_or_past from rest) (at_or_past from rest))) (sym (le-leb from at past))
 
 -- the last offset
 pub past_last-at : (xs : List Pair) (d : Pair) → length xs ≢ 0 → (get_or xs (length xs - 1) d).0 + 1 ≡ past_last xs

@@ -1,16 +1,17 @@
 -- One entry more.
-use Rattle.std.proofs.Common.{◌≡◌, ℕ, ◌+◌, ◌≤◌, List, [], ◌∷◌, ◌++◌, length, refl, sym, ap, ◌∙◌, subst, arith}
+use Rattle.std.proofs.Common.{◌≡◌, ℕ, ◌≤◌, List, [], ◌∷◌, ◌++◌, refl, sym, ap, ◌∙◌, subst, arith}
 use Rattle.ks_row.specs.declared.record.TaskId.{TaskId}
 use Rattle.ks_history.specs.declared.journal.Entry.{Entry}
 use Rattle.ks_history.specs.declared.journal.Request.{Request}
 use Rattle.ks_history.specs.declared.journal.Reply.{Reply}
 use Rattle.ks_history.specs.Machine.{Plan}
-use Rattle.ks_history.specs.State.{State, Setup, start}
-use Rattle.ks_history.specs.Step.{reply_to, refusal, after}
+use Rattle.ks_history.specs.State.{State, Setup}
+use Rattle.ks_history.specs.Step.{reply_to, after}
 use Rattle.ks_history.specs.History.{at, Meets, CommitsFaithfully, IsHistory}
 use Rattle.ks_history.proofs.Histories.{at-more, history_more, records_in-more}
 use Rattle.ks_cluster.specs.declared.broker.Broker.{Broker}
-use Rattle.ks_history.specs.Count.{records_by, records_in}
+use Rattle.ks_history.specs.Count.{records_in}
+use Rattle.ks_cluster.specs.Written.{total}
 use Rattle.ks_cluster.specs.Moves.{IsAt, Moves, IsNew}
 use Rattle.ks_cluster.specs.Kept.{Kept, setup_of, state_of, setup_at, Answers, IsKept}
 use Rattle.ks_cluster.proofs.Steps.{new_at}
@@ -39,7 +40,7 @@ moved_kept plan counts journal old new request reply k meets faithful m =
     record {
       history = both.0;
       stands = both.1;
-      wrote = subst (λ (ts : List TaskId). records_in (record { plan = plan; counts = counts; tasks = ts }) whole ≤ length new.log) (moved_tasks setup (at setup journal) old new request reply refl k.stands m)
+      wrote = subst (λ (ts : List TaskId). records_in (record { plan = plan; counts = counts; tasks = ts }) whole ≤ total new.log) (moved_tasks setup (at setup journal) old new request reply refl k.stands m)
           (omega (arith, records_in-more setup journal entry, k.wrote, m.wrote setup (at setup journal) k.stands));
     }
 

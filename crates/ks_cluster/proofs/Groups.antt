@@ -1,5 +1,5 @@
 -- What the requests of the group alone do to a broker, and a worker's removal.
-use Rattle.std.proofs.Common.{◌≡◌, ◌≢◌, ℕ, zero, suc, ◌+◌, ◌<◌, ◌≤◌, ◌^◌, Bool, true, false, not, cond, List, [], ◌∷◌, ◌++◌, length, set, get_or, length-set, Option, Some, None, refl, sym, ap, ◌∙◌, subst, arith, true≢false}
+use Rattle.std.proofs.Common.{◌≡◌, ℕ, ◌+◌, ◌<◌, ◌≤◌, ◌^◌, Bool, true, false, cond, List, [], ◌∷◌, ◌++◌, length, set, get_or, length-set, Option, None, refl, sym, ap, ◌∙◌, subst, arith}
 use Rattle.std.specs.Prelude.{◌==◌, ◌&&◌, ◌||◌}
 use Rattle.std.proofs.lemmas.Bool.{and_parts, eqb-true}
 use Rattle.ks_row.specs.declared.record.TaskId.{TaskId}
@@ -7,21 +7,20 @@ use Rattle.ks_row.specs.declared.assignment.Refused.{Refused}
 use Rattle.ks_row.specs.declared.assignment.Marker.{Marker}
 use Rattle.ks_row.specs.Parts.{same_task}
 use Rattle.ks_history.specs.declared.journal.Request.TheVariants.{Expire, Hold, Probe, Park, Unpark}
-use Rattle.ks_history.specs.declared.journal.Reply.{Reply}
 use Rattle.ks_history.specs.declared.journal.Reply.TheVariants.{Done, Number, Truth}
 use Rattle.ks_history.specs.declared.transaction.Producer.{Producer}
 use Rattle.ks_history.specs.State.{State, Setup, new_producer, with_number, has_number, without_number}
 use Rattle.ks_history.specs.Step.{refusal, effect, closed, renewed, is_undecided, can_expire}
 use Rattle.ks_history.proofs.Names.{same_task-is}
-use Rattle.ks_cluster.specs.declared.log.Placed.{Placed}
+use Rattle.ks_cluster.specs.declared.log.Written.{Written}
 use Rattle.ks_cluster.specs.declared.group.Group.{Group}
 use Rattle.ks_cluster.specs.declared.broker.Broker.{Broker}
-use Rattle.ks_cluster.specs.Placed.{slots_in}
+use Rattle.ks_cluster.specs.Written.{slots_in, total}
 use Rattle.ks_cluster.specs.Producers.{offset_after}
 use Rattle.ks_cluster.specs.Group.{generation_fault, is_parked_in, unparked_in}
 use Rattle.ks_cluster.specs.Moves.{IsGroupAt, IsAt, Moves}
 use Rattle.ks_cluster.proofs.Lists.{with_element}
-use Rattle.ks_cluster.proofs.Steps.{accepted_moves, refused_moves, producer_read, renewed-is}
+use Rattle.ks_cluster.proofs.Steps.{accepted_moves, producer_read, renewed-is}
 
 -- ---- hold
 pub held_moves : (old new : Broker) (w : ℕ) (held : List (TaskId × ℕ)) → w ≤ 16
@@ -35,7 +34,7 @@ held_moves old new w held h log producers tasks generation members assignment co
     (λ setup s k. refl)
     (λ setup s k. record {
       log_is = λ v. ap (slots_in v) log ∙ k.log_is v;
-      few = subst (λ (l : List Placed). length l < 2 ^ 48) (sym log) k.few;
+      few = subst (λ (l : List Written). total l < 2 ^ 48) (sym log) k.few;
       producers_is = λ v. ap (λ l. get_or l.items v new_producer) producers ∙ k.producers_is v;
       count = ap (λ l. length l.items) producers ∙ k.count;
       group_is = record {
@@ -50,7 +49,7 @@ held_moves old new w held h log producers tasks generation members assignment co
         parked_is = λ i t. ap (is_parked_in i t) parked ∙ k.group_is.parked_is i t;
       };
     })
-    (omega (arith, ap length log))
+    (omega (arith, ap total log))
 
 -- ---- probe
 pub probe_refused : (setup : Setup) (s : State) (b : Broker) (w g : ℕ) (r : Option Refused) → IsAt setup s b → r ≡ generation_fault b.group.generation g → refusal setup s (Probe w g) ≡ r
@@ -64,7 +63,7 @@ probed_moves old new w g n none next log producers group = accepted_moves old ne
     (λ setup s k. ap Number (next ∙ ap (λ m. m + 1) k.group_is.generation_is))
     (λ setup s k. record {
       log_is = λ v. ap (slots_in v) log ∙ k.log_is v;
-      few = subst (λ (l : List Placed). length l < 2 ^ 48) (sym log) k.few;
+      few = subst (λ (l : List Written). total l < 2 ^ 48) (sym log) k.few;
       producers_is = λ v. ap (λ l. get_or l.items v new_producer) producers ∙ k.producers_is v;
       count = ap (λ l. length l.items) producers ∙ k.count;
       group_is = subst (λ (h : Group). IsGroupAt setup (effect s (Probe w g)) h) (sym group) (record {
@@ -79,7 +78,7 @@ probed_moves old new w g n none next log producers group = accepted_moves old ne
         parked_is = k.group_is.parked_is;
       });
     })
-    (omega (arith, ap length log))
+    (omega (arith, ap total log))
 
 -- ---- expire
 pub unexpired_moves : (b : Broker) (w : ℕ) (p : Producer) → w ≤ 16 → p ≡ get_or b.producers.items w p → (has_number w b.group.members || is_undecided p) ≡ false → Moves b b (Expire w) (Truth false)
@@ -118,7 +117,7 @@ expired_moves old new w p q waiting h read some waits made log producers tasks g
       assignment = None;
     }) s) (can setup s k))) (record {
       log_is = λ v. ap (slots_in v) log ∙ k.log_is v;
-      few = subst (λ (l : List Placed). length l < 2 ^ 48) (sym log) k.few;
+      few = subst (λ (l : List Written). total l < 2 ^ 48) (sym log) k.few;
       producers_is = λ v. ap (λ l. get_or l v new_producer) producers ∙ with_element s.producer old.producers.items w q new_producer (omega (arith, k.count)) k.producers_is v
           ∙ ap (λ r. with_number s.producer w r v) (made ∙ renewed-is p waiting waits ∙ ap renewed (producer_read setup s old w p k h read));
       count = ap length producers ∙ length-set old.producers.items w q ∙ k.count;
@@ -134,7 +133,7 @@ expired_moves old new w p q waiting h read some waits made log producers tasks g
         parked_is = λ i t. ap (is_parked_in i t) parked ∙ k.group_is.parked_is i t;
       };
     }))
-    (omega (arith, ap length log))
+    (omega (arith, ap total log))
   where
     can : (setup : Setup) (s : State) → IsAt setup s old → can_expire s w ≡ true
     can setup s k = ap (λ (ms : List ℕ). has_number w ms || is_undecided (s.producer w)) (sym k.group_is.members_is)
@@ -165,7 +164,7 @@ parked_at : (setup : Setup) (s : State) (old new : Broker) (parked : ℕ → Tas
     → ((i : ℕ) (t : TaskId) → is_parked_in i t pairs ≡ parked i t) → IsAt setup (record s { parked = parked }) new
 parked_at setup s old new parked k log producers pairs group is = record {
   log_is = λ v. ap (slots_in v) log ∙ k.log_is v;
-  few = subst (λ (l : List Placed). length l < 2 ^ 48) (sym log) k.few;
+  few = subst (λ (l : List Written). total l < 2 ^ 48) (sym log) k.few;
   producers_is = λ v. ap (λ l. get_or l.items v new_producer) producers ∙ k.producers_is v;
   count = ap (λ l. length l.items) producers ∙ k.count;
   group_is = subst (λ (h : Group). IsGroupAt setup (record s { parked = parked }) h) (sym group) (record {
@@ -188,7 +187,7 @@ parked_moves old new j u log producers group = accepted_moves old new (Park j u)
     (λ setup s k. refl)
     (λ setup s k. parked_at setup s old new _ k log producers (old.group.parked ++ (j, u) ∷ []) group
     (λ i t. is_parked-more i t old.group.parked j u ∙ either (is_parked_in i t old.group.parked) ((i == j) && same_task t u) ∙ ap (λ b. cond ((i == j) && same_task t u) true b) (k.group_is.parked_is i t)))
-    (omega (arith, ap length log))
+    (omega (arith, ap total log))
 
 -- two pairs that pass the test are one
 same_pair : (i j : ℕ) (t u : TaskId) → ((i == j) && same_task t u) ≡ true → (i ≡ j) × (t ≡ u)
@@ -231,7 +230,7 @@ unparked_moves old new j u there log producers group = accepted_moves old new (U
     (λ setup s k. ap Truth (sym there ∙ k.group_is.parked_is j u))
     (λ setup s k. parked_at setup s old new _ k log producers (unparked_in j u old.group.parked) group
     (λ i t. unparked i j t u old.group.parked ∙ ap (λ b. cond ((i == j) && same_task t u) false b) (k.group_is.parked_is i t)))
-    (omega (arith, ap length log))
+    (omega (arith, ap total log))
 
 absent : (i j : ℕ) (t u : TaskId) (pairs : List (ℕ × TaskId)) → is_parked_in j u pairs ≡ false → is_parked_in i t pairs ≡ cond ((i == j) && same_task t u) false (is_parked_in i t pairs)
 absent i j t u pairs none = by_test ((i == j) && same_task t u) refl

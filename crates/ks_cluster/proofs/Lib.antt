@@ -1,6 +1,7 @@
 pub mod Lists
 pub mod Logs
-pub mod Counts
+pub mod Counting
+pub mod Parts
 pub mod Cuts
 pub mod Steps
 pub mod Groups

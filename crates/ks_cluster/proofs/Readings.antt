@@ -1,6 +1,6 @@
 -- What readers are given is what the state says.
-use Rattle.std.proofs.Common.{◌≡◌, ℕ, zero, suc, ◌+◌, ◌<◌, ◌≤◌, Bool, true, false, cond, List, [], ◌∷◌, ◌++◌, length, take, get_or, Option, Some, None, refl, sym, ap, ◌∙◌, subst, arith}
-use Rattle.std.specs.Prelude.{map, nat_le, ◌==◌, ◌||◌, max, if◌then◌else◌}
+use Rattle.std.proofs.Common.{◌≡◌, ℕ, suc, ◌+◌, ◌<◌, Bool, true, false, cond, List, [], ◌∷◌, length, take, get_or, Option, Some, None, refl, sym, ap, ◌∙◌, arith}
+use Rattle.std.specs.Prelude.{map, nat_le, ◌==◌, ◌||◌, max}
 use Rattle.ks_row.specs.declared.record.Rec.{Rec}
 use Rattle.ks_row.specs.declared.record.PartId.{PartId}
 use Rattle.ks_row.specs.declared.record.TaskId.{TaskId}
@@ -13,11 +13,10 @@ use Rattle.ks_history.specs.Partition.{Logged, next_mark, by_mark, decision, is_
 use Rattle.ks_history.specs.State.{State, Setup, new_producer}
 use Rattle.ks_history.specs.Step.{or_else, is_undecided, unstable_from}
 use Rattle.ks_history.specs.Faithful.{marker_among, waiting_at, markers_of}
-use Rattle.ks_history.specs.Reads.{fetched, committed_refusal, committed_offsets, end_of, ends_of, decided_records, is_some_waiting, pending_from, pending_producers}
-use Rattle.ks_cluster.specs.declared.log.Placed.{Placed}
+use Rattle.ks_history.specs.Reads.{committed_refusal, committed_offsets, end_of, ends_of, decided_records, is_some_waiting, pending_from, pending_producers}
 use Rattle.ks_cluster.specs.declared.broker.Broker.{Broker}
-use Rattle.ks_cluster.specs.Placed.{slots_in}
-use Rattle.ks_cluster.specs.Producers.{waiting_in, unstable_in, counts_for, pending_in, offset_after}
+use Rattle.ks_cluster.specs.Written.{slots_in}
+use Rattle.ks_cluster.specs.Producers.{waiting_in, counts_for, pending_in, offset_after}
 use Rattle.ks_cluster.specs.Group.{generation_fault, owner_at, owner_fault}
 use Rattle.ks_cluster.specs.Reading.{readable_pairs, decided_pairs, at_or_past, end_at}
 use Rattle.ks_cluster.specs.Moves.{IsAt, reading_fault}

@@ -1,6 +1,6 @@
 -- What each request does to a broker: the lemma of each method.
-use Rattle.std.proofs.Common.{◌≡◌, ◌≢◌, ℕ, zero, suc, ◌+◌, ◌<◌, ◌≤◌, ◌^◌, Bool, true, false, not, cond, List, [], ◌∷◌, ◌++◌, length, set, get_or, drop, length-set, Option, Some, None, refl, sym, ap, ◌∙◌, subst, arith}
-use Rattle.std.specs.Prelude.{replicate, ◌==◌, ◌&&◌}
+use Rattle.std.proofs.Common.{◌≡◌, ℕ, suc, ◌+◌, ◌<◌, ◌≤◌, ◌^◌, Bool, true, false, cond, List, [], ◌∷◌, ◌++◌, length, set, get_or, length-set, Option, Some, None, refl, sym, ap, ◌∙◌, subst, arith}
+use Rattle.std.specs.Prelude.{◌&&◌}
 use Rattle.ks_row.specs.declared.record.Rec.{Rec}
 use Rattle.ks_row.specs.declared.record.PartId.{PartId}
 use Rattle.ks_row.specs.declared.record.TaskId.{TaskId}
@@ -9,7 +9,7 @@ use Rattle.ks_row.specs.declared.assignment.Refused.TheVariants.{NoTransaction, 
 use Rattle.ks_row.specs.declared.assignment.Assignment.{Assignment}
 use Rattle.ks_row.specs.declared.assignment.Marker.{Marker}
 use Rattle.ks_history.specs.declared.partition.Slot.{Slot}
-use Rattle.ks_history.specs.declared.partition.Slot.TheVariants.{Plain, Sent, Mark}
+use Rattle.ks_history.specs.declared.partition.Slot.TheVariants.{Plain, Mark}
 use Rattle.ks_history.specs.declared.journal.Request.{Request}
 use Rattle.ks_history.specs.declared.journal.Request.TheVariants.{Produce, Init, Add, Append, SendOffsets, Decide, MarkNext, Join, Assign}
 use Rattle.ks_history.specs.declared.journal.Reply.{Reply}
@@ -19,18 +19,18 @@ use Rattle.ks_history.specs.declared.transaction.Transaction.{Transaction}
 use Rattle.ks_history.specs.declared.transaction.Producer.{Producer}
 use Rattle.ks_history.specs.Partition.{count_sent, sent_slots, is_none}
 use Rattle.ks_history.specs.State.{State, Setup, start, new_producer, with_number, grown, insert_part, insert_number, with_pending}
-use Rattle.ks_history.specs.Step.{or_else, fenced, markers_waiting, without_part, none_undecided, has_pending, unstable_from, unstable_beside, refusal, answer, effect, reply_by, state_by, tx_of, closed, renewed, markers_for, pending_at, with_late, bad_assignment}
-use Rattle.ks_cluster.specs.declared.log.Placed.{Placed}
+use Rattle.ks_history.specs.Step.{or_else, fenced, markers_waiting, without_part, none_undecided, has_pending, unstable_from, refusal, answer, effect, reply_by, state_by, tx_of, closed, renewed, markers_for, pending_at, with_late, bad_assignment}
+use Rattle.ks_cluster.specs.declared.log.Written.{Written}
 use Rattle.ks_cluster.specs.declared.group.Group.{Group}
 use Rattle.ks_cluster.specs.declared.broker.Broker.{Broker}
-use Rattle.ks_cluster.specs.Placed.{slots_in, placed_at}
+use Rattle.ks_cluster.specs.Written.{slots_in, total, with_slots}
 use Rattle.ks_cluster.specs.Producers.{sequence_fault, unstable_in, counts_for, offset_with, offset_after}
-use Rattle.ks_cluster.specs.Group.{generation_fault, owner_at, owner_fault, is_parked_in, unparked_in}
+use Rattle.ks_cluster.specs.Group.{generation_fault, owner_at, owner_fault, is_parked_in}
 use Rattle.ks_history.specs.Count.{records_by}
 use Rattle.ks_cluster.specs.Moves.{IsGroupAt, IsAt, Moves, IsNew, sending_fault}
-use Rattle.ks_cluster.proofs.Lists.{get_or-within, get_or-replicate, with_element, first_and_rest}
+use Rattle.ks_cluster.proofs.Lists.{get_or-within, get_or-replicate, with_element}
 use Rattle.std.proofs.lemmas.List.{length-replicate}
-use Rattle.ks_cluster.proofs.Logs.{all_grown, longer, length-sent}
+use Rattle.ks_cluster.proofs.Logs.{all_grown, total-with, length-sent}
 
 -- ---- refused and accepted requests
 pub refused_moves : (b : Broker) (request : Request) (r : Refused) → ((setup : Setup) (s : State) → IsAt setup s b → refusal setup s request ≡ Some r)
@@ -44,7 +44,7 @@ pub accepted_moves : (old new : Broker) (request : Request) (reply : Reply)
     → ((setup : Setup) (s : State) → IsAt setup s old → refusal setup s request ≡ None)
     → ((setup : Setup) (s : State) → IsAt setup s old → reply ≡ answer s request)
     → ((setup : Setup) (s : State) → IsAt setup s old → IsAt setup (effect s request) new)
-    → length old.log + records_by request None ≤ length new.log
+    → total old.log + records_by request None ≤ total new.log
     → Moves old new request reply
 accepted_moves old new request reply none replied goes wrote = record {
   step = λ setup s k. (replied setup s k ∙ sym (ap (reply_by s request) (none setup s k)), subst (λ (t : State). IsAt setup t new) (sym (ap (state_by s request) (none setup s k))) (goes setup s k));
@@ -62,7 +62,7 @@ pub producer_at : (setup : Setup) (s : State) (old new : Broker) (w : ℕ) (p : 
     → IsAt setup (record s { producer = with_number s.producer w p }) new
 producer_at setup s old new w p k h log producers group = record {
   log_is = λ q. ap (slots_in q) log ∙ k.log_is q;
-  few = subst (λ (l : List Placed). length l < 2 ^ 48) (sym log) k.few;
+  few = subst (λ (l : List Written). total l < 2 ^ 48) (sym log) k.few;
   producers_is = λ v. ap (λ l. get_or l v new_producer) producers ∙ with_element s.producer old.producers.items w p new_producer (omega (arith, k.count)) k.producers_is v;
   count = ap length producers ∙ length-set old.producers.items w p ∙ k.count;
   group_is = subst (λ (g : Group). IsGroupAt setup (record s { producer = with_number s.producer w p }) g) (sym group) (record {
@@ -79,7 +79,7 @@ producer_at setup s old new w p k h log producers group = record {
 }
 
 -- ---- produce
-pub produced : (old new : Broker) (p : PartId) (rec : Rec) (n : ℕ) → new.log ≡ old.log ++ placed_at p (Plain rec ∷ []) → length new.log < 2 ^ 48
+pub produced : (old new : Broker) (p : PartId) (rec : Rec) (n : ℕ) → new.log ≡ with_slots p (Plain rec ∷ []) old.log → total new.log < 2 ^ 48
     → new.producers ≡ old.producers → new.group ≡ old.group → n ≡ length (slots_in p old.log) → Moves old new (Produce p rec) (Number n)
 produced old new p rec n log few producers group is = accepted_moves old new (Produce p rec) (Number n)
     (λ setup s k. refl)
@@ -101,7 +101,7 @@ produced old new p rec n log few producers group is = accepted_moves old new (Pr
         parked_is = k.group_is.parked_is;
       });
     })
-    (omega (arith, ap length log ∙ longer old.log p (Plain rec ∷ [])))
+    (omega (arith, ap total log ∙ total-with p (Plain rec ∷ []) old.log))
 
 -- ---- init
 closed_none : (p : Producer) → (closed p false).undecided ≡ None
@@ -125,7 +125,7 @@ renewed_moves old new w p q waiting h read waits made log producers group = acce
     (λ setup s k. subst (λ (r : Producer). IsAt setup (record s { producer = with_number s.producer w r }) new)
     (made ∙ renewed-is p waiting waits ∙ ap renewed (producer_read setup s old w p k h read))
     (producer_at setup s old new w q k h log producers group))
-    (omega (arith, ap length log))
+    (omega (arith, ap total log))
 
 -- ---- requests that change one producer, or are refused by it
 pub add_refused : (setup : Setup) (s : State) (b : Broker) (w e : ℕ) (part : PartId) (p : Producer) (r : Option Refused) → IsAt setup s b → w ≤ 16
@@ -147,7 +147,7 @@ added_moves old new w e part p p' q parts h read read' none with_part made log p
     (made ∙ ap (λ (r : Producer). record r { undecided = Some (record (tx_of r) { parts = parts }) }) is'
     ∙ ap (λ (l : List PartId). record (s.producer w) { undecided = Some (record (tx_of (s.producer w)) { parts = l }) }) (with_part ∙ ap (λ (r : Producer). insert_part part (tx_of r).parts) is))
     (producer_at setup s old new w q k h log producers group))
-    (omega (arith, ap length log))
+    (omega (arith, ap total log))
 
 -- ---- append
 pub append_refused : (setup : Setup) (s : State) (b : Broker) (w e number : ℕ) (t : TaskId) (part : PartId) (recs : List Rec) (p : Producer) (n : ℕ) (r : Option Refused) → IsAt setup s b → w ≤ 16
@@ -164,7 +164,7 @@ pub appended_moves : (old new : Broker) (w e number : ℕ) (t : TaskId) (part : 
     → None ≡ or_else (fenced p e) (or_else (without_part p part) (sequence_fault n number))
     → tasks ≡ (tx_of p).tasks ++ t ∷ [] → q ≡ record p' { undecided = Some (record (tx_of p') { tasks = tasks }) }
     → first ≡ length (slots_in part old.log)
-    → new.log ≡ old.log ++ placed_at part (sent_slots w e number t recs) → length new.log < 2 ^ 48
+    → new.log ≡ with_slots part (sent_slots w e number t recs) old.log → total new.log < 2 ^ 48
     → new.producers.items ≡ set old.producers.items w q → new.group ≡ old.group
     → Moves old new (Append w e number t part recs) (Number first)
 appended_moves old new w e number t part recs p p' q tasks n first h read read' count none with_task made first_is log few producers group = accepted_moves old new (Append w e number t part recs) (Number first)
@@ -194,7 +194,7 @@ appended_moves old new w e number t part recs p p' q tasks n first h read read' 
         parked_is = k.group_is.parked_is;
       });
     })
-    (omega (arith, ap length log ∙ longer old.log part (sent_slots w e number t recs) ∙ ap (λ m. length old.log + m) (length-sent w e number t recs)))
+    (omega (arith, ap total log ∙ total-with part (sent_slots w e number t recs) old.log ∙ ap (λ m. total old.log + m) (length-sent w e number t recs)))
 
 -- ---- send_offsets
 counted : (b : Bool) (c : Bool) (v : ℕ) (x y y' : Option Refused) → b ≡ c → y ≡ y' → cond b x y ≡ cond c x y'
@@ -238,7 +238,7 @@ offsets_moves old new w e g pend p p' q pending h read read' none with_new made 
     (made ∙ ap (λ (r : Producer). record r { undecided = Some (record (tx_of r) { pending = pending }) }) is'
     ∙ ap (λ (l : List Pending). record (s.producer w) { undecided = Some (record (tx_of (s.producer w)) { pending = l }) }) (with_new ∙ ap (λ (r : Producer). with_pending pend (tx_of r).pending) is))
     (producer_at setup s old new w q k h log producers group))
-    (omega (arith, ap length log))
+    (omega (arith, ap total log))
 
 -- ---- decide
 pub decide_refused : (setup : Setup) (s : State) (b : Broker) (w e : ℕ) (commit : Bool) (p : Producer) (r : Option Refused) → IsAt setup s b → w ≤ 16
@@ -297,7 +297,7 @@ aborted_moves old new w e p p' q waiting h read read' none waits made log produc
     (λ setup s k. subst (λ (r : Producer). IsAt setup (record s { producer = with_number s.producer w r }) new)
     (closed_at setup s old w e false p p' q waiting k h read read' none waits made)
     (producer_at setup s old new w q k h log producers group))
-    (omega (arith, ap length log))
+    (omega (arith, ap total log))
 
 pub offset_after-more : (at : ℕ) (commits : List (List Pending)) (pending : List Pending) (t : TaskId) (topic : ℕ) → offset_after at (commits ++ pending ∷ []) t topic ≡ offset_with (offset_after at commits t topic) pending t topic
 offset_after-more at [] pending t topic = refl
@@ -317,7 +317,7 @@ committed_moves old new w e p p' q waiting pending h read read' none waits made 
     let pends' : pending ≡ pending_at (s.producer w) = pends ∙ ap pending_at (producer_read setup s old w p k h read) in
     record {
       log_is = λ v. ap (slots_in v) log ∙ k.log_is v;
-      few = subst (λ (l : List Placed). length l < 2 ^ 48) (sym log) k.few;
+      few = subst (λ (l : List Written). total l < 2 ^ 48) (sym log) k.few;
       producers_is = λ v. ap (λ l. get_or l v new_producer) producers ∙ with_element s.producer old.producers.items w q new_producer (omega (arith, k.count)) k.producers_is v
           ∙ ap (λ r. with_number s.producer w r v) (closed_at setup s old w e true p p' q waiting k h read read' none waits made);
       count = ap length producers ∙ length-set old.producers.items w q ∙ k.count;
@@ -334,7 +334,7 @@ committed_moves old new w e p p' q waiting pending h read read' none waits made 
         parked_is = λ i t. ap (is_parked_in i t) parked ∙ k.group_is.parked_is i t;
       };
     })
-    (omega (arith, ap length log))
+    (omega (arith, ap total log))
 
 -- ---- mark_next
 pub unmarked_moves : (b : Broker) (w : ℕ) (p : Producer) → w ≤ 16 → p ≡ get_or b.producers.items w p → p.waiting ≡ [] → Moves b b (MarkNext w) (Marked None)
@@ -357,7 +357,7 @@ unmarked_moves b w p h read none = accepted_moves b b (MarkNext w) (Marked None)
 pub marked_moves : (old new : Broker) (w : ℕ) (p p' q : Producer) (m : Marker) (rest : List Marker) → w ≤ 16
     → p ≡ get_or old.producers.items w p → p' ≡ get_or old.producers.items w p' → p.waiting ≡ m ∷ rest
     → q ≡ record p' { waiting = rest }
-    → new.log ≡ old.log ++ placed_at m.part (Mark w m.epoch m.commit ∷ []) → length new.log < 2 ^ 48
+    → new.log ≡ with_slots m.part (Mark w m.epoch m.commit ∷ []) old.log → total new.log < 2 ^ 48
     → new.producers.items ≡ set old.producers.items w q → new.group ≡ old.group
     → Moves old new (MarkNext w) (Marked (Some (m.part, m.commit)))
 marked_moves old new w p p' q m rest h read read' some made log few producers group = accepted_moves old new (MarkNext w) (Marked (Some (m.part, m.commit)))
@@ -389,7 +389,7 @@ marked_moves old new w p p' q m rest h read read' some made log few producers gr
         parked_is = k.group_is.parked_is;
       });
     }))
-    (omega (arith, ap length log ∙ longer old.log m.part (Mark w m.epoch m.commit ∷ [])))
+    (omega (arith, ap total log ∙ total-with m.part (Mark w m.epoch m.commit ∷ []) old.log))
   where
     waits : (setup : Setup) (s : State) → IsAt setup s old → (s.producer w).waiting ≡ m ∷ rest
     waits setup s k = ap (λ (r : Producer). r.waiting) (sym (producer_read setup s old w p k h read)) ∙ some
@@ -404,7 +404,7 @@ joined_moves old new w n next log producers group = accepted_moves old new (Join
     (λ setup s k. ap Number (next ∙ ap (λ g. g + 1) k.group_is.generation_is))
     (λ setup s k. record {
       log_is = λ v. ap (slots_in v) log ∙ k.log_is v;
-      few = subst (λ (l : List Placed). length l < 2 ^ 48) (sym log) k.few;
+      few = subst (λ (l : List Written). total l < 2 ^ 48) (sym log) k.few;
       producers_is = λ v. ap (λ l. get_or l.items v new_producer) producers ∙ k.producers_is v;
       count = ap (λ l. length l.items) producers ∙ k.count;
       group_is = subst (λ (g : Group). IsGroupAt setup (effect s (Join w)) g) (sym group) (record {
@@ -419,7 +419,7 @@ joined_moves old new w n next log producers group = accepted_moves old new (Join
         parked_is = k.group_is.parked_is;
       });
     })
-    (omega (arith, ap length log))
+    (omega (arith, ap total log))
 
 pub assign_refused : (setup : Setup) (s : State) (b : Broker) (w g : ℕ) (a : Assignment) (r : Option Refused) → IsAt setup s b
     → r ≡ or_else (generation_fault b.group.generation g) (bad_assignment b.group.tasks.items b.group.members a.active) → refusal setup s (Assign w g a) ≡ r
@@ -439,7 +439,7 @@ assigned_moves old new w g a none empty log producers group = accepted_moves old
     (sym (ap (λ (o : Option Assignment). elim o as (λ _. State) [ None ↦ record s { assignment = Some a } | Some b ↦ s ]) (empties setup s k)))
     (record {
       log_is = λ v. ap (slots_in v) log ∙ k.log_is v;
-      few = subst (λ (l : List Placed). length l < 2 ^ 48) (sym log) k.few;
+      few = subst (λ (l : List Written). total l < 2 ^ 48) (sym log) k.few;
       producers_is = λ v. ap (λ l. get_or l.items v new_producer) producers ∙ k.producers_is v;
       count = ap (λ l. length l.items) producers ∙ k.count;
       group_is = subst (λ (h : Group). IsGroupAt setup (record s { assignment = Some a }) h) (sym group) (record {
@@ -454,7 +454,7 @@ assigned_moves old new w g a none empty log producers group = accepted_moves old
         parked_is = k.group_is.parked_is;
       });
     }))
-    (omega (arith, ap length log))
+    (omega (arith, ap total log))
   where
     empties : (setup : Setup) (s : State) → IsAt setup s old → s.assignment ≡ None
     empties setup s k = sym k.group_is.assignment_is ∙ empty
@@ -478,7 +478,7 @@ nothing_held = []
 pub new_at : (setup : Setup) (b : Broker) → IsNew setup.tasks b → IsAt setup start b
 new_at setup b new = record {
   log_is = λ p. ap (slots_in p) new.log;
-  few = subst (λ (l : List Placed). length l < 2 ^ 48) (sym new.log) (omega arith);
+  few = subst (λ (l : List Written). total l < 2 ^ 48) (sym new.log) (omega arith);
   producers_is = λ w. ap (λ l. get_or l w new_producer) new.producers ∙ get_or-replicate 17 w new_producer;
   count = ap length new.producers ∙ length-replicate 17 new_producer;
   group_is = record {

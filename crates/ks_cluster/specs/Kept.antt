@@ -1,5 +1,5 @@
 -- A cluster is its work, its setup and its journal. All else follows from the journal.
-use Rattle.std.specs.Prelude.{◌≡◌, ℕ, ◌≤◌, List, [], ◌∷◌, ◌++◌, length, Option, Some, None, Result, Ok, Err}
+use Rattle.std.specs.Prelude.{◌≡◌, ℕ, ◌≤◌, List, [], ◌∷◌, ◌++◌, Option, Some, None, Result, Ok, Err}
 use Rattle.ks_row.specs.declared.record.TaskId.{TaskId}
 use Rattle.ks_row.specs.declared.assignment.Refused.{Refused}
 use Rattle.ks_history.specs.declared.journal.Entry.{Entry}
@@ -11,6 +11,7 @@ use Rattle.ks_history.specs.Step.{reply_to}
 use Rattle.ks_history.specs.History.{at, IsHistory}
 use Rattle.ks_cluster.specs.declared.broker.Broker.{Broker}
 use Rattle.ks_history.specs.Count.{records_in}
+use Rattle.ks_cluster.specs.Written.{total}
 use Rattle.ks_cluster.specs.Moves.{IsAt}
 
 -- what contracts see of a cluster
@@ -42,7 +43,7 @@ setup_at plan counts b = record { plan = plan; counts = counts; tasks = b.group.
 pub record IsKept (plan : Plan) (counts : List ℕ) (journal : List Entry) (b : Broker) : Type 0 where
   pub history : IsHistory (setup_at plan counts b) journal
   pub stands : IsAt (setup_at plan counts b) (at (setup_at plan counts b) journal) b
-  pub wrote : records_in (setup_at plan counts b) journal ≤ length b.log
+  pub wrote : records_in (setup_at plan counts b) journal ≤ total b.log
 
 -- a read is refused so, or not at all
 abbrev pub Refuses : {A : Type 0} → Option Refused → Result A Refused → Type 0

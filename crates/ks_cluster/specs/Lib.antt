@@ -1,9 +1,8 @@
-pub mod Placed
-pub mod Ends
+pub mod Written
+pub mod Index
 pub mod Producers
 pub mod Group
 pub mod Replies
 pub mod Reading
-pub mod Marking
 pub mod Moves
 pub mod Kept

@@ -9,7 +9,7 @@ use Rattle.ks_history.specs.State.{State, Setup, new_producer}
 use Rattle.ks_history.specs.Step.{or_else, fenced, markers_waiting, refusal, reply_to, after}
 use Rattle.ks_cluster.specs.declared.group.Group.{Group}
 use Rattle.ks_cluster.specs.declared.broker.Broker.{Broker}
-use Rattle.ks_cluster.specs.Placed.{slots_in}
+use Rattle.ks_cluster.specs.Written.{slots_in, total}
 use Rattle.ks_cluster.specs.Producers.{unstable_in, counts_for, offset_after}
 use Rattle.ks_cluster.specs.Group.{generation_fault, owner_at, owner_fault, is_parked_in}
 use Rattle.ks_history.specs.Count.{records_by}
@@ -27,7 +27,7 @@ pub record IsGroupAt (setup : Setup) (s : State) (g : Group) : Type 0 where
 
 pub record IsAt (setup : Setup) (s : State) (b : Broker) : Type 0 where
   pub log_is : (p : PartId) → slots_in p b.log ≡ s.partition p
-  pub few : length b.log < 2 ^ 48
+  pub few : total b.log < 2 ^ 48
   pub producers_is : (w : ℕ) → get_or b.producers.items w new_producer ≡ s.producer w
   pub count : length b.producers.items ≡ 17
   pub group_is : IsGroupAt setup s b.group
@@ -36,7 +36,7 @@ pub record IsAt (setup : Setup) (s : State) (b : Broker) : Type 0 where
 pub record Moves (old new : Broker) (request : Request) (reply : Reply) : Type 0 where
   pub step : (setup : Setup) (s : State) → IsAt setup s old → (reply ≡ reply_to setup s request) × IsAt setup (after setup s request) new
   -- the log has all records that the request appends
-  pub wrote : (setup : Setup) (s : State) → IsAt setup s old → length old.log + records_by request (refusal setup s request) ≤ length new.log
+  pub wrote : (setup : Setup) (s : State) → IsAt setup s old → total old.log + records_by request (refusal setup s request) ≤ total new.log
 
 pub record IsNew (tasks : List TaskId) (b : Broker) : Type 0 where
   pub log : b.log ≡ []

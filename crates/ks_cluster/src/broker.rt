@@ -5,7 +5,7 @@ ghost use Rattle.ks_history.specs.declared.journal.Reply.TheVariants.{Done, Numb
 ghost use Rattle.ks_cluster.specs.Moves.{Moves, IsNew, sending_fault, reading_fault};
 ghost use Rattle.ks_cluster.specs.Replies.{done_or, number_or, truth_or};
 
-use crate::append::{count_in, one_placed, sent};
+use crate::append::{one_slot, sent};
 use crate::group::{Group, copy_assignment, is_member, is_parked, without_member, without_parked};
 use crate::log::Log;
 use crate::producers::{
@@ -42,9 +42,9 @@ impl Broker {
         ensures ok { IfOk result (λ n. Moves self.old self.new (Produce part rec) (Number n)) }
         ensures err { OnErr result (self.new ≡ self.old) }
     {
-        let end = self.log.end(part);
-        let placed = one_placed(alloc, part, Slot::Plain { rec })?;
-        self.log.append(part, placed)?;
+        let end = self.log.part(part).end();
+        let more = one_slot(alloc, Slot::Plain { rec })?;
+        self.log.append(alloc, part, more)?;
         Ok(end)
     }
 
@@ -102,14 +102,15 @@ impl Broker {
         ensures err { OnErr result (self.new ≡ self.old) }
     {
         let p = &self.producers[w as usize];
-        let count = count_in(self.log.as_slice(), part, w, epoch);
+        let slots = self.log.part(part);
+        let count = slots.count(w, epoch);
+        let first = slots.end();
         if let Some(refused) = append_refusal(p, epoch, part, number, count) {
             return Ok(Err(refused));
         }
         let tasks = tasks_with(alloc, p, task)?;
-        let more = sent(alloc, part, w, epoch, number, task, recs)?;
-        let first = self.log.end(part);
-        self.log.append(part, more)?;
+        let more = sent(alloc, w, epoch, number, task, recs)?;
+        self.log.append(alloc, part, more)?;
         let p = &mut self.producers[w as usize];
         set_tasks(alloc, p, tasks);
         Ok(Ok(first))
@@ -230,8 +231,8 @@ impl Broker {
             epoch: marker.epoch,
             commit: marker.commit,
         };
-        let placed = one_placed(alloc, marker.part, slot)?;
-        self.log.append(marker.part, placed)?;
+        let more = one_slot(alloc, slot)?;
+        self.log.append(alloc, marker.part, more)?;
         let p = &mut self.producers[w as usize];
         set_waiting(p, rest);
         Ok(Some((marker.part, marker.commit)))

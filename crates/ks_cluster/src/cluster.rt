@@ -15,7 +15,7 @@ use crate::append::{copies, copy};
 use crate::broker::Broker;
 use crate::group::{copy_assignment, copy_held};
 use crate::producers::new_pending;
-use crate::reading::{decided_in, ends_in, next_in, pending_count, readable_in};
+use crate::reading::{ends_in, next_in, pending_count};
 use crate::replies::{done, numbered, told};
 use crate::work::Work;
 use ks_history::{Entry, Journal, Reply, Request};
@@ -367,9 +367,9 @@ impl<W: Work> Cluster<W> {
         ensures records { IfOk result (λ r. r.0.items ≡ (fetched (state_of W.plan self.now) part from max).0) }
         ensures next { IfOk result (λ r. r.1 ≡ (fetched (state_of W.plan self.now) part from max).1) }
     {
-        let log = self.broker.log.as_slice();
-        let made = readable_in(alloc, log, part, from, max as usize)?;
-        let next = next_in(made.as_slice(), log, part, from, max as usize)?;
+        let slots = self.broker.log.part(part);
+        let made = slots.readable(alloc, from, max as usize)?;
+        let next = next_in(made.as_slice(), slots.stable(), from, max as usize)?;
         Ok((made, next))
     }
 
@@ -454,9 +454,8 @@ impl<W: Work> Cluster<W> {
         requires { IsPart (setup_of W.plan self.now) part }
         ensures { IfOk result (λ v. v.items ≡ decided_records (state_of W.plan self.now) part) }
     {
-        let log = self.broker.log.as_slice();
         let producers = self.broker.producers.as_slice();
-        let made = decided_in(alloc, log, producers, part)?;
+        let made = self.broker.log.part(part).decided(alloc, producers, part)?;
         Ok(made)
     }
 }

@@ -4,9 +4,11 @@
 mod append;
 mod broker;
 mod cluster;
-mod ends;
+mod counts;
 mod group;
 mod log;
+mod marks;
+mod part;
 mod producers;
 mod reading;
 mod replies;

@@ -1,166 +1,78 @@
 //! What the readers of a partition are given.
-ghost use Rattle.std.specs.Prelude.{◌≡◌, ◌++◌, ◌∷◌, [], ℕ, List, take, length, map, max, IfOk, ◌≤◌, ◌<◌, ◌==◌, if◌then◌else◌, true, false, None};
-ghost use Rattle.ks_history.specs.Partition.{next_mark, stable, past_last, decision};
+ghost use Rattle.std.specs.Prelude.{◌≡◌, ◌++◌, ◌∷◌, [], ℕ, List, take, drop, length, map, max, IfOk, OnOk, ◌≤◌, ◌<◌, ◌==◌, if◌then◌else◌};
+ghost use Rattle.ks_history.specs.Partition.{past_last, decision};
 ghost use Rattle.ks_history.specs.Faithful.{marker_among};
-ghost use Rattle.ks_cluster.specs.Placed.{slots_in};
-ghost use Rattle.ks_cluster.specs.Marking.{IsMarking};
+ghost use Rattle.ks_cluster.specs.Index.{marks_in};
 ghost use Rattle.ks_cluster.specs.Producers.{waiting_in, pending_in};
 ghost use Rattle.ks_row.specs.declared.record.Rec.{Rec as Record};
-ghost use Rattle.ks_cluster.specs.Reading.{readable_pairs, decided_pairs, at_or_past, end_at};
+ghost use Rattle.ks_cluster.specs.Reading.{record_at, shown_pairs, decided_one, decided_pairs, end_at};
 
 use crate::append::copy;
-use crate::log::{Log, Placed};
+use crate::log::Log;
+use crate::marks::{Marked, mark_count, mark_in};
 use ks_history::{Producer, Slot};
 use ks_row::{Marker, PartId, Rec};
 use std::alloc::{AllocError, Global};
 
-/// How the next marker of this producer and epoch decides.
-fn next_mark_in(log: &[Placed], part: PartId, w: u8, epoch: u64) -> Option<bool>
-    ensures { result ≡ next_mark w epoch (slots_in part log.now) }
-{
-    for placed in log {
-        if part.is(placed.part) {
-            match &placed.slot {
-                Slot::Mark {
-                    producer,
-                    epoch: e,
-                    commit,
-                } => {
-                    if w == *producer && epoch == *e {
-                        return Some(*commit);
-                    }
-                }
-                _ => {}
-            }
-        }
-    }
-    None
-}
-
-/// How the next marker of a producer and epoch decides, where that is known.
-#[derive(Clone, Copy)]
-struct Marking {
-    known: bool,
-    producer: u8,
-    epoch: u64,
-    mark: Option<bool>,
-}
-
-/// Nothing is known.
-fn no_marking() -> Marking
-    ensures { result ≡ record { known = false; producer = 0; epoch = 0; mark = None } }
-{
-    Marking {
-        known: false,
-        producer: 0,
-        epoch: 0,
-        mark: None,
-    }
-}
-
-/// What is known of the next marker of this producer and epoch: it is looked for where something else was known.
-fn marking_for(kept: Marking, log: &[Placed], part: PartId, w: u8, epoch: u64) -> Marking
-    requires { IsMarking kept (slots_in part log.now) }
-    ensures { result ≡ record { known = true; producer = w; epoch = epoch; mark = next_mark w epoch (slots_in part log.now) } }
-{
-    if kept.known && w == kept.producer && epoch == kept.epoch {
-        return kept;
-    }
-    Marking {
-        known: true,
-        producer: w,
-        epoch,
-        mark: next_mark_in(log, part, w, epoch),
-    }
-}
-
-/// The last stable offset: where the first record stands that no marker completes, or the end.
-fn stable_in(log: &[Placed], part: PartId) -> u64
-    ensures { result ≡ stable (slots_in part log.now) }
-{
-    let mut at: u64 = 0;
-    let mut kept = no_marking();
-    for (i, placed) in log.iter().enumerate() {
-        if part.is(placed.part) {
-            match &placed.slot {
-                Slot::Sent {
-                    producer,
-                    epoch,
-                    number: _,
-                    task: _,
-                    rec: _,
-                } => {
-                    kept = marking_for(kept, &log[i + 1..], part, *producer, *epoch);
-                    if kept.mark.is_none() {
-                        return at;
-                    }
-                }
-                Slot::Plain { rec: _ } => {}
-                _ => kept = no_marking(),
-            }
-            at += 1;
-        }
-    }
-    at
-}
-
-/// Takes a record at an offset where that is at or past the first one, and answers how many may still be taken.
-fn take_at(
+/// Takes a record with its offset, and answers how many may still be taken.
+fn take_record(
     made: &mut Vec<(u64, Rec)>,
     at: u64,
     rec: &Rec,
-    from: u64,
     left: usize,
 ) -> Result<usize, AllocError>
     requires { 0 < left }
-    ensures { IfOk result (λ less. (rest : List (ℕ × Record)) → made.new.items ++ take less (at_or_past from rest) ≡ made.old.items ++ take left (at_or_past from ((at, rec.now) ∷ rest))) }
+    ensures { IfOk result (λ less. (rest : List (ℕ × Record)) → made.new.items ++ take less rest ≡ made.old.items ++ take left ((at, rec.now) ∷ rest)) }
 {
-    if from > at {
-        return Ok(left);
-    }
     made.push((at, copy(rec)?))?;
     Ok(left - 1)
 }
 
-/// The first readable records of a partition at or past an offset, at most so many. No other is copied.
-pub fn readable_in(
+/// Takes the record of a slot, where readers get it.
+fn take_slot(
+    made: &mut Vec<(u64, Rec)>,
+    at: u64,
+    slot: &Slot,
+    is_shown: bool,
+    left: usize,
+) -> Result<usize, AllocError>
+    requires { 0 < left }
+    ensures { IfOk result (λ less. (rest : List (ℕ × Record)) → made.new.items ++ take less rest ≡ made.old.items ++ take left ((if is_shown then record_at at slot.now else []) ++ rest)) }
+{
+    if !is_shown {
+        return Ok(left);
+    }
+    match slot {
+        Slot::Plain { rec } => take_record(made, at, rec, left),
+        Slot::Sent {
+            producer: _,
+            epoch: _,
+            number: _,
+            task: _,
+            rec,
+        } => take_record(made, at, rec, left),
+        _ => Ok(left),
+    }
+}
+
+/// The first records that readers get at or past an offset, at most so many. No other is copied.
+pub fn shown_from(
     alloc: Global,
-    log: &[Placed],
-    part: PartId,
-    from: u64,
+    slots: &[Slot],
+    shown: &[bool],
+    from: usize,
     limit: usize,
 ) -> Result<Vec<(u64, Rec)>, AllocError>
-    ensures { IfOk result (λ made. made.items ≡ take limit (at_or_past from (readable_pairs 0 (slots_in part log.now)))) }
+    requires { length shown.now ≤ length slots.now }
+    ensures { IfOk result (λ made. made.items ≡ take limit (shown_pairs from (drop from shown.now) (drop from slots.now))) }
 {
     let mut made = Vec::new(alloc);
-    let mut at: u64 = 0;
     let mut left = limit;
-    let mut kept = no_marking();
-    for (i, placed) in log.iter().enumerate() {
+    for i in from..shown.len() {
         if left == 0 {
             return Ok(made);
         }
-        if part.is(placed.part) {
-            match &placed.slot {
-                Slot::Plain { rec } => left = take_at(&mut made, at, rec, from, left)?,
-                Slot::Sent {
-                    producer,
-                    epoch,
-                    number: _,
-                    task: _,
-                    rec,
-                } => {
-                    kept = marking_for(kept, &log[i + 1..], part, *producer, *epoch);
-                    match kept.mark {
-                        None => return Ok(made),
-                        Some(true) => left = take_at(&mut made, at, rec, from, left)?,
-                        Some(false) => {}
-                    }
-                }
-                _ => kept = no_marking(),
-            }
-            at += 1;
-        }
+        left = take_slot(&mut made, i as u64, &slots[i], shown[i], left)?;
     }
     Ok(made)
 }
@@ -180,21 +92,14 @@ fn past_last_in(recs: &[(u64, Rec)]) -> Result<u64, AllocError>
     Ok(last + 1)
 }
 
-/// Where the next read goes on after one that gave these records, of at most so many. The last stable offset is looked for
-/// only where they are fewer.
-pub fn next_in(
-    recs: &[(u64, Rec)],
-    log: &[Placed],
-    part: PartId,
-    from: u64,
-    limit: usize,
-) -> Result<u64, AllocError>
-    ensures { IfOk result (λ next. next ≡ (if length recs.now == limit then past_last recs.now else max from (stable (slots_in part log.now)))) }
+/// Where the next read goes on after one that gave these records, of at most so many.
+pub fn next_in(recs: &[(u64, Rec)], stable: u64, from: u64, limit: usize) -> Result<u64, AllocError>
+    ensures { IfOk result (λ next. next ≡ (if length recs.now == limit then past_last recs.now else max from stable)) }
 {
     if recs.len() == limit {
         past_last_in(recs)
     } else {
-        Ok(from.max(stable_in(log, part)))
+        Ok(from.max(stable))
     }
 }
 
@@ -204,7 +109,7 @@ pub fn ends_in(alloc: Global, log: &Log, parts: &[PartId]) -> Result<Vec<u64>, A
 {
     let mut ends = Vec::new(alloc);
     for part in parts {
-        ends.push(log.end(*part))?;
+        ends.push(log.part(*part).end())?;
     }
     Ok(ends)
 }
@@ -261,39 +166,54 @@ fn decision_in(
     }
 }
 
-/// The decided records of a partition.
+/// Takes the record of a slot that these markers follow, where it is decided.
+fn decide_slot(
+    made: &mut Vec<(u64, Rec)>,
+    at: u64,
+    slot: &Slot,
+    marks: &[Marked],
+    producers: &[Producer],
+    part: PartId,
+) -> Result<(), AllocError>
+    ensures { OnOk result (made.new.items ≡ made.old.items ++ decided_one (waiting_in producers.now part) at slot.now marks.now) }
+{
+    match slot {
+        Slot::Plain { rec } => made.push((at, copy(rec)?))?,
+        Slot::Sent {
+            producer,
+            epoch,
+            number: _,
+            task: _,
+            rec,
+        } => {
+            let mark = mark_in(marks, *producer, *epoch);
+            match decision_in(mark, producers, part, *producer, *epoch) {
+                Some(true) => made.push((at, copy(rec)?))?,
+                _ => {}
+            }
+        }
+        _ => {}
+    }
+    Ok(())
+}
+
+/// The decided records of a partition, which has these markers.
 pub fn decided_in(
     alloc: Global,
-    log: &[Placed],
+    slots: &[Slot],
+    marks: &[Marked],
     producers: &[Producer],
     part: PartId,
 ) -> Result<Vec<(u64, Rec)>, AllocError>
-    ensures { IfOk result (λ made. made.items ≡ decided_pairs (waiting_in producers.now part) 0 (slots_in part log.now)) }
+    requires { marks.now ≡ marks_in slots.now }
+    ensures { IfOk result (λ made. made.items ≡ decided_pairs (waiting_in producers.now part) 0 slots.now) }
 {
     let mut made = Vec::new(alloc);
-    let mut at: u64 = 0;
-    let mut kept = no_marking();
-    for (i, placed) in log.iter().enumerate() {
-        if part.is(placed.part) {
-            match &placed.slot {
-                Slot::Plain { rec } => made.push((at, copy(rec)?))?,
-                Slot::Sent {
-                    producer,
-                    epoch,
-                    number: _,
-                    task: _,
-                    rec,
-                } => {
-                    kept = marking_for(kept, &log[i + 1..], part, *producer, *epoch);
-                    match decision_in(kept.mark, producers, part, *producer, *epoch) {
-                        Some(true) => made.push((at, copy(rec)?))?,
-                        _ => {}
-                    }
-                }
-                _ => kept = no_marking(),
-            }
-            at += 1;
-        }
+    let mut passed: usize = 0;
+    for (i, slot) in slots.iter().enumerate() {
+        let rest = &marks[passed..];
+        decide_slot(&mut made, i as u64, slot, rest, producers, part)?;
+        passed += mark_count(slot);
     }
     Ok(made)
 }

@@ -1,4 +1,4 @@
-use Rattle.std.proofs.Common.{◌≡◌, ◌+◌, ◌≤◌, ◌<◌, ◌^◌, ◌++◌, drop, take, length}
+use Rattle.std.proofs.Common.{◌≡◌, take}
 use Rattle.ks_cluster.proofs.append.copies.Given as goal
 
 abbrev pub invariant-loop-rec : goal.invariant-loop-rec

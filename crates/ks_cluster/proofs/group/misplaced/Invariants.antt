@@ -1,4 +1,4 @@
-use Rattle.std.proofs.Common.{◌≡◌, ◌≤◌, ℕ, drop, length}
+use Rattle.std.proofs.Common.{◌≡◌, ◌≤◌, drop, length}
 use Rattle.ks_history.specs.Step.{badly_placed}
 use Rattle.ks_cluster.proofs.group.misplaced.Given as goal
 

@@ -1,6 +1,5 @@
-use Rattle.std.proofs.Common.{◌≡◌, List, [], ℕ}
+use Rattle.std.proofs.Common.{◌≡◌, []}
 use Rattle.std.specs.Prelude.{replicate}
-use Rattle.ks_row.specs.declared.record.TaskId.{TaskId}
 use Rattle.ks_cluster.proofs.group.none_held.Given as goal
 
 abbrev pub invariant-loop : goal.invariant-loop

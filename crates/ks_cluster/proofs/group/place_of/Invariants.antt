@@ -1,4 +1,4 @@
-use Rattle.std.proofs.Common.{◌≡◌, ◌+◌, ◌≤◌, ◌<◌, ◌^◌, ◌++◌, drop, take, length}
+use Rattle.std.proofs.Common.{◌≡◌, drop}
 use Rattle.ks_history.specs.Step.{place_in}
 use Rattle.ks_cluster.proofs.group.place_of.Given as goal
 

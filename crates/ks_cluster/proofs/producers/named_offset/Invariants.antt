@@ -1,4 +1,4 @@
-use Rattle.std.proofs.Common.{◌≡◌, ◌+◌, ◌≤◌, ◌<◌, ◌^◌, ◌++◌, drop, take, length}
+use Rattle.std.proofs.Common.{◌≡◌, drop}
 use Rattle.ks_history.specs.State.{offset_in}
 use Rattle.ks_cluster.proofs.producers.named_offset.Given as goal
 

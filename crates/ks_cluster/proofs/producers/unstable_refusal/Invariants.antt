@@ -1,4 +1,4 @@
-use Rattle.std.proofs.Common.{◌≡◌, ◌+◌, ◌≤◌, ◌<◌, ◌^◌, ◌++◌, drop, take, length}
+use Rattle.std.proofs.Common.{◌≡◌, drop}
 use Rattle.ks_cluster.specs.Producers.{unstable_in, counts_for}
 use Rattle.ks_cluster.proofs.producers.unstable_refusal.Given as goal
 

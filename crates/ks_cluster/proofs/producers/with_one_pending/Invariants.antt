@@ -1,4 +1,4 @@
-use Rattle.std.proofs.Common.{◌≡◌, ◌+◌, ◌≤◌, ◌<◌, ◌^◌, ◌++◌, drop, take, length}
+use Rattle.std.proofs.Common.{◌≡◌, ◌++◌, drop}
 use Rattle.ks_history.specs.State.{with_pending}
 use Rattle.ks_cluster.proofs.producers.with_one_pending.Given as goal
 

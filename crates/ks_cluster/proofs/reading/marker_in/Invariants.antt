@@ -1,4 +1,4 @@
-use Rattle.std.proofs.Common.{◌≡◌, ◌+◌, ◌≤◌, ◌<◌, ◌^◌, ◌++◌, drop, take, length}
+use Rattle.std.proofs.Common.{◌≡◌, drop}
 use Rattle.ks_history.specs.Faithful.{marker_among}
 use Rattle.ks_cluster.proofs.reading.marker_in.Given as goal
 

@@ -1,4 +1,4 @@
-use Rattle.std.proofs.Common.{◌≡◌, ◌++◌, ◌∷◌, [], refl, ap, ◌∙◌}
+use Rattle.std.proofs.Common.{◌++◌, ◌∷◌, [], refl, ap, ◌∙◌}
 use Rattle.ks_history.specs.Step.{with_late}
 use Rattle.ks_cluster.proofs.Steps.{committed_if}
 use Rattle.ks_cluster.proofs.broker.Broker.decide.Goals as goal

@@ -1,4 +1,4 @@
-use Rattle.std.proofs.Common.{◌≡◌, set, refl, ap}
+use Rattle.std.proofs.Common.{set, refl, ap}
 use Rattle.ks_cluster.proofs.Groups.{held_moves}
 use Rattle.ks_cluster.proofs.broker.Broker.hold.Goals as goal
 

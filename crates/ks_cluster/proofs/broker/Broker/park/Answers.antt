@@ -1,4 +1,4 @@
-use Rattle.std.proofs.Common.{◌≡◌, refl, ap}
+use Rattle.std.proofs.Common.{refl, ap}
 use Rattle.ks_cluster.proofs.Groups.{parked_moves}
 use Rattle.ks_cluster.proofs.broker.Broker.park.Goals as goal
 

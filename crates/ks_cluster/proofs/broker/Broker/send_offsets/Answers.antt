@@ -1,4 +1,4 @@
-use Rattle.std.proofs.Common.{◌≡◌, refl, sym, ap, ◌∙◌}
+use Rattle.std.proofs.Common.{refl, sym, ◌∙◌}
 use Rattle.ks_cluster.proofs.Steps.{refused_moves, send_refused, offsets_moves}
 use Rattle.ks_cluster.proofs.broker.Broker.send_offsets.Goals as goal
 

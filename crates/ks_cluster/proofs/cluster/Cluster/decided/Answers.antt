@@ -1,6 +1,6 @@
 use Rattle.std.proofs.Common.{◌≡◌, ap, ◌∙◌, subst}
 use Rattle.ks_history.specs.Reads.{decided_records}
-use Rattle.ks_cluster.specs.Placed.{slots_in}
+use Rattle.ks_cluster.specs.Written.{slots_in}
 use Rattle.ks_cluster.specs.Producers.{waiting_in}
 use Rattle.ks_cluster.specs.Reading.{decided_pairs}
 use Rattle.ks_cluster.specs.Kept.{state_of}
@@ -12,6 +12,6 @@ returns g c =
     let b = c.self.inside.broker in
     let part = c.args.part in
     c.in_ok-made.ensures
-    ∙ ap (λ l. decided_pairs (waiting_in c.as_slice-producers.result.now part) 0 (slots_in part l)) c.as_slice-log.ensures.slots
+    ∙ ap (λ l. decided_pairs (waiting_in c.as_slice-producers.result.now part) 0 l) c.part.ensures
     ∙ ap (λ ps. decided_pairs (waiting_in ps part) 0 (slots_in part b.log)) c.as_slice-producers.ensures.value
     ∙ subst (λ v. decided_pairs (waiting_in b.producers.items part) 0 (slots_in part b.log) ≡ decided_records (state_of g.W.Work.plan v) part) c.self.view_is (decided-are _ _ b part c.self.invariant.stands)

@@ -1,4 +1,4 @@
-use Rattle.std.proofs.Common.{◌≡◌, ◌++◌, ◌∷◌, [], refl, sym, ap, ◌∙◌, subst}
+use Rattle.std.proofs.Common.{refl, sym, subst}
 use Rattle.ks_history.specs.declared.journal.Request.TheVariants.{Expire}
 use Rattle.ks_history.specs.declared.journal.Reply.TheVariants.{Truth}
 use Rattle.ks_history.specs.History.{Meets}

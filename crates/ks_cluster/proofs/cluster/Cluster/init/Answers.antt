@@ -1,4 +1,4 @@
-use Rattle.std.proofs.Common.{◌≡◌, ◌++◌, ◌∷◌, [], refl, sym, ap, ◌∙◌, subst}
+use Rattle.std.proofs.Common.{refl, sym, subst}
 use Rattle.ks_history.specs.declared.journal.Request.TheVariants.{Init}
 use Rattle.ks_history.specs.declared.journal.Reply.TheVariants.{Number}
 use Rattle.ks_history.specs.History.{Meets}

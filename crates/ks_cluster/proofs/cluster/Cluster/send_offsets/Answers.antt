@@ -1,4 +1,4 @@
-use Rattle.std.proofs.Common.{◌≡◌, ◌++◌, ◌∷◌, [], refl, sym, ap, ◌∙◌, subst}
+use Rattle.std.proofs.Common.{refl, sym, subst}
 use Rattle.ks_history.specs.declared.journal.Request.TheVariants.{SendOffsets}
 use Rattle.ks_history.specs.History.{Meets}
 use Rattle.ks_cluster.specs.Kept.{setup_of, state_of}

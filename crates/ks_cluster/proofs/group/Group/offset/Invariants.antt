@@ -1,4 +1,4 @@
-use Rattle.std.proofs.Common.{◌≡◌, ◌+◌, ◌≤◌, ◌<◌, ◌^◌, ◌++◌, drop, take, length}
+use Rattle.std.proofs.Common.{◌≡◌, drop}
 use Rattle.ks_cluster.specs.Producers.{offset_after}
 use Rattle.ks_cluster.proofs.group.Group.offset.Given as goal
 

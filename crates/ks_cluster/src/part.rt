@@ -1,0 +1,150 @@
+//! One partition: its slots, and beside them what readers and appends need of them.
+ghost use Rattle.std.specs.Prelude.{◌≡◌, ◌≤◌, ◌++◌, [], length, drop, take, vec_capacity, IfOk, OnOk, OnErr};
+ghost use Rattle.ks_history.specs.Partition.{stable, count_sent};
+ghost use Rattle.ks_cluster.specs.Index.{shown_in, marks_in};
+ghost use Rattle.ks_cluster.specs.Reading.{readable_pairs, decided_pairs, at_or_past};
+ghost use Rattle.ks_cluster.specs.Producers.{waiting_in};
+
+use crate::counts::{Counted, count_of, counts_with};
+use crate::marks::{Marked, is_shown, mark_count, marks_of};
+use crate::reading::{decided_in, shown_from};
+use ks_history::{Producer, Slot};
+use ks_row::{PartId, Rec};
+use std::alloc::{AllocError, Global};
+use std::marker::Model;
+
+/// The slots of a partition in the order of their offsets.
+#[derive(Drop)]
+pub struct Part {
+    slots: Vec<Slot>,
+    /// For each slot below the last stable offset, whether readers get it.
+    shown: Vec<bool>,
+    marks: Vec<Marked>,
+    /// How many markers stand below the last stable offset.
+    passed: usize,
+    counts: Vec<Counted>,
+}
+
+impl Model for Part {
+    ghost use Rattle.std.specs.Prelude.{List};
+    ghost use Rattle.ks_history.specs.declared.partition.Slot.{Slot};
+    ghost use Rattle.ks_cluster.specs.Index.{IsIndexed};
+
+    ghost Value = { List Slot };
+
+    ghost view = { λ p. p.slots.items };
+
+    ghost invariant = { λ p. IsIndexed p.slots.items p.shown.items p.marks.items p.passed p.counts.items };
+}
+
+/// Tells of each slot on from those that are known whether readers get it, up to the first record that no marker
+/// completes, and answers how many markers are passed.
+fn show_more(slots: &[Slot], marks: &[Marked], passed: usize, shown: &mut Vec<bool>) -> usize
+    requires room { length slots.now ≤ vec_capacity shown.old }
+    requires known { length shown.old.items ≤ length slots.now }
+    requires within { passed ≤ length marks.now }
+    requires marks { drop passed marks.now ≡ marks_in (drop (length shown.old.items) slots.now) }
+    ensures shown { shown.new.items ≡ shown.old.items ++ shown_in (drop (length shown.old.items) slots.now) }
+    ensures within { result ≤ length marks.now }
+    ensures marks { drop result marks.now ≡ marks_in (drop (length shown.new.items) slots.now) }
+{
+    let mut passed = passed;
+    for i in shown.len()..slots.len() {
+        let slot = &slots[i];
+        let Some(is) = is_shown(slot, &marks[passed..]) else {
+            return passed;
+        };
+        shown.push_reserved(is);
+        passed += mark_count(slot);
+    }
+    passed
+}
+
+impl Part {
+    pub fn new(alloc: Global) -> Part
+        ensures { result ≡ [] }
+    {
+        Part {
+            slots: Vec::new(alloc),
+            shown: Vec::new(alloc),
+            marks: Vec::new(alloc),
+            passed: 0,
+            counts: Vec::new(alloc),
+        }
+    }
+
+    /// The offset of the next slot.
+    pub fn end(&self) -> u64
+        ensures { result ≡ length self.now }
+    {
+        self.slots.len() as u64
+    }
+
+    /// The last stable offset.
+    pub fn stable(&self) -> u64
+        ensures { result ≡ stable self.now }
+    {
+        self.shown.len() as u64
+    }
+
+    /// How many records of this producer and epoch there are.
+    pub fn count(&self, w: u8, epoch: u64) -> u64
+        ensures { result ≡ count_sent w epoch self.now }
+    {
+        count_of(self.counts.as_slice(), w, epoch)
+    }
+
+    /// The first readable records at or past an offset, at most so many.
+    pub fn readable(
+        &self,
+        alloc: Global,
+        from: u64,
+        limit: usize,
+    ) -> Result<Vec<(u64, Rec)>, AllocError>
+        ensures { IfOk result (λ made. made.items ≡ take limit (at_or_past from (readable_pairs 0 self.now))) }
+    {
+        let slots = self.slots.as_slice();
+        let made = shown_from(alloc, slots, self.shown.as_slice(), from as usize, limit)?;
+        Ok(made)
+    }
+
+    /// The decided records, where the partition is this one of the producers' markers.
+    pub fn decided(
+        &self,
+        alloc: Global,
+        producers: &[Producer],
+        part: PartId,
+    ) -> Result<Vec<(u64, Rec)>, AllocError>
+        ensures { IfOk result (λ made. made.items ≡ decided_pairs (waiting_in producers.now part) 0 self.now) }
+    {
+        decided_in(
+            alloc,
+            self.slots.as_slice(),
+            self.marks.as_slice(),
+            producers,
+            part,
+        )
+    }
+
+    /// More slots at the end. After want of memory all is as before.
+    pub fn append(&mut self, alloc: Global, more: Vec<Slot>) -> Result<(), AllocError>
+        ensures ok { OnOk result (self.new ≡ self.old ++ more.items) }
+        ensures err { OnErr result (self.new ≡ self.old) }
+    {
+        let mut more = more;
+        let mut found = marks_of(alloc, more.as_slice())?;
+        let counts = counts_with(alloc, self.counts.as_slice(), more.as_slice())?;
+        let room = self.slots.len() - self.shown.len();
+        self.shown.reserve(room + more.len())?;
+        self.marks.reserve(found.len())?;
+        self.slots.append(&mut more)?;
+        if self.marks.append(&mut found).is_err() {
+            unreachable!();
+        }
+        self.counts = counts;
+        let slots = self.slots.as_slice();
+        let marks = self.marks.as_slice();
+        self.passed = show_more(slots, marks, self.passed, &mut self.shown);
+        Ok(())
+    }
+}
