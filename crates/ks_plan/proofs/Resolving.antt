@@ -1,10 +1,9 @@
 -- What is known of resolved nodes.
-use Rattle.std.proofs.Common.{◌≡◌, ℕ, zero, suc, Bool, true, false, List, [], ◌∷◌, ◌++◌, map, fold, get_or, slice_get, Option, Some, None, refl, sym, ap, ap₂, ◌∙◌, append-nil, append_assoc}
+use Rattle.std.proofs.Common.{◌≡◌, ℕ, zero, suc, List, [], ◌∷◌, ◌++◌, map, fold, get_or, refl, sym, ap, ap₂, ◌∙◌, append-nil, append_assoc}
 use Rattle.std.proofs.lemmas.List.{map-append}
 use Rattle.std.specs.Prelude.{ℤ}
 use Rattle.ks_plan.specs.declared.resolve.Resolved.{Resolved}
 use Rattle.ks_plan.specs.declared.resolve.Input.{Input}
-use Rattle.ks_plan.specs.declared.node.Wiring.TheVariants as wired
 use Rattle.ks_plan.specs.Drafts.{Name, NodeView}
 use Rattle.ks_plan.specs.Plan.{Known, learn, known_from, known_names, known_at, node_number, name_place, nothing_known}
 use Rattle.ks_plan.specs.Faults.{names_of}

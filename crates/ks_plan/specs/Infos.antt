@@ -7,7 +7,7 @@ use Rattle.ks_plan.specs.declared.node.Topic.TheVariants.{Input, Repartition, Su
 use Rattle.ks_plan.specs.declared.node.TopicInfo.{TopicInfo}
 use Rattle.ks_plan.specs.declared.node.Wiring.{Wiring}
 use Rattle.ks_plan.specs.declared.node.Node.{Node}
-use Rattle.ks_plan.specs.Drafts.{Name, OpView, op_view, NodeView, DraftView}
+use Rattle.ks_plan.specs.Drafts.{Name, op_view, NodeView, DraftView}
 use Rattle.ks_plan.specs.Plan.{Plan, wiring_of, is_stream, sorted_topics, plan_of}
 use Rattle.ks_plan.specs.Layout.{up_to, sub_count, topics_of, number_of, parts_of_topic, sub_of, parts_of, kind_at, inputs, changelogs, drain_order, wired_through, wired_changelogs}
 

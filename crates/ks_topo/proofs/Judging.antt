@@ -13,7 +13,7 @@ use Rattle.ks_plan.specs.Drafts.{Name, NodeView, DraftView, op_view, node_view, 
 use Rattle.ks_topo.specs.Earlier.{fault_at, IsNode}
 use Rattle.ks_plan.specs.Plan.{Known, Kind, wiring_of, learn, known_from, plan_of}
 use Rattle.ks_plan.specs.Layout.{wired_parts, node_parts}
-use Rattle.ks_plan.specs.Faults.{node_lines, node_table, nodes_fault, parts_before, first_of}
+use Rattle.ks_plan.specs.Faults.{node_lines, nodes_fault, parts_before, first_of}
 use Rattle.ks_plan.specs.Resolve.{resolved, resolved_from, resolved_op}
 use Rattle.ks_topo.specs.Finds.{Stops, Finds}
 use Rattle.ks_plan.specs.declared.resolve.Resolved.{Resolved}

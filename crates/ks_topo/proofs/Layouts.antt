@@ -1,16 +1,15 @@
 -- The layout over wirings is that of the plan.
-use Rattle.std.proofs.Common.{◌≡◌, ℕ, zero, suc, ◌+◌, ◌*◌, ◌≤◌, Bool, true, false, ◌||◌, cond, List, [], ◌∷◌, ◌++◌, length, map, fold, get_or, refl, sym, ap, ap₂, ◌∙◌, arith, nat_eq, length-append}
+use Rattle.std.proofs.Common.{◌≡◌, ℕ, zero, suc, ◌*◌, ◌≤◌, Bool, ◌||◌, cond, List, [], ◌∷◌, ◌++◌, length, map, fold, get_or, refl, ap, ap₂, ◌∙◌, arith, nat_eq, length-append}
 use Rattle.std.specs.List.{filter, flat_map}
-use Rattle.ks_row.specs.declared.record.TaskId.{TaskId}
 use Rattle.ks_plan.specs.declared.node.Topic.{Topic}
 use Rattle.ks_plan.specs.declared.node.Topic.TheVariants.{Input, Repartition, Subscriptions, Responses, Changelog, HashChangelog}
 use Rattle.ks_plan.specs.declared.node.Wiring.{Wiring}
 use Rattle.ks_plan.specs.declared.node.Wiring.TheVariants as wired
 use Rattle.ks_plan.specs.declared.shape.Shape.{Shape}
-use Rattle.ks_plan.specs.Plan.{Plan, Kind, wiring_of, is_stream}
-use Rattle.ks_plan.specs.Layout.{at, up_to, firsts, first_in, wired_label, wired_parts, wired_right, wired_reads, wired_through, wired_changelogs, label_next, labels, node_parts, parts_of, sub_of, sub_count, kind_at, no_kind, right_of, through_topics, changelogs_of, by_node, input_topics, place_of, topics_of, number_of, parts_of_topic, any_source_of, is_read, first_source_of, source_of, reads, is_drained, drain_order, inputs, changelogs, subs, sub_parts, tasks_in, tasks}
-use Rattle.ks_plan.specs.Wired.{wired_labels, wired_counts, any_wired, first_wired, right_in, flowing, kept, topic_parts, sub_at, subs_in, topic_reader, flows, read_in, subs_of, parts_in_sub, tasks_to, tasks_of_sub, all_tasks, numbers_in, numbers_read}
-use Rattle.ks_plan.specs.Infos.{input_numbers, changelog_numbers, drain_numbers}
+use Rattle.ks_plan.specs.Plan.{Plan, Kind, wiring_of}
+use Rattle.ks_plan.specs.Layout.{at, up_to, firsts, first_in, wired_label, wired_parts, wired_right, wired_reads, wired_through, wired_changelogs, labels, node_parts, parts_of, sub_of, sub_count, kind_at, no_kind, right_of, through_topics, changelogs_of, by_node, input_topics, topics_of, parts_of_topic, any_source_of, is_read, first_source_of, source_of, reads, is_drained, drain_order, subs, tasks_in, tasks}
+use Rattle.ks_plan.specs.Wired.{wired_labels, wired_counts, any_wired, first_wired, right_in, flowing, kept, topic_parts, sub_at, subs_in, topic_reader, flows, read_in, subs_of, tasks_to, tasks_of_sub, all_tasks, numbers_in, numbers_read}
+use Rattle.ks_plan.specs.Infos.{input_numbers, changelog_numbers}
 use Rattle.ks_topo.specs.Built.{IsShapeOf}
 
 fold_over : {A B C : Type 0} (f : A → C → A) (g : B → C) (a : A) (xs : List B) → fold f a (map g xs) ≡ fold (λ a x. f a (g x)) a xs

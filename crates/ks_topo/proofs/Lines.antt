@@ -1,8 +1,7 @@
 -- No fault is no line that fits.
-use Rattle.std.proofs.Common.{◌≡◌, Bool, true, false, cond, List, [], ◌∷◌, ◌++◌, Option, Some, None, refl, sym, ap, ap₂, subst, ◌∙◌, append_assoc, append-nil}
+use Rattle.std.proofs.Common.{◌≡◌, true, false, List, [], ◌∷◌, ◌++◌, Option, Some, None, refl, sym, ap, ap₂, subst, ◌∙◌, append_assoc, append-nil}
 use Rattle.std.specs.Prelude.{ℤ}
 use Rattle.std.specs.Option.{option_or}
-use Rattle.ks_plan.specs.declared.fault.TopoFault.{TopoFault}
 use Rattle.ks_plan.specs.Drafts.{Name, NodeView, DraftView}
 use Rattle.ks_plan.specs.Faults.{Line, first_fitting, first_of, size_lines, node_table, nodes_fault, print_lines, printed_fault, parts_fault, fault_of}
 use Rattle.ks_topo.specs.WellFormed.{NoneFits, NoneOf, IsWellFormed}

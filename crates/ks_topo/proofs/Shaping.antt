@@ -1,5 +1,5 @@
 -- Shapes and topics of plans.
-use Rattle.std.proofs.Common.{◌≡◌, ℕ, zero, suc, true, false, cond, Option, Some, None, ◌+◌, ◌*◌, ◌≤◌, List, [], ◌∷◌, ◌++◌, length, map, refl, sym, ap, ap₂, subst, ◌∙◌, arith, length-append}
+use Rattle.std.proofs.Common.{◌≡◌, ℕ, zero, suc, true, false, cond, Option, Some, None, ◌≤◌, List, [], ◌∷◌, ◌++◌, length, map, refl, sym, ap, ap₂, subst, ◌∙◌, arith, length-append}
 use Rattle.std.specs.Prelude.{ℤ, Result, Ok, Err, IfOk}
 use Rattle.std.specs.declared.alloc.AllocError.{AllocError}
 use Rattle.std.specs.List.{filter}
@@ -15,7 +15,7 @@ use Rattle.ks_plan.specs.declared.resolve.Resolved.{Resolved}
 use Rattle.ks_plan.specs.declared.shape.Shape.{Shape}
 use Rattle.ks_plan.specs.Drafts.{Name, NodeView, DraftView, node_view, nodes_view, draft_view}
 use Rattle.ks_plan.specs.Plan.{Known, wiring_of, gives_stream, known_from, plan_of}
-use Rattle.ks_plan.specs.Layout.{at, sub_of, number_of, kind_at, up_to, wired_through, wired_changelogs, topics_of, drain_order, by_node, input_topics, through_topics, changelogs_of}
+use Rattle.ks_plan.specs.Layout.{at, sub_of, number_of, kind_at, up_to, wired_through, wired_changelogs, topics_of, drain_order, by_node}
 use Rattle.ks_plan.specs.Resolve.{resolved, resolved_from}
 use Rattle.ks_plan.specs.Wired.{wired_labels, wired_counts, flowing, kept, flows, wired_topics, wired_drained, numbers_read, numbers_in, all_tasks}
 use Rattle.ks_topo.specs.Built.{IsShapeOf, IsBuilt, wired_topic_info, wired_place, kept_draft}

@@ -1,9 +1,9 @@
 -- What is shown of nodes.
-use Rattle.std.proofs.Common.{◌≡◌, ℕ, zero, suc, ◌<◌, List, [], ◌∷◌, ◌++◌, length, map, get_or, refl, sym, ap, arith}
+use Rattle.std.proofs.Common.{◌≡◌, ℕ, zero, suc, ◌<◌, List, [], ◌∷◌, ◌++◌, length, map, get_or, sym, ap, arith}
 use Rattle.std.proofs.lemmas.List.{map-append}
 use Rattle.ks_plan.specs.declared.draft.NodeDraft.{NodeDraft}
 use Rattle.ks_plan.specs.declared.node.Node.{Node}
-use Rattle.ks_plan.specs.Drafts.{Name, nodes_view}
+use Rattle.ks_plan.specs.Drafts.{nodes_view}
 use Rattle.ks_plan.specs.Infos.{name_in, node_place, built_view}
 
 pub name_there : (ns : List NodeDraft) (i : ℕ) (x : NodeDraft) → i < length ns → x ≡ get_or ns i x → name_in (nodes_view ns) i ≡ x.name

@@ -1,20 +1,17 @@
 -- What a built topology keeps, of the draft that it was built from.
-use Rattle.std.specs.Prelude.{◌≡◌, ◌≤◌, ℕ, ℤ, suc, List, [], ◌∷◌, ◌++◌, length, map, get_or, Option, Some, None, Bool, cond, if◌then◌else◌, Result, Ok, Err}
+use Rattle.std.specs.Prelude.{◌≡◌, ℕ, ℤ, suc, List, [], ◌∷◌, map, get_or, Option, Some, None, cond, if◌then◌else◌}
 use Rattle.std.specs.Ordering.{nat_cmp, is_lt}
 use Rattle.std.specs.Cmp.Lexicographic.{slice_cmp}
 use Rattle.ks_row.specs.declared.record.TaskId.{TaskId}
-use Rattle.ks_plan.specs.declared.fault.TopoFault.{TopoFault}
 use Rattle.ks_plan.specs.declared.node.Topic.{Topic}
 use Rattle.ks_plan.specs.declared.node.Topic.TheVariants.{Changelog}
 use Rattle.ks_plan.specs.declared.node.TopicInfo.{TopicInfo}
 use Rattle.ks_plan.specs.declared.node.Node.{Node}
 use Rattle.ks_plan.specs.declared.node.Wiring.TheVariants.{StreamSource}
 use Rattle.ks_plan.specs.declared.shape.Shape.{Shape}
-use Rattle.ks_topo.specs.declared.stop.Stop.{Stop}
-use Rattle.ks_topo.specs.declared.stop.Stop.TheVariants.{Memory, Fault}
-use Rattle.ks_plan.specs.Drafts.{Name, NodeView, DraftView}
+use Rattle.ks_plan.specs.Drafts.{Name, DraftView}
 use Rattle.ks_plan.specs.Plan.{Plan, wiring_of, gives_stream, natural, plan_of}
-use Rattle.ks_plan.specs.Layout.{at, up_to, place_of, sub_count, tasks, topics_of, drain_order, by_node, changelogs_of}
+use Rattle.ks_plan.specs.Layout.{at, place_of, tasks, topics_of}
 use Rattle.ks_plan.specs.Infos.{NodePlace, built_view, node_places, topic_infos, topic_name, role_of, inputs_by_sub, changelogs_by_sub, drain_numbers}
 use Rattle.ks_plan.specs.Faults.{fault_of}
 use Rattle.ks_plan.specs.Wired.{wired_labels, wired_counts, sub_at, topic_parts}

@@ -1,5 +1,5 @@
-use Rattle.std.proofs.Common.{◌≡◌, ◌≤◌, ◌++◌, [], fold, drop, length}
-use Rattle.ks_plan.specs.Layout.{wired_parts, wired_label, relabel, firsts}
+use Rattle.std.proofs.Common.{◌≡◌, ◌≤◌}
+use Rattle.ks_plan.specs.Layout.{firsts}
 use Rattle.ks_plan.proofs.layout.count_firsts.Given as goal
 
 -- as far as the loop has come

@@ -1,5 +1,5 @@
-use Rattle.std.proofs.Common.{◌≡◌, ◌≤◌, ◌++◌, [], fold, drop, length}
-use Rattle.ks_plan.specs.Layout.{wired_parts, wired_label, relabel, firsts}
+use Rattle.std.proofs.Common.{◌≡◌, [], fold, drop}
+use Rattle.ks_plan.specs.Layout.{wired_parts}
 use Rattle.ks_plan.proofs.layout.parts_of.Given as goal
 
 -- the rest of the nodes on what was found

@@ -1,5 +1,5 @@
-use Rattle.std.proofs.Common.{◌≡◌, ◌≤◌, ◌++◌, [], fold, drop, length}
-use Rattle.ks_plan.specs.Layout.{wired_parts, wired_label, relabel, firsts}
+use Rattle.std.proofs.Common.{◌≡◌, ◌++◌, drop}
+use Rattle.ks_plan.specs.Layout.{relabel}
 use Rattle.ks_plan.proofs.layout.relabelled.Given as goal
 
 -- what was changed and the rest

@@ -1,7 +1,6 @@
-use Rattle.std.proofs.Common.{◌≡◌, ◌+◌, drop}
+use Rattle.std.proofs.Common.{◌≡◌, drop}
 use Rattle.ks_plan.specs.Drafts.{nodes_view}
-use Rattle.ks_plan.specs.Plan.{name_place, topic_number}
-use Rattle.ks_plan.specs.Faults.{has_name, names_of, sources_of, names_of_topics}
+use Rattle.ks_plan.specs.Faults.{has_name, sources_of}
 use Rattle.ks_plan.proofs.names.is_source.Given as goal
 
 -- the rest decides

@@ -1,7 +1,5 @@
 use Rattle.std.proofs.Common.{◌≡◌, ◌≤◌, ◌+◌, drop}
-use Rattle.ks_plan.specs.Drafts.{nodes_view}
-use Rattle.ks_plan.specs.Plan.{name_place, topic_number}
-use Rattle.ks_plan.specs.Faults.{has_name, names_of, sources_of, names_of_topics}
+use Rattle.ks_plan.specs.Plan.{topic_number}
 use Rattle.ks_plan.proofs.names.topic_number.Given as goal
 
 -- the rest decides

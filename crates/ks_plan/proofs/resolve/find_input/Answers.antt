@@ -1,5 +1,4 @@
-use Rattle.std.proofs.Common.{false, arith}
-use Rattle.ks_plan.specs.declared.node.Wiring.TheVariants.{StreamSource}
+use Rattle.std.proofs.Common.{arith}
 use Rattle.ks_plan.specs.Drafts.{nodes_view}
 use Rattle.ks_plan.specs.Plan.{nothing_known}
 use Rattle.ks_plan.specs.Resolve.{resolved}

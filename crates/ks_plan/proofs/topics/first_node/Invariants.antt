@@ -1,7 +1,5 @@
-use Rattle.std.proofs.Common.{◌≡◌, ◌≤◌, ◌+◌, ◌++◌, [], map, drop, length}
-use Rattle.std.specs.List.{filter, flat_map}
-use Rattle.ks_plan.specs.Layout.{first_in, up_to}
-use Rattle.ks_plan.specs.Wired.{subs_of, sub_at, tasks_to, tasks_of_sub}
+use Rattle.std.proofs.Common.{◌≡◌, ◌+◌, drop}
+use Rattle.ks_plan.specs.Layout.{first_in}
 use Rattle.ks_plan.proofs.topics.first_node.Given as goal
 
 -- the rest decides

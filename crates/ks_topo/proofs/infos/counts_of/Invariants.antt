@@ -1,8 +1,6 @@
-use Rattle.std.proofs.Common.{◌≡◌, ◌≤◌, ◌+◌, ◌++◌, [], map, fold, drop, length, false}
-use Rattle.ks_plan.specs.Drafts.{draft_view, nodes_view}
-use Rattle.ks_plan.specs.Plan.{with_topic}
+use Rattle.std.proofs.Common.{◌≡◌, ◌++◌, drop, length, false}
 use Rattle.ks_plan.specs.Faults.{any_past}
-use Rattle.ks_topo.specs.Built.{topic_place, naturals, wired_topic_info}
+use Rattle.ks_topo.specs.Built.{naturals}
 use Rattle.ks_topo.proofs.infos.counts_of.Given as goal
 
 -- what was found and what the rest gives

@@ -1,8 +1,5 @@
-use Rattle.std.proofs.Common.{◌≡◌, ◌≤◌, ◌+◌, ◌++◌, [], map, fold, drop, length, false}
-use Rattle.ks_plan.specs.Drafts.{draft_view, nodes_view}
-use Rattle.ks_plan.specs.Plan.{with_topic}
-use Rattle.ks_plan.specs.Faults.{any_past}
-use Rattle.ks_topo.specs.Built.{topic_place, naturals, wired_topic_info}
+use Rattle.std.proofs.Common.{◌≡◌, ◌+◌, drop}
+use Rattle.ks_topo.specs.Built.{topic_place}
 use Rattle.ks_topo.proofs.infos.find_place.Given as goal
 
 -- the rest decides

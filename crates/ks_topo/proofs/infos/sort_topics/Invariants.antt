@@ -1,8 +1,5 @@
-use Rattle.std.proofs.Common.{◌≡◌, ◌≤◌, ◌+◌, ◌++◌, [], map, fold, drop, length, false}
-use Rattle.ks_plan.specs.Drafts.{draft_view, nodes_view}
+use Rattle.std.proofs.Common.{◌≡◌, [], fold, drop, length}
 use Rattle.ks_plan.specs.Plan.{with_topic}
-use Rattle.ks_plan.specs.Faults.{any_past}
-use Rattle.ks_topo.specs.Built.{topic_place, naturals, wired_topic_info}
 use Rattle.ks_topo.proofs.infos.sort_topics.Given as goal
 
 -- the rest onto what was found

@@ -1,8 +1,6 @@
-use Rattle.std.proofs.Common.{◌≡◌, ◌≤◌, ◌+◌, ◌++◌, [], map, fold, drop, length, false}
-use Rattle.ks_plan.specs.Drafts.{draft_view, nodes_view}
-use Rattle.ks_plan.specs.Plan.{with_topic}
-use Rattle.ks_plan.specs.Faults.{any_past}
-use Rattle.ks_topo.specs.Built.{topic_place, naturals, wired_topic_info}
+use Rattle.std.proofs.Common.{◌≡◌, ◌++◌, map, drop}
+use Rattle.ks_plan.specs.Drafts.{draft_view}
+use Rattle.ks_topo.specs.Built.{wired_topic_info}
 use Rattle.ks_topo.proofs.infos.topic_infos.Given as goal
 
 -- what was found and what the rest gives

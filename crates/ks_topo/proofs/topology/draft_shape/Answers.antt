@@ -1,5 +1,3 @@
-use Rattle.std.proofs.Common.{◌≡◌, sym, ap, ◌∙◌}
-use Rattle.std.specs.Prelude.{IfOk, Ok, Err}
 use Rattle.ks_plan.specs.Drafts.{draft_view}
 use Rattle.ks_topo.proofs.Shaping.{shape_is}
 use Rattle.ks_topo.proofs.topology.draft_shape.Goals as goal

@@ -1,5 +1,3 @@
-use Rattle.std.proofs.Common.{◌≡◌, ap, ◌∙◌, false}
-use Rattle.ks_plan.specs.Faults.{any_past}
 use Rattle.ks_topo.proofs.Sorting.{past_all}
 use Rattle.ks_topo.proofs.topology.judge_and_build.Goals as goal
 
