@@ -1,7 +1,6 @@
 -- What the requests of the group alone do to a broker, and a worker's removal.
 use Rattle.std.proofs.Common.{◌≡◌, ℕ, ◌+◌, ◌<◌, ◌≤◌, ◌^◌, Bool, true, false, cond, List, [], ◌∷◌, ◌++◌, length, set, get_or, length-set, Option, None, refl, sym, ap, ◌∙◌, subst, arith}
 use Rattle.std.specs.Prelude.{◌==◌, ◌&&◌, ◌||◌}
-use Rattle.std.proofs.lemmas.Bool.{and_parts, eqb-true}
 use Rattle.ks_row.specs.declared.record.TaskId.{TaskId}
 use Rattle.ks_row.specs.declared.assignment.Refused.{Refused}
 use Rattle.ks_row.specs.declared.assignment.Marker.{Marker}
@@ -11,7 +10,6 @@ use Rattle.ks_history.specs.declared.journal.Reply.TheVariants.{Done, Number, Tr
 use Rattle.ks_history.specs.declared.transaction.Producer.{Producer}
 use Rattle.ks_history.specs.State.{State, Setup, new_producer, with_number, has_number, without_number}
 use Rattle.ks_history.specs.Step.{refusal, effect, closed, renewed, is_undecided, can_expire}
-use Rattle.ks_history.proofs.Names.{same_task-is}
 use Rattle.ks_log.specs.declared.log.Written.{Written}
 use Rattle.ks_group.specs.declared.group.Group.{Group}
 use Rattle.ks_cluster.specs.declared.broker.Broker.{Broker}

@@ -1,15 +1,13 @@
 -- What readers are given is what the state says.
-use Rattle.std.proofs.Common.{◌≡◌, ℕ, suc, ◌+◌, ◌<◌, Bool, true, false, cond, List, [], ◌∷◌, length, take, get_or, Option, Some, None, refl, sym, ap, ◌∙◌, arith}
-use Rattle.std.specs.Prelude.{map, nat_le, ◌==◌, ◌||◌, max}
+use Rattle.std.proofs.Common.{◌≡◌, ℕ, suc, ◌+◌, ◌<◌, cond, List, [], ◌∷◌, length, take, get_or, Option, None, refl, sym, ap, ◌∙◌, arith}
+use Rattle.std.specs.Prelude.{map, ◌==◌, ◌||◌, max}
 use Rattle.ks_row.specs.declared.record.Rec.{Rec}
 use Rattle.ks_row.specs.declared.record.PartId.{PartId}
 use Rattle.ks_row.specs.declared.record.TaskId.{TaskId}
 use Rattle.ks_row.specs.declared.assignment.Refused.{Refused}
 use Rattle.ks_row.specs.declared.assignment.Assignment.{Assignment}
-use Rattle.ks_history.specs.declared.partition.Slot.{Slot}
-use Rattle.ks_history.specs.declared.partition.Slot.TheVariants.{Plain, Sent, Mark}
 use Rattle.ks_history.specs.declared.transaction.Producer.{Producer}
-use Rattle.ks_history.specs.Partition.{Logged, next_mark, by_mark, decision, is_commit, readable_from, readable, decided_from, with_offsets, past_from, read, read_next, past_last, stable}
+use Rattle.ks_history.specs.Partition.{readable, read, read_next, past_last, stable}
 use Rattle.ks_history.specs.State.{State, Setup, new_producer}
 use Rattle.ks_history.specs.Step.{or_else, is_undecided, unstable_from}
 use Rattle.ks_history.specs.Faithful.{marker_among, waiting_at, markers_of}

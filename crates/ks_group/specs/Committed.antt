@@ -1,5 +1,5 @@
 -- The committed offsets, from what was pending at each commit.
-use Rattle.std.specs.Prelude.{ℕ, Option, Some, None, List, [], ◌∷◌}
+use Rattle.std.specs.Prelude.{ℕ, Some, None, List, [], ◌∷◌}
 use Rattle.ks_row.specs.declared.record.TaskId.{TaskId}
 use Rattle.ks_history.specs.State.{pending_of, offset_in}
 use Rattle.ks_history.specs.declared.transaction.Pending.{Pending}

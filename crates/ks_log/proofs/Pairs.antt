@@ -1,7 +1,6 @@
 -- The pairs that readers are given are the records of the partition with their offsets.
 use Rattle.std.proofs.Common.{◌≡◌, ℕ, ◌+◌, Bool, true, false, cond, List, [], ◌∷◌, Option, Some, None, refl, ap, ◌∙◌}
 use Rattle.std.specs.Prelude.{nat_le}
-use Rattle.ks_row.specs.declared.record.Rec.{Rec}
 use Rattle.ks_history.specs.declared.partition.Slot.{Slot}
 use Rattle.ks_history.specs.declared.partition.Slot.TheVariants.{Plain, Sent, Mark}
 use Rattle.ks_history.specs.Partition.{Logged, next_mark, by_mark, decision, is_commit, readable_from, decided_from, with_offsets, past_from}
