@@ -11,7 +11,7 @@ use Rattle.ks_history.specs.History.{at, Meets, CommitsFaithfully, IsHistory}
 use Rattle.ks_history.proofs.Histories.{at-more, history_more, records_in-more}
 use Rattle.ks_cluster.specs.declared.broker.Broker.{Broker}
 use Rattle.ks_history.specs.Count.{records_in}
-use Rattle.ks_cluster.specs.Written.{total}
+use Rattle.ks_log.specs.Written.{total}
 use Rattle.ks_cluster.specs.Moves.{IsAt, Moves, IsNew}
 use Rattle.ks_cluster.specs.Kept.{Kept, setup_of, state_of, setup_at, Answers, IsKept}
 use Rattle.ks_cluster.proofs.Steps.{new_at}

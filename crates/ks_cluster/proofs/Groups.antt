@@ -1,7 +1,6 @@
 -- What the requests of the group alone do to a broker, and a worker's removal.
 use Rattle.std.proofs.Common.{◌≡◌, ℕ, ◌+◌, ◌<◌, ◌≤◌, ◌^◌, Bool, true, false, cond, List, [], ◌∷◌, ◌++◌, length, set, get_or, length-set, Option, None, refl, sym, ap, ◌∙◌, subst, arith}
 use Rattle.std.specs.Prelude.{◌==◌, ◌&&◌, ◌||◌}
-use Rattle.std.proofs.lemmas.Bool.{and_parts, eqb-true}
 use Rattle.ks_row.specs.declared.record.TaskId.{TaskId}
 use Rattle.ks_row.specs.declared.assignment.Refused.{Refused}
 use Rattle.ks_row.specs.declared.assignment.Marker.{Marker}
@@ -11,14 +10,14 @@ use Rattle.ks_history.specs.declared.journal.Reply.TheVariants.{Done, Number, Tr
 use Rattle.ks_history.specs.declared.transaction.Producer.{Producer}
 use Rattle.ks_history.specs.State.{State, Setup, new_producer, with_number, has_number, without_number}
 use Rattle.ks_history.specs.Step.{refusal, effect, closed, renewed, is_undecided, can_expire}
-use Rattle.ks_history.proofs.Names.{same_task-is}
-use Rattle.ks_cluster.specs.declared.log.Written.{Written}
-use Rattle.ks_cluster.specs.declared.group.Group.{Group}
+use Rattle.ks_log.specs.declared.log.Written.{Written}
+use Rattle.ks_group.specs.declared.group.Group.{Group}
 use Rattle.ks_cluster.specs.declared.broker.Broker.{Broker}
-use Rattle.ks_cluster.specs.Written.{slots_in, total}
-use Rattle.ks_cluster.specs.Producers.{offset_after}
-use Rattle.ks_cluster.specs.Group.{generation_fault, is_parked_in, unparked_in}
+use Rattle.ks_log.specs.Written.{slots_in, total}
+use Rattle.ks_group.specs.Committed.{offset_after}
+use Rattle.ks_group.specs.Group.{generation_fault, is_parked_in, unparked_in}
 use Rattle.ks_cluster.specs.Moves.{IsGroupAt, IsAt, Moves}
+use Rattle.ks_group.proofs.Parked.{either, is_parked-more, unparked, absent}
 use Rattle.ks_cluster.proofs.Lists.{with_element}
 use Rattle.ks_cluster.proofs.Steps.{accepted_moves, producer_read, renewed-is}
 
@@ -140,24 +139,6 @@ expired_moves old new w p q waiting h read some waits made log producers tasks g
         ∙ ap (λ (r : Producer). has_number w old.group.members || is_undecided r) (sym (producer_read setup s old w p k h read)) ∙ some
 
 -- ---- park and unpark
-either : (a b : Bool) → (a || b) ≡ cond b true a
-either true true = refl
-either true false = refl
-either false true = refl
-either false false = refl
-
-or_assoc : (a b c : Bool) → (a || (b || c)) ≡ ((a || b) || c)
-or_assoc true b c = refl
-or_assoc false b c = refl
-
-or_false : (a : Bool) → (a || false) ≡ a
-or_false true = refl
-or_false false = refl
-
-is_parked-more : (i : ℕ) (t : TaskId) (pairs : List (ℕ × TaskId)) (j : ℕ) (u : TaskId) → is_parked_in i t (pairs ++ (j, u) ∷ []) ≡ (is_parked_in i t pairs || ((i == j) && same_task t u))
-is_parked-more i t [] j u = or_false ((i == j) && same_task t u)
-is_parked-more i t (pair ∷ pairs) j u = ap (λ b. ((i == pair.0) && same_task t pair.1) || b) (is_parked-more i t pairs j u) ∙ or_assoc ((i == pair.0) && same_task t pair.1) (is_parked_in i t pairs) ((i == j) && same_task t u)
-
 -- with another list of parked pairs
 parked_at : (setup : Setup) (s : State) (old new : Broker) (parked : ℕ → TaskId → Bool) → IsAt setup s old
     → new.log ≡ old.log → new.producers ≡ old.producers → (pairs : List (ℕ × TaskId)) → new.group ≡ record old.group { parked = pairs }
@@ -189,40 +170,6 @@ parked_moves old new j u log producers group = accepted_moves old new (Park j u)
     (λ i t. is_parked-more i t old.group.parked j u ∙ either (is_parked_in i t old.group.parked) ((i == j) && same_task t u) ∙ ap (λ b. cond ((i == j) && same_task t u) true b) (k.group_is.parked_is i t)))
     (omega (arith, ap total log))
 
--- two pairs that pass the test are one
-same_pair : (i j : ℕ) (t u : TaskId) → ((i == j) && same_task t u) ≡ true → (i ≡ j) × (t ≡ u)
-same_pair i j t u h =
-    let both : ((i == j) ≡ true) × (same_task t u ≡ true) = and_parts (i == j) (same_task t u) h in
-    (eqb-true i j both.0, same_task-is t u both.1)
-
-nowhere : (j : ℕ) (u : TaskId) (pairs : List (ℕ × TaskId)) → is_parked_in j u (unparked_in j u pairs) ≡ false
-nowhere j u [] = refl
-nowhere j u (pair ∷ pairs) = by_test ((j == pair.0) && same_task u pair.1) refl (nowhere j u pairs)
-  where
-    by_test : (b : Bool) → ((j == pair.0) && same_task u pair.1) ≡ b → is_parked_in j u (unparked_in j u pairs) ≡ false → is_parked_in j u (cond b (unparked_in j u pairs) (pair ∷ unparked_in j u pairs)) ≡ false
-    by_test true is h = h
-    by_test false is h = ap (λ b. b || is_parked_in j u (unparked_in j u pairs)) is ∙ h
-
-elsewhere : (i j : ℕ) (t u : TaskId) (pairs : List (ℕ × TaskId)) → ((i == j) && same_task t u) ≡ false → is_parked_in i t (unparked_in j u pairs) ≡ is_parked_in i t pairs
-elsewhere i j t u [] apart = refl
-elsewhere i j t u (pair ∷ pairs) apart = by_test ((j == pair.0) && same_task u pair.1) refl (elsewhere i j t u pairs apart)
-  where
-    by_test : (b : Bool) → ((j == pair.0) && same_task u pair.1) ≡ b → is_parked_in i t (unparked_in j u pairs) ≡ is_parked_in i t pairs
-        → is_parked_in i t (cond b (unparked_in j u pairs) (pair ∷ unparked_in j u pairs)) ≡ (((i == pair.0) && same_task t pair.1) || is_parked_in i t pairs)
-    by_test true is h =
-        let one : (j ≡ pair.0) × (u ≡ pair.1) = same_pair j pair.0 u pair.1 is in
-        h ∙ sym (ap (λ b. b || is_parked_in i t pairs) (ap (λ n. (i == n) && same_task t pair.1) (sym one.0) ∙ ap (λ v. (i == j) && same_task t v) (sym one.1) ∙ apart))
-    by_test false is h = ap (λ b. ((i == pair.0) && same_task t pair.1) || b) h
-
-unparked : (i j : ℕ) (t u : TaskId) (pairs : List (ℕ × TaskId)) → is_parked_in i t (unparked_in j u pairs) ≡ cond ((i == j) && same_task t u) false (is_parked_in i t pairs)
-unparked i j t u pairs = by_test ((i == j) && same_task t u) refl
-  where
-    by_test : (b : Bool) → ((i == j) && same_task t u) ≡ b → is_parked_in i t (unparked_in j u pairs) ≡ cond b false (is_parked_in i t pairs)
-    by_test true is =
-        let one : (i ≡ j) × (t ≡ u) = same_pair i j t u is in
-        subst (λ n. is_parked_in i t (unparked_in n u pairs) ≡ false) one.0 (subst (λ v. is_parked_in i t (unparked_in i v pairs) ≡ false) one.1 (nowhere i t pairs))
-    by_test false is = elsewhere i j t u pairs is
-
 pub unparked_moves : (old new : Broker) (j : ℕ) (u : TaskId) → is_parked_in j u old.group.parked ≡ true → new.log ≡ old.log → new.producers ≡ old.producers
     → new.group ≡ record old.group { parked = unparked_in j u old.group.parked } → Moves old new (Unpark j u) (Truth true)
 unparked_moves old new j u there log producers group = accepted_moves old new (Unpark j u) (Truth true)
@@ -231,15 +178,6 @@ unparked_moves old new j u there log producers group = accepted_moves old new (U
     (λ setup s k. parked_at setup s old new _ k log producers (unparked_in j u old.group.parked) group
     (λ i t. unparked i j t u old.group.parked ∙ ap (λ b. cond ((i == j) && same_task t u) false b) (k.group_is.parked_is i t)))
     (omega (arith, ap total log))
-
-absent : (i j : ℕ) (t u : TaskId) (pairs : List (ℕ × TaskId)) → is_parked_in j u pairs ≡ false → is_parked_in i t pairs ≡ cond ((i == j) && same_task t u) false (is_parked_in i t pairs)
-absent i j t u pairs none = by_test ((i == j) && same_task t u) refl
-  where
-    by_test : (b : Bool) → ((i == j) && same_task t u) ≡ b → is_parked_in i t pairs ≡ cond b false (is_parked_in i t pairs)
-    by_test true is =
-        let one : (i ≡ j) × (t ≡ u) = same_pair i j t u is in
-        ap (λ n. is_parked_in n t pairs) one.0 ∙ ap (λ v. is_parked_in j v pairs) one.1 ∙ none
-    by_test false is = refl
 
 pub not_parked_moves : (b : Broker) (j : ℕ) (u : TaskId) → is_parked_in j u b.group.parked ≡ false → Moves b b (Unpark j u) (Truth false)
 not_parked_moves b j u none = accepted_moves b b (Unpark j u) (Truth false)

@@ -1,8 +1,4 @@
 pub mod Lists
-pub mod Logs
-pub mod Counting
-pub mod Parts
-pub mod Cuts
 pub mod Steps
 pub mod Groups
 pub mod Readings

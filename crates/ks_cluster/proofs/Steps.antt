@@ -20,17 +20,19 @@ use Rattle.ks_history.specs.declared.transaction.Producer.{Producer}
 use Rattle.ks_history.specs.Partition.{count_sent, sent_slots, is_none}
 use Rattle.ks_history.specs.State.{State, Setup, start, new_producer, with_number, grown, insert_part, insert_number, with_pending}
 use Rattle.ks_history.specs.Step.{or_else, fenced, markers_waiting, without_part, none_undecided, has_pending, unstable_from, refusal, answer, effect, reply_by, state_by, tx_of, closed, renewed, markers_for, pending_at, with_late, bad_assignment}
-use Rattle.ks_cluster.specs.declared.log.Written.{Written}
-use Rattle.ks_cluster.specs.declared.group.Group.{Group}
+use Rattle.ks_log.specs.declared.log.Written.{Written}
+use Rattle.ks_group.specs.declared.group.Group.{Group}
 use Rattle.ks_cluster.specs.declared.broker.Broker.{Broker}
-use Rattle.ks_cluster.specs.Written.{slots_in, total, with_slots}
-use Rattle.ks_cluster.specs.Producers.{sequence_fault, unstable_in, counts_for, offset_with, offset_after}
-use Rattle.ks_cluster.specs.Group.{generation_fault, owner_at, owner_fault, is_parked_in}
+use Rattle.ks_log.specs.Written.{slots_in, total, with_slots}
+use Rattle.ks_cluster.specs.Producers.{sequence_fault, unstable_in, counts_for}
+use Rattle.ks_group.specs.Committed.{offset_with, offset_after}
+use Rattle.ks_group.specs.Group.{generation_fault, owner_at, owner_fault, is_parked_in}
 use Rattle.ks_history.specs.Count.{records_by}
 use Rattle.ks_cluster.specs.Moves.{IsGroupAt, IsAt, Moves, IsNew, sending_fault}
+use Rattle.ks_group.proofs.Commits.{offset_after-more}
 use Rattle.ks_cluster.proofs.Lists.{get_or-within, get_or-replicate, with_element}
 use Rattle.std.proofs.lemmas.List.{length-replicate}
-use Rattle.ks_cluster.proofs.Logs.{all_grown, total-with, length-sent}
+use Rattle.ks_log.proofs.Logs.{all_grown, total-with, length-sent}
 
 -- ---- refused and accepted requests
 pub refused_moves : (b : Broker) (request : Request) (r : Refused) → ((setup : Setup) (s : State) → IsAt setup s b → refusal setup s request ≡ Some r)
@@ -298,10 +300,6 @@ aborted_moves old new w e p p' q waiting h read read' none waits made log produc
     (closed_at setup s old w e false p p' q waiting k h read read' none waits made)
     (producer_at setup s old new w q k h log producers group))
     (omega (arith, ap total log))
-
-pub offset_after-more : (at : ℕ) (commits : List (List Pending)) (pending : List Pending) (t : TaskId) (topic : ℕ) → offset_after at (commits ++ pending ∷ []) t topic ≡ offset_with (offset_after at commits t topic) pending t topic
-offset_after-more at [] pending t topic = refl
-offset_after-more at (first ∷ commits) pending t topic = offset_after-more (offset_with at first t topic) commits pending t topic
 
 pub committed_moves : (old new : Broker) (w e : ℕ) (p p' q : Producer) (waiting : List Marker) (pending : List Pending) → w ≤ 16
     → p ≡ get_or old.producers.items w p → p' ≡ get_or old.producers.items w p' → None ≡ or_else (fenced p e) (none_undecided p)

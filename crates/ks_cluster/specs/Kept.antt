@@ -11,7 +11,7 @@ use Rattle.ks_history.specs.Step.{reply_to}
 use Rattle.ks_history.specs.History.{at, IsHistory}
 use Rattle.ks_cluster.specs.declared.broker.Broker.{Broker}
 use Rattle.ks_history.specs.Count.{records_in}
-use Rattle.ks_cluster.specs.Written.{total}
+use Rattle.ks_log.specs.Written.{total}
 use Rattle.ks_cluster.specs.Moves.{IsAt}
 
 -- what contracts see of a cluster

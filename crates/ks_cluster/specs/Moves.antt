@@ -7,11 +7,12 @@ use Rattle.ks_history.specs.declared.journal.Request.{Request}
 use Rattle.ks_history.specs.declared.journal.Reply.{Reply}
 use Rattle.ks_history.specs.State.{State, Setup, new_producer}
 use Rattle.ks_history.specs.Step.{or_else, fenced, markers_waiting, refusal, reply_to, after}
-use Rattle.ks_cluster.specs.declared.group.Group.{Group}
+use Rattle.ks_group.specs.declared.group.Group.{Group}
 use Rattle.ks_cluster.specs.declared.broker.Broker.{Broker}
-use Rattle.ks_cluster.specs.Written.{slots_in, total}
-use Rattle.ks_cluster.specs.Producers.{unstable_in, counts_for, offset_after}
-use Rattle.ks_cluster.specs.Group.{generation_fault, owner_at, owner_fault, is_parked_in}
+use Rattle.ks_log.specs.Written.{slots_in, total}
+use Rattle.ks_cluster.specs.Producers.{unstable_in, counts_for}
+use Rattle.ks_group.specs.Committed.{offset_after}
+use Rattle.ks_group.specs.Group.{generation_fault, owner_at, owner_fault, is_parked_in}
 use Rattle.ks_history.specs.Count.{records_by}
 
 pub record IsGroupAt (setup : Setup) (s : State) (g : Group) : Type 0 where

@@ -5,15 +5,14 @@ ghost use Rattle.ks_history.specs.declared.journal.Reply.TheVariants.{Done, Numb
 ghost use Rattle.ks_cluster.specs.Moves.{Moves, IsNew, sending_fault, reading_fault};
 ghost use Rattle.ks_cluster.specs.Replies.{done_or, number_or, truth_or};
 
-use crate::append::{one_slot, sent};
-use crate::group::{Group, copy_assignment, is_member, is_parked, without_member, without_parked};
-use crate::log::Log;
 use crate::producers::{
     add_refusal, append_refusal, but_first, close, decide_refusal, late_with, markers_refusal,
     new_producers, parts_with, pending_copies, pending_with, renew, set_parts, set_pending,
     set_tasks, set_waiting, tasks_with, unstable_refusal, waiting_with,
 };
+use ks_group::{Group, copy_assignment, is_member, is_parked, without_member, without_parked};
 use ks_history::{Pending, Producer, Slot};
+use ks_log::{Log, one_slot, sent};
 use ks_row::{Assignment, PartId, Rec, Refused, Seq, TaskId};
 use std::alloc::{AllocError, Global};
 

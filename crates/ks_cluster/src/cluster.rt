@@ -11,14 +11,14 @@ ghost use Rattle.ks_cluster.specs.Replies.{done_or, number_or, truth_or};
 ghost use Rattle.ks_history.specs.Count.{records_in};
 ghost use Rattle.ks_cluster.specs.Kept.{Kept, setup_of, setup_from, state_of, Answers, Refuses};
 
-use crate::append::{copies, copy};
+use crate::append::copies;
 use crate::broker::Broker;
-use crate::group::{copy_assignment, copy_held};
-use crate::producers::new_pending;
-use crate::reading::{ends_in, next_in, pending_count};
+use crate::producers::{new_pending, pending_count};
 use crate::replies::{done, numbered, told};
 use crate::work::Work;
+use ks_group::{copy_assignment, copy_held};
 use ks_history::{Entry, Journal, Reply, Request};
+use ks_log::{copy, ends_in, next_in};
 use ks_row::{Assignment, PartId, Rec, Refused, Seq, TaskId};
 use std::alloc::{AllocError, Global};
 use std::marker::Model;

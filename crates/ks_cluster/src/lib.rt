@@ -4,13 +4,7 @@
 mod append;
 mod broker;
 mod cluster;
-mod counts;
-mod group;
-mod log;
-mod marks;
-mod part;
 mod producers;
-mod reading;
 mod replies;
 mod work;
 

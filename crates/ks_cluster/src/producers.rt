@@ -1,9 +1,9 @@
 //! Producers and their transactions.
 ghost use Rattle.std.specs.Prelude.{◌≡◌, false, ◌++◌, ◌<◌, ◌≤◌, ◌∷◌, [], not, IfOk, None, Some, length, replicate, drop};
 ghost use Rattle.ks_history.specs.Partition.{is_none};
-ghost use Rattle.ks_history.specs.State.{insert_part, has_part, new_producer, with_pending, pending_of, offset_in};
+ghost use Rattle.ks_history.specs.State.{insert_part, has_part, new_producer, with_pending, pending_of};
 ghost use Rattle.ks_history.specs.Step.{or_else, fenced, none_undecided, without_part, markers_for, closed, with_late, markers_waiting, tx_of, has_pending, pending_at};
-ghost use Rattle.ks_cluster.specs.Producers.{sequence_fault, unstable_in, counts_for, offset_with};
+ghost use Rattle.ks_cluster.specs.Producers.{sequence_fault, unstable_in, counts_for, pending_in};
 
 use ks_history::{Pending, Producer, Transaction};
 use ks_row::{Marker, PartId, Refused, Seq, TaskId};
@@ -412,26 +412,16 @@ pub fn unstable_refusal(producers: &[Producer], task: TaskId, except: Option<u8>
     None
 }
 
-/// The offset that is named for a topic, else the old one.
-fn named_offset(old: u64, topic: u16, offsets: &[(u16, u64)]) -> u64
-    ensures { result ≡ offset_in old topic offsets.now }
+/// How many producers have an undecided transaction or a waiting marker.
+pub fn pending_count(producers: &[Producer]) -> u32
+    requires { length producers.now ≤ 255 }
+    ensures { result ≡ pending_in producers.now }
 {
-    for pair in offsets {
-        if topic == pair.0 {
-            return pair.1;
+    let mut count: u32 = 0;
+    for p in producers {
+        if p.undecided.is_some() || p.waiting.len() > 0 {
+            count += 1;
         }
     }
-    old
-}
-
-/// The committed offset of a task's input after pending ones are committed.
-pub fn offset_with(old: u64, pending: &[Pending], task: TaskId, topic: u16) -> u64
-    ensures { result ≡ offset_with old pending.now task topic }
-{
-    for p in pending {
-        if task.is(p.task) {
-            return named_offset(old, topic, p.offsets.as_slice());
-        }
-    }
-    old
+    count
 }

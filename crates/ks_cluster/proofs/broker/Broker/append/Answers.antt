@@ -1,6 +1,6 @@
 use Rattle.std.proofs.Common.{length, refl, ap, ◌∙◌}
 use Rattle.ks_history.specs.Partition.{count_sent}
-use Rattle.ks_cluster.specs.Written.{with_slots}
+use Rattle.ks_log.specs.Written.{with_slots}
 use Rattle.ks_cluster.proofs.Steps.{appended_moves}
 use Rattle.ks_cluster.proofs.broker.Broker.append.Goals as goal
 

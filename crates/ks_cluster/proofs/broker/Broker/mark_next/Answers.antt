@@ -1,5 +1,5 @@
 use Rattle.std.proofs.Common.{◌∷◌, false, slice_index_or, refl, sym, ap, ◌∙◌}
-use Rattle.ks_cluster.specs.Written.{with_slots}
+use Rattle.ks_log.specs.Written.{with_slots}
 use Rattle.ks_cluster.proofs.Lists.{first_and_rest}
 use Rattle.ks_cluster.proofs.Steps.{marked_moves}
 use Rattle.ks_cluster.proofs.broker.Broker.mark_next.Goals as goal

@@ -1,5 +1,5 @@
 use Rattle.std.proofs.Common.{length, refl, ap, ◌∙◌}
-use Rattle.ks_cluster.specs.Written.{with_slots}
+use Rattle.ks_log.specs.Written.{with_slots}
 use Rattle.ks_cluster.proofs.Steps.{produced}
 use Rattle.ks_cluster.proofs.broker.Broker.produce.Goals as goal
 

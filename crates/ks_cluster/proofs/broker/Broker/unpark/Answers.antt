@@ -1,5 +1,5 @@
 use Rattle.std.proofs.Common.{refl, sym, ap, ◌∙◌}
-use Rattle.ks_cluster.specs.Group.{is_parked_in, unparked_in}
+use Rattle.ks_group.specs.Group.{is_parked_in, unparked_in}
 use Rattle.ks_cluster.proofs.Groups.{unparked_moves}
 use Rattle.ks_cluster.proofs.broker.Broker.unpark.Goals as goal
 

@@ -1,0 +1,79 @@
+//! The markers of a partition.
+ghost use Rattle.std.specs.Prelude.{◌≡◌, ◌∷◌, [], length, IfOk};
+ghost use Rattle.ks_log.specs.Index.{marks_in, mark_among, shown_one};
+
+use ks_history::Slot;
+use std::alloc::{AllocError, Global};
+
+/// A marker of a partition.
+#[derive(Clone, Copy, Drop)]
+pub struct Marked {
+    pub producer: u8,
+    pub epoch: u64,
+    pub commit: bool,
+}
+
+/// How the first of these markers that is of this producer and epoch decides.
+pub fn mark_in(marks: &[Marked], w: u8, epoch: u64) -> Option<bool>
+    ensures { result ≡ mark_among w epoch marks.now }
+{
+    for mark in marks {
+        if w == mark.producer && epoch == mark.epoch {
+            return Some(mark.commit);
+        }
+    }
+    None
+}
+
+/// Whether readers get a slot that these markers follow; none where no marker completes it.
+pub fn is_shown(slot: &Slot, marks: &[Marked]) -> Option<bool>
+    ensures { result ≡ shown_one slot.now marks.now }
+{
+    match slot {
+        Slot::Plain { rec: _ } => Some(true),
+        Slot::Sent {
+            producer,
+            epoch,
+            number: _,
+            task: _,
+            rec: _,
+        } => mark_in(marks, *producer, *epoch),
+        _ => Some(false),
+    }
+}
+
+/// 1 for a marker, 0 for a record.
+pub fn mark_count(slot: &Slot) -> usize
+    ensures { result ≡ length (marks_in (slot.now ∷ [])) }
+{
+    match slot {
+        Slot::Mark {
+            producer: _,
+            epoch: _,
+            commit: _,
+        } => 1,
+        _ => 0,
+    }
+}
+
+/// The markers among slots, in their order.
+pub fn marks_of(alloc: Global, slots: &[Slot]) -> Result<Vec<Marked>, AllocError>
+    ensures { IfOk result (λ made. made.items ≡ marks_in slots.now) }
+{
+    let mut made = Vec::new(alloc);
+    for slot in slots {
+        match slot {
+            Slot::Mark {
+                producer,
+                epoch,
+                commit,
+            } => made.push(Marked {
+                producer: *producer,
+                epoch: *epoch,
+                commit: *commit,
+            })?,
+            _ => {}
+        }
+    }
+    Ok(made)
+}
