@@ -260,7 +260,7 @@ impl Group {
     }
 
     /// Why an assignment is refused: OldGeneration where the generation isn't the present one; else BadAssignment, with the
-    /// first task that isn't active at exactly one member, if there is one.
+    /// first task, in task order, that isn't active at exactly one member; else none.
     pub fn assign_refusal(&self, generation: u64, a: &Assignment) -> Option<Refused>
         ensures { result ≡ or_else (generation_fault self.now.generation generation) (bad_assignment self.now.tasks.items self.now.members a.now.active) }
     {

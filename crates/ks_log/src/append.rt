@@ -23,8 +23,8 @@ pub fn one_slot(alloc: Global, slot: Slot) -> Result<Vec<Slot>, AllocError>
 }
 
 /// The slots of records that a producer appends in an epoch for a task: one for each record, in their order, numbered on
-/// from `number`. Each record is copied. Want of memory is the one error, which comes also where the number after the last
-/// record would pass 2^64 - 1.
+/// from `number`. Each record is copied. Want of memory is the one error, which comes also where a record would have the
+/// number 2^64 - 1.
 pub fn sent(
     alloc: Global,
     w: u8,

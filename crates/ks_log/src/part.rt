@@ -131,8 +131,7 @@ impl Part {
     }
 
     /// Puts more slots at the end, in their order. Want of memory is the one error, after which all is as before; it comes
-    /// also where a producer would have 2^64 records of one epoch. It takes time by these slots, by the slots past the last
-    /// stable offset, and by the producers and epochs so far.
+    /// also where a producer would have 2^64 records of one epoch.
     pub fn append(&mut self, alloc: Global, more: Vec<Slot>) -> Result<(), AllocError>
         ensures ok { OnOk result (self.new ≡ self.old ++ more.items) }
         ensures err { OnErr result (self.new ≡ self.old) }
