@@ -24,7 +24,8 @@ use Rattle.ks_rest.proofs.Fits.{Fits}
 use Rattle.ks_rest.proofs.WellFormed.{well_formed_fits}
 use Rattle.ks_work.specs.Work.{work_of, setup_of}
 use Rattle.ks_work.proofs.Setups.{setups_are_made}
-use Rattle.ks_routes.specs.Routes.{HasParts, JoinsHaveParts, TopologiesSendInside}
+use Rattle.ks_answer.specs.Jobs.{HasParts}
+use Rattle.ks_routes.specs.Routes.{JoinsHaveParts, TopologiesSendInside}
 use Rattle.ks_routes.proofs.Nodes.{Among, among_at, named, count_at, is_part}
 use Rattle.ks_routes.proofs.Sending.{sent_goes, written_kept}
 

@@ -15,14 +15,11 @@ use Rattle.ks_machine.specs.Messages.{Rules}
 use Rattle.ks_rest.specs.WellFormed.{IsWellFormed}
 use Rattle.ks_work.specs.Work.{setup_of}
 use Rattle.ks_follow.specs.Views.{are_topics_once, SendsInside}
+use Rattle.ks_answer.specs.Jobs.{HasParts}
 
 -- no subtopology has an input twice
 abbrev pub InputsAreOnce : Type 0
 InputsAreOnce = (p : Plan) (sub : ℕ) → are_topics_once (input_numbers p sub) ≡ true
-
--- a key's partition is one of those that there are
-abbrev pub HasParts : Rules → Type 0
-HasParts rules = (key : List ℕ) (n : ℕ) → 1 ≤ n → rules.part key n < n
 
 -- the sides of each foreign-key join have partitions
 abbrev pub JoinsHaveParts : Plan → Type 0

@@ -25,7 +25,8 @@ use Rattle.ks_commit.specs.Alone.{IsIdle}
 use Rattle.ks_commit.specs.Committed.{Started, IsReady}
 use Rattle.ks_task.specs.declared.task.Task.{Task}
 use Rattle.ks_task.specs.Tasks.{task_view}
-use Rattle.ks_settle.specs.Drained.{is_produce, OnlyProduces, ids, IsDrainedTo, AreFresh, AreResting, Extends}
+use Rattle.ks_commit.specs.Sending.{is_produce}
+use Rattle.ks_settle.specs.Drained.{OnlyProduces, ids, IsDrainedTo, AreFresh, AreResting, Extends}
 use Rattle.ks_settle.proofs.Topics.{fresh_is}
 use Rattle.ks_settle.proofs.Works.{has_at, get_id}
 use Rattle.ks_settle.proofs.Publishing.{extends_by, same_setup}

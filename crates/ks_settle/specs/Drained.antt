@@ -27,12 +27,9 @@ use Rattle.ks_task.specs.declared.task.Task.{Task}
 use Rattle.ks_task.specs.Tasks.{task_view, IsTaskOf}
 use Rattle.ks_task.specs.Views.{own_ends}
 use Rattle.ks_settle.specs.Reading.{SendsOn, IsClean, HasRead, HasReadAll}
+use Rattle.ks_commit.specs.Sending.{is_produce}
 
--- ---- a journal of inputs alone
-abbrev pub is_produce : Request → Bool
-is_produce (Produce p rec) = true
-is_produce request = false
-
+-- a journal of inputs alone
 abbrev pub OnlyProduces : List Entry → Type 0
 OnlyProduces [] = Unit {0}
 OnlyProduces (entry ∷ entries) = (is_produce entry.request ≡ true) × OnlyProduces entries
