@@ -25,6 +25,11 @@ use std::marker::Model;
 
 /// A cluster in memory: its partitions, producers, group and committed offsets, and the journal of all requests that
 /// write. The journal is a history at all times, and all else is where the journal leaves it.
+///
+/// Workers are 0 to 16, also as producers, and instances 0 to 3; partitions and tasks are those of the cluster (`Meets`).
+/// The outer error of each call is want of memory alone, which comes also where an epoch or the generation would be 2^64, a
+/// number or an offset 2^64, where 2^32 markers wait, or where the log would have 2^48 slots; after it the cluster is as
+/// before.
 #[derive(Drop)]
 pub struct Cluster<W: Work> {
     work: W,
@@ -153,7 +158,8 @@ impl<W: Work> Cluster<W> {
     }
 
     /// Pends the offsets of a task in the producer's transaction, which begins where there is none, in place of earlier
-    /// ones of the task. Refused: Fenced, OldGeneration, NotAssigned, MarkersWaiting, Unstable.
+    /// ones of the task. `order` is the order of what the task took, by runs of a topic and a count; `late` counts its late
+    /// pairs. Refused: Fenced, OldGeneration, NotAssigned, MarkersWaiting, Unstable.
     pub fn send_offsets(
         &mut self,
         alloc: Global,
@@ -241,7 +247,8 @@ impl<W: Work> Cluster<W> {
         Ok(generation)
     }
 
-    /// Gives the generation an assignment: false where it has one already. Refused: OldGeneration, BadAssignment.
+    /// Gives the generation an assignment: false where it has one already. `w` is the worker that asks, which the journal
+    /// keeps. Refused: OldGeneration, BadAssignment.
     pub fn assign(
         &mut self,
         alloc: Global,
@@ -304,7 +311,8 @@ impl<W: Work> Cluster<W> {
         Ok(())
     }
 
-    /// Begins the next generation, without an assignment, and answers it. Refused: OldGeneration.
+    /// Begins the next generation, without an assignment, and answers it. `w` is the worker that asks, which the journal
+    /// keeps. Refused: OldGeneration.
     pub fn probe(
         &mut self,
         alloc: Global,
@@ -355,7 +363,7 @@ impl<W: Work> Cluster<W> {
     }
 
     /// The first `max` readable records of a partition at or past an offset, with their offsets, and where the next
-    /// fetch goes on.
+    /// fetch goes on. The offset is at most the partition's end, and `max` at least 1.
     pub fn fetch(
         &self,
         alloc: Global,

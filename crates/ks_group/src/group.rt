@@ -161,7 +161,7 @@ fn places(active: &[(TaskId, u8)], members: &[u8], task: TaskId) -> u64
     count
 }
 
-/// The first task, in task order, that isn't active at exactly one member.
+/// The first task, in task order, that doesn't stand in exactly one pair of `active` whose worker is a member.
 fn misplaced(tasks: &[TaskId], members: &[u8], active: &[(TaskId, u8)]) -> Option<TaskId>
     ensures { result ≡ badly_placed tasks.now members.now active.now }
 {
@@ -243,7 +243,8 @@ impl Group {
     }
 
     /// Why a worker may not speak for a task: NotAssigned, with the member at which the task is active, or none where it is
-    /// active at no member or nothing is assigned. None where it is active at this worker.
+    /// active at no member or nothing is assigned. None where it is active at this worker. Of several members at which a task
+    /// is active the first in `active` counts.
     pub fn owner_refusal(&self, w: u8, task: TaskId) -> Option<Refused>
         ensures { result ≡ owner_fault (owner_at self.now.assignment self.now.members task) w }
     {
@@ -260,7 +261,7 @@ impl Group {
     }
 
     /// Why an assignment is refused: OldGeneration where the generation isn't the present one; else BadAssignment, with the
-    /// first task, in task order, that isn't active at exactly one member; else none.
+    /// first task, in task order, that doesn't stand in exactly one pair of `active` whose worker is a member; else none.
     pub fn assign_refusal(&self, generation: u64, a: &Assignment) -> Option<Refused>
         ensures { result ≡ or_else (generation_fault self.now.generation generation) (bad_assignment self.now.tasks.items self.now.members a.now.active) }
     {
@@ -280,6 +281,7 @@ impl Group {
     }
 
     /// The committed offset of a task's input: that of the last commit which names the task and the topic, 0 where none does.
+    /// Of what a commit names twice the first counts.
     pub fn offset(&self, task: TaskId, topic: u16) -> u64
         ensures { result ≡ offset_after 0 self.now.commits task topic }
     {
@@ -307,7 +309,8 @@ impl Group {
         Ok(made)
     }
 
-    /// Takes a worker into the group, if it isn't in it, and answers the new generation, which is one more and has no assignment.
+    /// Takes a worker into the group, at its place among members that rise, if it isn't among them, and answers the new
+    /// generation, which is one more and has no assignment.
     /// Want of memory is the one error, which comes also at generation 2^64 - 1; after it the group is as before.
     pub fn join(&mut self, alloc: Global, w: u8) -> Result<u64, AllocError>
         ensures ok { IfOk result (λ n. (n ≡ self.old.generation + 1) × (self.new ≡ record self.old { members = insert_number w self.old.members; generation = self.old.generation + 1; assignment = None })) }

@@ -1,6 +1,5 @@
-//! The log: partitions of slots in memory. Of each partition it keeps what readers and appends need, so that neither goes
-//! through all of its slots: which slots readers get, up to the last stable offset, the markers, and how many records each
-//! producer sent in each epoch.
+//! The log: partitions of slots in memory. Beside its slots a partition keeps which of them readers get, up to the last
+//! stable offset, its markers, and how many records each producer sent in each epoch.
 #![tactic(auto)]
 
 mod append;

@@ -80,7 +80,7 @@ fn grow(
 }
 
 impl Log {
-    /// A log without a slot. It takes no memory yet.
+    /// A log without a slot.
     pub fn new(alloc: Global) -> Log
         ensures { result ≡ [] }
     {
@@ -91,8 +91,7 @@ impl Log {
         }
     }
 
-    /// The slots of a partition, which are none where nothing was appended to it. It takes time by the number of partitions
-    /// in the log, and none by their slots.
+    /// The slots of a partition, which are none where nothing was appended to it.
     pub fn part(&self, part: PartId) -> &Part
         ensures { result.now ≡ slots_in part self.now }
     {
@@ -106,7 +105,7 @@ impl Log {
     }
 
     /// Puts more slots at the end of one partition, in their order. Want of memory is the one error, after which the log is
-    /// as before; it comes also where the log would have 2^48 slots.
+    /// as before; it comes also where the log would have 2^48 slots or more.
     pub fn append(&mut self, alloc: Global, part: PartId, more: Vec<Slot>) -> Result<(), AllocError>
         ensures ok { OnOk result (self.new ≡ with_slots part more.items self.old) }
         ensures few { OnOk result (total self.new < 2 ^ 48) }

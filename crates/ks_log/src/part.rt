@@ -60,7 +60,7 @@ fn show_more(slots: &[Slot], marks: &[Marked], passed: usize, shown: &mut Vec<bo
 }
 
 impl Part {
-    /// A partition without a slot. It takes no memory yet.
+    /// A partition without a slot.
     pub fn new(alloc: Global) -> Part
         ensures { result ≡ [] }
     {

@@ -93,8 +93,7 @@ fn past_last_in(recs: &[(u64, Rec)]) -> Result<u64, AllocError>
 
 /// Where the next read goes on after one from `from` that gave these records, of at most `limit`, in a partition with this
 /// last stable offset: one past the last record, or 0 with none, where there are `limit` of them, else the last stable
-/// offset or `from`, whichever is more. Want of memory is the one error, and comes only where the last record has the
-/// offset 2^64 - 1.
+/// offset or `from`, whichever is more. Its one error, want of memory, stands for an offset of 2^64.
 pub fn next_in(recs: &[(u64, Rec)], stable: u64, from: u64, limit: usize) -> Result<u64, AllocError>
     ensures { IfOk result (λ next. next ≡ (if length recs.now == limit then past_last recs.now else max from stable)) }
 {

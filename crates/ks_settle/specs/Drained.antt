@@ -7,8 +7,6 @@ use Rattle.ks_row.specs.Parts.{same_task}
 use Rattle.ks_plan.specs.Drafts.{DraftView}
 use Rattle.ks_plan.specs.Plan.{plan_of}
 use Rattle.ks_plan.specs.Infos.{changelog_numbers}
-use Rattle.ks_history.specs.declared.journal.Request.{Request}
-use Rattle.ks_history.specs.declared.journal.Request.TheVariants.{Produce}
 use Rattle.ks_history.specs.declared.journal.Entry.{Entry}
 use Rattle.ks_history.specs.Machine.{Plan, IsNetwork, part_of, has_topic}
 use Rattle.ks_history.specs.State.{State, Setup, IsSetup, has_task}
