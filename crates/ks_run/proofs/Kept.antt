@@ -8,7 +8,6 @@ use Rattle.ks_machine.specs.Messages.{Rules}
 use Rattle.ks_history.specs.State.{Setup}
 use Rattle.ks_history.specs.declared.journal.Entry.{Entry}
 use Rattle.ks_history.specs.History.{IsHistory}
-use Rattle.ks_query.specs.declared.table.Table.{Table}
 use Rattle.ks_job.specs.Items.{ItemView, TopologyAt, RecordTo, item_views}
 use Rattle.ks_job.specs.declared.judge.JobItem.{JobItem}
 use Rattle.ks_job.specs.Reader.{whole}
@@ -17,7 +16,7 @@ use Rattle.ks_answer.specs.Jobs.{produces}
 use Rattle.ks_run.specs.Journals.{draft_in, placed_records, IsSettled, HasJournal}
 use Rattle.ks_run.specs.declared.stop.Stop.{Stop}
 use Rattle.ks_run.specs.Stops.{stop_of}
-use Rattle.ks_run.specs.Texts.{settled_text, bad_job_text}
+use Rattle.ks_run.specs.Texts.{bad_job_text}
 use Rattle.ks_run.specs.Reading.{Read}
 use Rattle.ks_run.specs.Settling.{AnswersOf}
 use Rattle.ks_run.specs.Answers.{IsBadJob, IsJudged}
@@ -69,9 +68,9 @@ pub bad_job_read : (left : Option (List ℕ)) (stop : Stop) (text : List ℕ) �
 bad_job_read None stop text h e = tt
 bad_job_read (Some bytes) stop text h e = (stop, ap (λ b. stop_of (whole b)) h.known ∙ h.ends, e)
 
-pub settled_read : (rules : Rules) (left : Option (List ℕ)) (r : Vec JobItem Global) (tables : List Table) (text : List ℕ) (journal : List Entry) → Read left (Ok r) → AnswersOf rules (item_views r.items) tables journal →
-    text ≡ settled_text tables → IsSettled rules left text journal
-settled_read rules left r tables text journal h a e = by (item_views r.items) h.ends.1 a
+pub settled_read : (rules : Rules) (left : Option (List ℕ)) (r : Vec JobItem Global) (text : List ℕ) (journal : List Entry) → Read left (Ok r) → AnswersOf rules (item_views r.items) text journal →
+    IsSettled rules left text journal
+settled_read rules left r text journal h a = by (item_views r.items) h.ends.1 a
   where
     unstopped : (o : Option (List ℕ)) → IfSome o (λ b. b ≡ h.bytes) → IfSome o (λ bytes. stop_of (whole bytes) ≡ None)
     unstopped None k = tt
@@ -85,7 +84,7 @@ settled_read rules left r tables text journal h a e = by (item_views r.items) h.
     inputs None is i k = tt
     inputs (Some b) is i k = ap records_of i ∙ sym (ap (λ x. records_of (whole x).items) k)
 
-    by : (is : List ItemView) → is ≡ (whole h.bytes).items → AnswersOf rules is tables journal → IsSettled rules left text journal
+    by : (is : List ItemView) → is ≡ (whole h.bytes).items → AnswersOf rules is text journal → IsSettled rules left text journal
     by [] i a = absurd a
     by (RecordTo t r ∷ is) i a = absurd a
     by (TopologyAt line d ∷ is) i a = record {
@@ -94,7 +93,7 @@ settled_read rules left r tables text journal h a e = by (item_views r.items) h.
       unstopped = unstopped left h.known;
       topology = topology left (TopologyAt line d ∷ is) d i refl h.known;
       inputs = inputs left (TopologyAt line d ∷ is) i h.known;
-      printed = e ∙ ap settled_text a.tables_are;
+      printed = a.printed;
       kept = a.kept;
     }
 

@@ -34,6 +34,7 @@ use Rattle.ks_run.specs.declared.stop.Stop.TheVariants.{BadTopology, NotBuilt}
 use Rattle.ks_run.specs.Stops.{first_unbuilt, topology_stop, line_stop}
 use Rattle.ks_run.specs.Producing.{placed_all, Produces, HasPartsAt}
 use Rattle.ks_settle.specs.Drained.{Extends}
+use Rattle.ks_run.specs.Texts.{settled_text}
 use Rattle.ks_run.specs.Settling.{IsReadJob, split, Answers}
 use Rattle.ks_run.proofs.Built.{plan_built}
 use Rattle.ks_run.proofs.Counts.{counts_length, have_parts}
@@ -46,10 +47,10 @@ setup_is hash d plan counts ts a b c = rw (a, b, c) refl
 pub setup_made : (hash : List ℕ → ℕ) (d : DraftView) (setup : Setup) → setup ≡ setup_of (rules_of hash) (plan_of d) → fault_of d ≡ None → IsSetup setup
 setup_made hash d setup e fine = subst IsSetup (sym e) (setups_are_made (rules_of hash) d fine)
 
-pub answered : (hash : List ℕ → ℕ) (d : DraftView) (is : List ItemView) (setup : Setup) (journal : List Entry) (ts : List Table) → fault_of d ≡ None → IsBuilt (plan_of d) → AreRecords (length d.topics) is →
+pub answered : (hash : List ℕ → ℕ) (d : DraftView) (is : List ItemView) (setup : Setup) (journal : List Entry) (ts : List Table) (text : List ℕ) → text ≡ settled_text ts → fault_of d ≡ None → IsBuilt (plan_of d) → AreRecords (length d.topics) is →
     setup ≡ setup_of (rules_of hash) (plan_of d) → IsHistory setup journal → records_in setup journal < 2 ^ 48 → produces journal ≡ placed_all (map (parts_of_topic (plan_of d)) (topics_of (plan_of d))) is →
-    IsSettled setup (at setup journal) → ts ≡ folded_tables d (at setup journal) → Answers (rules_of hash) d (records_of is) ts journal
-answered hash d is setup journal ts fine built records e history few made settled tables_are =
+    IsSettled setup (at setup journal) → ts ≡ folded_tables d (at setup journal) → Answers (rules_of hash) d (records_of is) text journal
+answered hash d is setup journal ts text shown fine built records e history few made settled tables_are =
     let rules = rules_of hash in
     let right = setup_of rules (plan_of d) in
     let history' : IsHistory right journal = subst (λ s. IsHistory s journal) e history in
@@ -58,7 +59,7 @@ answered hash d is setup journal ts fine built records e history few made settle
     let placed = made ∙ records_placed hash d is records in
     let query = tables_are_the_query rules d (records_of is) journal (keys_have_parts hash) fine built (records_fit d is records) (record { history = history'; produced = placed; settled = settled'; few = few' }) in
     record {
-      tables_are = tables_are ∙ ap (λ s. folded_tables d (at s journal)) e ∙ query;
+      printed = shown ∙ ap settled_text (tables_are ∙ ap (λ s. folded_tables d (at s journal)) e ∙ query);
       kept = record { history = history'; produced = placed; settled = settled'; run = is_run right journal (works_are_networks rules (plan_of d)) history'; folds = query; few = few' };
     }
 
@@ -80,16 +81,16 @@ produced_setup plan old new records h = rw (h.work, h.counts, h.tasks) refl
 drained_setup : {W : Type 0} (plan : W → Plan) (old new : Kept W) → Extends old new → kept.setup_of plan new ≡ kept.setup_of plan old
 drained_setup plan old new h = rw (ap (λ c. c.work) h.same, ap (λ c. c.counts) h.same, ap (λ c. c.tasks) h.same) refl
 
-pub settled_answers : {W : Type 0} (hash : List ℕ → ℕ) (d : DraftView) (plan : W → Plan) (is : List ItemView) (begun filled drained : Kept W) (counts : List ℕ) (ts : List Table) (journal : List Entry) →
+pub settled_answers : {W : Type 0} (hash : List ℕ → ℕ) (d : DraftView) (plan : W → Plan) (is : List ItemView) (begun filled drained : Kept W) (counts : List ℕ) (ts : List Table) (text : List ℕ) (journal : List Entry) → text ≡ settled_text ts →
     fault_of d ≡ None → IsBuilt (plan_of d) → AreRecords (length d.topics) is → kept.setup_of plan begun ≡ setup_of (rules_of hash) (plan_of d) → begun.journal ≡ [] →
     counts ≡ map (parts_of_topic (plan_of d)) (topics_of (plan_of d)) → Produces begun filled (placed_all counts is) → Extends filled drained → journal ≡ drained.journal →
     IsHistory (kept.setup_of plan drained) drained.journal → records_in (kept.setup_of plan drained) drained.journal < 2 ^ 48 →
-    IsSettled (kept.setup_of plan drained) (kept.state_of plan drained) → ts ≡ folded_tables d (kept.state_of plan drained) → Answers (rules_of hash) d (records_of is) ts journal
-settled_answers hash d plan is begun filled drained counts ts journal fine built records start empty counts_are filling draining handed history few settled tables_are =
+    IsSettled (kept.setup_of plan drained) (kept.state_of plan drained) → ts ≡ folded_tables d (kept.state_of plan drained) → Answers (rules_of hash) d (records_of is) text journal
+settled_answers hash d plan is begun filled drained counts ts text journal shown fine built records start empty counts_are filling draining handed history few settled tables_are =
     let setup = drained_setup plan filled drained draining ∙ (produced_setup plan begun filled (placed_all counts is) filling ∙ start) in
     let made : produces drained.journal ≡ placed_all (map (parts_of_topic (plan_of d)) (topics_of (plan_of d))) is =
     draining.produces ∙ (filling.produced ∙ (ap (λ j. produces j ++ placed_all counts is) empty ∙ ap (λ cs. placed_all cs is) counts_are)) in
-    subst (λ j. Answers (rules_of hash) d (records_of is) ts j) (sym handed) (answered hash d is (kept.setup_of plan drained) drained.journal ts fine built records setup history few made settled tables_are)
+    subst (λ j. Answers (rules_of hash) d (records_of is) text j) (sym handed) (answered hash d is (kept.setup_of plan drained) drained.journal ts text shown fine built records setup history few made settled tables_are)
 
 -- ---- a job that was read to its end
 none_of : {A : Type 0} (a b : Option A) → option_or a b ≡ None → (a ≡ None) × (b ≡ None)

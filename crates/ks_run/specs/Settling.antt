@@ -1,7 +1,6 @@
 -- A job that was read to its end, and what its run answers.
 use Rattle.std.specs.Prelude.{◌≡◌, ℕ, List, [], ◌∷◌, Option, Some, None}
 use Rattle.ks_plan.specs.Drafts.{DraftView}
-use Rattle.ks_query.specs.declared.table.Table.{Table}
 use Rattle.ks_query.specs.Streams.{Input}
 use Rattle.ks_query.specs.Printed.{job_tables}
 use Rattle.ks_machine.specs.Messages.{Rules}
@@ -10,6 +9,7 @@ use Rattle.ks_job.specs.Items.{ItemView, TopologyAt, RecordTo}
 use Rattle.ks_job.specs.Reader.{whole}
 use Rattle.ks_records.specs.Records.{records_of}
 use Rattle.ks_run.specs.Stops.{stop_of}
+use Rattle.ks_run.specs.Texts.{settled_text}
 use Rattle.ks_run.specs.Journals.{IsJournal}
 
 -- the items of some bytes that are a job
@@ -24,12 +24,12 @@ split [] = None
 split (TopologyAt line d ∷ is) = Some (d, is)
 split (RecordTo t r ∷ is) = None
 
--- the tables are the query's, and the journal settles the job
-pub record Answers (rules : Rules) (d : DraftView) (records : List Input) (tables : List Table) (journal : List Entry) : Type 0 where
-  pub tables_are : tables ≡ job_tables d records
+-- the text has the query's tables, and the journal settles the job
+pub record Answers (rules : Rules) (d : DraftView) (records : List Input) (text : List ℕ) (journal : List Entry) : Type 0 where
+  pub printed : text ≡ settled_text (job_tables d records)
   pub kept : IsJournal rules d records journal
 
-abbrev pub AnswersOf : Rules → List ItemView → List Table → List Entry → Type 0
-AnswersOf rules [] tables journal = ⊥
-AnswersOf rules (TopologyAt line d ∷ is) tables journal = Answers rules d (records_of is) tables journal
-AnswersOf rules (RecordTo t r ∷ is) tables journal = ⊥
+abbrev pub AnswersOf : Rules → List ItemView → List ℕ → List Entry → Type 0
+AnswersOf rules [] text journal = ⊥
+AnswersOf rules (TopologyAt line d ∷ is) text journal = Answers rules d (records_of is) text journal
+AnswersOf rules (RecordTo t r ∷ is) text journal = ⊥

@@ -41,8 +41,8 @@ pub struct Ended {
 ///
 /// A line is whole at its line feed, at its byte 65,537, or at the end of the input; the source isn't asked again once a faulty
 /// line is whole, nor after its end. The text is built whole before its first byte is written. The gates are dropped unasked.
-pub fn run_job<H: Hash128, R: Threads + Wait + Sync, S: Source, K: Sink>(
-    _rt: &R,
+pub fn run_job<H: Hash128 + Sync, R: Threads + Wait + Sync, S: Source, K: Sink>(
+    rt: &R,
     alloc: Global,
     _settings: &Settings,
     input: &mut S,
@@ -81,7 +81,7 @@ pub fn run_job<H: Hash128, R: Threads + Wait + Sync, S: Source, K: Sink>(
     ensures words { result.status ≡ 1 → ⊥ }
 {
     drop(gates);
-    let Ok(answer) = judge_job::<H, S>(alloc, input) else {
+    let Ok(answer) = judge_job::<H, R, S>(rt, alloc, input) else {
         return Ended {
             status: 8,
             journal: Seq::new(alloc),

@@ -1,8 +1,10 @@
 //! Runs a job's tasks over its records, until nothing is left to take.
-ghost use Rattle.std.specs.Prelude.{◌≡◌, ℕ, List, IfOk, None, Some, length, option_map};
+ghost use Rattle.std.specs.Prelude.{◌≡◌, ◌<◌, ◌^◌, ℕ, List, IfOk, None, Some, length, option_map};
 ghost use Rattle.ks_plan.specs.Drafts.{DraftView, draft_view};
 ghost use Rattle.ks_topo.specs.Topologies.{draft_of, plan_in};
-ghost use Rattle.ks_query.specs.Printed.{job_tables};
+ghost use Rattle.ks_history.specs.History.{IsHistory};
+ghost use Rattle.ks_history.specs.Count.{records_in};
+ghost use Rattle.ks_cluster.specs.Kept.{setup_of};
 ghost use Rattle.ks_job.specs.Items.{TopologyAt, item_view, item_views};
 ghost use Rattle.ks_job.specs.Reader.{whole};
 ghost use Rattle.ks_records.specs.Records.{HavePartitions, AreRecords, records_of};
@@ -10,8 +12,10 @@ ghost use Rattle.ks_work.specs.Work.{work_of};
 ghost use Rattle.ks_task.specs.Built.{IsBuilt, rules_of};
 ghost use Rattle.ks_run.specs.Stops.{stop_of};
 ghost use Rattle.ks_run.specs.Journals.{IsJournal};
+ghost use Rattle.ks_run.specs.Texts.{settled_text};
 ghost use Rattle.ks_run.specs.Settling.{IsReadJob, split, Answers, AnswersOf};
 
+use crate::printing::print_settled;
 use crate::producing::{counts_of, produce_all};
 use ks_cluster::{Cluster, Work};
 use ks_hash::Hash128;
@@ -22,37 +26,76 @@ use ks_settle::{drain, tables};
 use ks_task::TaskWork;
 use ks_topo::{Draft, Topology};
 use std::alloc::{AllocError, Global};
+use std::thread::{Threads, join};
 
-/// The printed tables of a job, and the journal of its run.
+/// The text of a job's printed tables, and the journal of its run.
 #[derive(Drop)]
 pub struct Settled {
-    pub tables: Vec<Table>,
+    pub text: Vec<u8>,
     pub journal: Journal,
 }
 
+// The text of tables, which are let go.
+fn print_and_drop(alloc: Global, tables: Vec<Table>) -> Result<Vec<u8>, AllocError>
+    ensures { IfOk result (λ v. v.items ≡ settled_text tables.items) }
+{
+    print_settled(alloc, &tables)
+}
+
+// The journal of a cluster, which is let go with the records that it has kept.
+fn keep_journal<W: Work>(cluster: Cluster<W>, records: Vec<JobItem>) -> Journal
+    ensures entries { result ≡ cluster.journal }
+    ensures history { IsHistory (setup_of W.plan cluster) cluster.journal }
+    ensures few { records_in (setup_of W.plan cluster) cluster.journal < 2 ^ 48 }
+{
+    drop(records);
+    cluster.into_journal()
+}
+
+// The text of a run's tables and its journal, made side by side.
+fn end_run<R: Threads, W: Work + Send>(
+    rt: &R,
+    alloc: Global,
+    cluster: Cluster<W>,
+    records: Vec<JobItem>,
+    tables: Vec<Table>,
+) -> Result<Settled, AllocError>
+    ensures made { IfOk result (λ s. (s.text.items ≡ settled_text tables.items) × (s.journal ≡ cluster.journal)) }
+    ensures history { IsHistory (setup_of W.plan cluster) cluster.journal }
+    ensures few { records_in (setup_of W.plan cluster) cluster.journal < 2 ^ 48 }
+{
+    let (text, journal) = join(
+        rt,
+        move || print_and_drop(alloc, tables),
+        move || keep_journal(cluster, records),
+    );
+    let text = text?;
+    Ok(Settled { text, journal })
+}
+
 // The run of a job's tasks.
-fn settle<H: Hash128, W: Work>(
+fn settle<H: Hash128 + Sync, R: Threads + Sync, W: Work + Send + Sync>(
+    rt: &R,
     alloc: Global,
     topology: &Topology,
     work: W,
-    records: &[JobItem],
+    records: Vec<JobItem>,
 ) -> Result<Settled, AllocError>
     requires work { W.plan work ≡ work_of (rules_of H.hash_of) (plan_in topology.now) }
     requires built { IsBuilt (plan_in topology.now) }
     requires partitions { HavePartitions (draft_of topology.now).topics }
-    requires records { AreRecords (length (draft_of topology.now).topics) (item_views records.now) }
-    ensures { IfOk result (λ s. Answers (rules_of H.hash_of) (draft_of topology.now) (records_of (item_views records.now)) s.tables.items s.journal) }
+    requires records { AreRecords (length (draft_of topology.now).topics) (item_views records.items) }
+    ensures { IfOk result (λ s. Answers (rules_of H.hash_of) (draft_of topology.now) (records_of (item_views records.items)) s.text.items s.journal) }
 {
     let _nodes = topology.nodes();
     let counts = counts_of(alloc, topology.topics())?;
     let kept = Vec::from_slice(alloc, counts.as_slice())?;
     let tasks = Vec::from_slice(alloc, topology.tasks())?;
     let mut cluster = Cluster::new(alloc, work, kept, tasks)?;
-    produce_all(alloc, &mut cluster, counts.as_slice(), records)?;
-    drain::<H, W>(alloc, topology, &mut cluster)?;
-    let tables = tables(alloc, topology, &cluster)?;
-    let journal = cluster.into_journal();
-    Ok(Settled { tables, journal })
+    produce_all(alloc, &mut cluster, counts.as_slice(), &records)?;
+    drain::<H, R, W>(rt, alloc, topology, &mut cluster)?;
+    let tables = tables(rt, alloc, topology, &cluster)?;
+    end_run(rt, alloc, cluster, records, tables)
 }
 
 // The topology of a job, and its other items.
@@ -70,9 +113,13 @@ fn split_job(items: Vec<JobItem>) -> Option<(Draft, Vec<JobItem>)>
 }
 
 /// The run of a job that was read to its end.
-pub fn settle_job<H: Hash128>(alloc: Global, items: Vec<JobItem>) -> Result<Settled, AllocError>
+pub fn settle_job<H: Hash128 + Sync, R: Threads + Sync>(
+    rt: &R,
+    alloc: Global,
+    items: Vec<JobItem>,
+) -> Result<Settled, AllocError>
     requires { IsReadJob (item_views items.items) }
-    ensures { IfOk result (λ s. AnswersOf (rules_of H.hash_of) (item_views items.items) s.tables.items s.journal) }
+    ensures { IfOk result (λ s. AnswersOf (rules_of H.hash_of) (item_views items.items) s.text.items s.journal) }
 {
     let Some((draft, records)) = split_job(items) else {
         unreachable!()
@@ -81,5 +128,5 @@ pub fn settle_job<H: Hash128>(alloc: Global, items: Vec<JobItem>) -> Result<Sett
         unreachable!()
     };
     let work = TaskWork::<H>::new(&topology);
-    settle::<H, TaskWork<H>>(alloc, &topology, work, &records)
+    settle::<H, R, TaskWork<H>>(rt, alloc, &topology, work, records)
 }

@@ -1,4 +1,5 @@
 use Rattle.std.proofs.Common.{◌∙◌, ap, map}
+use Rattle.std.proofs.lemmas.Result.{IfOk-weaker}
 use Rattle.ks_plan.specs.declared.node.TopicInfo.{TopicInfo}
 use Rattle.ks_topo.specs.Topologies.{draft_of}
 use Rattle.ks_job.specs.Items.{item_views}
@@ -24,7 +25,7 @@ produce_all-requires-clause-parts g c =
 
 pub produce_all-requires-clause-records : goal.produce_all-requires-clause-records
 produce_all-requires-clause-records g c =
-    records_ready g.H.Hash128.hash_of (draft_of c.args.topology.now) (g.W.Work.plan c.in_ok-cluster.cluster.work) (item_views c.args.records.now)
+    records_ready g.H.Hash128.hash_of (draft_of c.args.topology.now) (g.W.Work.plan c.in_ok-cluster.cluster.work) (item_views c.args.records.items)
     (ap (λ k. g.W.Work.plan k.work) c.in_ok-cluster.ensures ∙ c.requires.work) c.requires.records
 
 pub drain-requires-clause-setup : goal.drain-requires-clause-setup
@@ -48,6 +49,8 @@ returns g c =
     let counts = c.in_ok-counts.ensures ∙ (ap (map (λ (i : TopicInfo). i.parts)) c.topics.ensures ∙ shown_counts d) in
     let setup = ap (λ k. kept.setup_of g.W.Work.plan k) c.in_ok-cluster.ensures
     ∙ setup_is hash d (g.W.Work.plan c.args.work) c.in_ok-kept.kept.items c.in_ok-tasks.tasks.items c.requires.work (c.in_ok-kept.ensures.items ∙ (c.as_slice.ensures.value ∙ counts)) (c.in_ok-tasks.ensures.items ∙ c.tasks.ensures) in
-    settled_answers hash d g.W.Work.plan (item_views c.args.records.now) c.in_ok-cluster.cluster c.produce_all.new.cluster c.drain.new.cluster c.as_slice-2.result.now c.in_ok-tables.tables.items c.into_journal-journal.result
+    IfOk-weaker c.end_run.result _ _
+    (λ s h. settled_answers hash d g.W.Work.plan (item_views c.args.records.items) c.in_ok-cluster.cluster c.produce_all.new.cluster c.drain.new.cluster c.as_slice-2.result.now c.in_ok-tables.tables.items s.text.items s.journal h.0
     c.nodes-nodes.ensures.well_formed c.requires.built c.requires.records setup (ap (λ k. k.journal) c.in_ok-cluster.ensures) (c.as_slice-2.ensures.value ∙ counts) c.in_ok-produce_all.ensures c.in_ok-drain.ensures.more
-    c.into_journal-journal.ensures.entries c.into_journal-journal.ensures.history c.into_journal-journal.ensures.few c.in_ok-drain.ensures.settled c.in_ok-tables.ensures
+    h.1 c.end_run.ensures.history c.end_run.ensures.few c.in_ok-drain.ensures.settled c.in_ok-tables.ensures)
+    c.end_run.ensures.made
