@@ -10,6 +10,7 @@ pub fn copies(alloc: Global, recs: &[Rec]) -> Result<Vec<Rec>, AllocError>
     ensures { IfOk result (λ made. made.items ≡ recs.now) }
 {
     let mut made = Vec::new(alloc);
+    made.reserve(recs.len())?;
     for rec in recs {
         made.push(copy(rec)?)?;
     }

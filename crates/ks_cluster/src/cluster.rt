@@ -68,16 +68,30 @@ impl<W: Work> Cluster<W> {
         })
     }
 
-    /// Puts a record into a partition of an input topic, and answers its offset.
+    /// Puts a copy of a record into a partition of an input topic, and answers its offset.
     pub fn produce(&mut self, alloc: Global, part: PartId, rec: &Rec) -> Result<u64, AllocError>
         requires { Meets (setup_of W.plan self.old) (state_of W.plan self.old) (Produce part rec.now) }
         ensures ok { IfOk result (λ n. Answers W.plan self.old self.new (Produce part rec.now) (Number n)) }
         ensures err { OnErr result (self.new ≡ self.old) }
     {
-        let kept = copy(rec)?;
-        let logged = copy(rec)?;
+        self.produce_owned(alloc, part, copy(rec)?)
+    }
+
+    /// Puts a record itself into a partition of an input topic, and answers its offset; the journal keeps a copy. After want
+    /// of memory the record is gone.
+    pub fn produce_owned(
+        &mut self,
+        alloc: Global,
+        part: PartId,
+        rec: Rec,
+    ) -> Result<u64, AllocError>
+        requires { Meets (setup_of W.plan self.old) (state_of W.plan self.old) (Produce part rec) }
+        ensures ok { IfOk result (λ n. Answers W.plan self.old self.new (Produce part rec) (Number n)) }
+        ensures err { OnErr result (self.new ≡ self.old) }
+    {
+        let kept = copy(&rec)?;
         self.journal.reserve(1)?;
-        let offset = self.broker.produce(alloc, part, logged)?;
+        let offset = self.broker.produce(alloc, part, rec)?;
         self.journal.push_reserved(Entry {
             request: Request::Produce { part, rec: kept },
             reply: Reply::Number(offset),

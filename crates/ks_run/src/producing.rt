@@ -43,14 +43,14 @@ fn produce_one<W: Work>(
     cluster: &mut Cluster<W>,
     counts: &[u8],
     topic: u16,
-    rec: &Rec,
+    rec: Rec,
 ) -> Result<(), AllocError>
     requires counts { counts.now ≡ cluster.old.counts }
     requires parts { HasPartsAt (W.plan cluster.old.work).sources counts.now topic }
-    ensures { OnOk result (Produces cluster.old cluster.new (placed counts.now topic rec.now ∷ [])) }
+    ensures { OnOk result (Produces cluster.old cluster.new (placed counts.now topic rec ∷ [])) }
 {
     let part = part_of(&rec.key, counts[topic as usize]);
-    cluster.produce(alloc, PartId { topic, part }, rec)?;
+    cluster.produce_owned(alloc, PartId { topic, part }, rec)?;
     Ok(())
 }
 
@@ -59,20 +59,19 @@ pub fn produce_all<W: Work>(
     alloc: Global,
     cluster: &mut Cluster<W>,
     counts: &[u8],
-    items: &[JobItem],
+    items: Vec<JobItem>,
 ) -> Result<(), AllocError>
     requires counts { counts.now ≡ cluster.old.counts }
     requires parts { (topic : ℕ) → topic < (W.plan cluster.old.work).sources → HasPartsAt (W.plan cluster.old.work).sources counts.now topic }
-    requires records { AreRecords (W.plan cluster.old.work).sources (item_views items.now) }
-    ensures { OnOk result (Produces cluster.old cluster.new (placed_all counts.now (item_views items.now))) }
+    requires records { AreRecords (W.plan cluster.old.work).sources (item_views items.items) }
+    ensures { OnOk result (Produces cluster.old cluster.new (placed_all counts.now (item_views items.items))) }
 {
-    let mut rest = items;
-    while let [first, more @ ..] = rest {
-        match first {
+    let mut rest = items.into_iter();
+    while let Some(item) = rest.next() {
+        match item {
             JobItem::Topology { .. } => unreachable!(),
-            JobItem::Input { topic, rec } => produce_one(alloc, cluster, counts, *topic, rec)?,
+            JobItem::Input { topic, rec } => produce_one(alloc, cluster, counts, topic, rec)?,
         }
-        rest = more;
     }
     Ok(())
 }

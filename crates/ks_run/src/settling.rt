@@ -42,22 +42,11 @@ fn print_and_drop(alloc: Global, tables: Vec<Table>) -> Result<Vec<u8>, AllocErr
     print_settled(alloc, &tables)
 }
 
-// The journal of a cluster, which is let go with the records that it has kept.
-fn keep_journal<W: Work>(cluster: Cluster<W>, records: Vec<JobItem>) -> Journal
-    ensures entries { result ≡ cluster.journal }
-    ensures history { IsHistory (setup_of W.plan cluster) cluster.journal }
-    ensures few { records_in (setup_of W.plan cluster) cluster.journal < 2 ^ 48 }
-{
-    drop(records);
-    cluster.into_journal()
-}
-
 // The text of a run's tables and its journal, made side by side.
 fn end_run<R: Threads, W: Work + Send>(
     rt: &R,
     alloc: Global,
     cluster: Cluster<W>,
-    records: Vec<JobItem>,
     tables: Vec<Table>,
 ) -> Result<Settled, AllocError>
     ensures made { IfOk result (λ s. (s.text.items ≡ settled_text tables.items) × (s.journal ≡ cluster.journal)) }
@@ -67,7 +56,7 @@ fn end_run<R: Threads, W: Work + Send>(
     let (text, journal) = join(
         rt,
         move || print_and_drop(alloc, tables),
-        move || keep_journal(cluster, records),
+        move || cluster.into_journal(),
     );
     let text = text?;
     Ok(Settled { text, journal })
@@ -92,10 +81,10 @@ fn settle<H: Hash128 + Sync, R: Threads + Sync, W: Work + Send + Sync>(
     let kept = Vec::from_slice(alloc, counts.as_slice())?;
     let tasks = Vec::from_slice(alloc, topology.tasks())?;
     let mut cluster = Cluster::new(alloc, work, kept, tasks)?;
-    produce_all(alloc, &mut cluster, counts.as_slice(), &records)?;
+    produce_all(alloc, &mut cluster, counts.as_slice(), records)?;
     drain::<H, R, W>(rt, alloc, topology, &mut cluster)?;
     let tables = tables(rt, alloc, topology, &cluster)?;
-    end_run(rt, alloc, cluster, records, tables)
+    end_run(rt, alloc, cluster, tables)
 }
 
 // The topology of a job, and its other items.
