@@ -1,6 +1,5 @@
 -- A draft with its names resolved: nodes name one another, and their topics, by number.
-use Rattle.std.specs.Prelude.{ℕ, ◌<◌, ℤ, suc, List, [], ◌∷◌, ◌++◌, map, get_or, Option, Some, None, Bool, true, false, ◌||◌, fold, cond, unwrap_or, pos, negsuc, is_some}
-use Rattle.std.specs.List.{All}
+use Rattle.std.specs.Prelude.{ℕ, ℤ, suc, List, [], ◌∷◌, ◌++◌, map, get_or, Option, Some, None, Bool, true, false, ◌||◌, fold, cond, unwrap_or, pos, negsuc, is_some}
 use Rattle.std.specs.Ordering.{nat_cmp, is_lt}
 use Rattle.std.specs.Cmp.Lexicographic.{slice_cmp}
 use Rattle.ks_expr.specs.declared.terms.JoinKind.{JoinKind}
@@ -70,26 +69,6 @@ is_stream k = gives_stream (wiring_of k)
 
 abbrev pub is_windowed : Kind → Bool
 is_windowed k = gives_windows (wiring_of k)
-
--- the nodes that it reads
-abbrev pub wired_inputs : Wiring → List ℕ
-wired_inputs (wired.StreamSource t) = []
-wired_inputs (wired.TableSource t) = []
-wired_inputs (wired.StreamFilter f) = f ∷ []
-wired_inputs (wired.TableFilter f) = f ∷ []
-wired_inputs (wired.StreamMap f) = f ∷ []
-wired_inputs (wired.TableMap f) = f ∷ []
-wired_inputs (wired.KeySelected f) = f ∷ []
-wired_inputs (wired.StreamAggregate f through) = f ∷ []
-wired_inputs (wired.TableAggregate f) = f ∷ []
-wired_inputs (wired.Windowed f through) = f ∷ []
-wired_inputs (wired.KeyJoin l r) = l ∷ r ∷ []
-wired_inputs (wired.ForeignKeyJoin l r) = l ∷ r ∷ []
-
--- each node's inputs stand before it; the first of these nodes has this number
-abbrev pub InOrder : ℕ → List Kind → Type 0
-InOrder n [] = Unit {0}
-InOrder n (k ∷ ks) = All (λ i. i < n) (wired_inputs (wiring_of k)) × InOrder (suc n) ks
 
 -- ---- names
 -- a node that was resolved: its name, what it is, whether a select_key stands between it and its source

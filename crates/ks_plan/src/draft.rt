@@ -5,20 +5,25 @@ use ks_row::{Blob, Name, Seq};
 /// What a node does; inputs and topics stand by name.
 #[derive(Drop)]
 pub enum Op {
+    /// The records of an input topic.
     Stream {
         topic: Blob,
     },
+    /// The last row of each key of an input topic.
     Table {
         topic: Blob,
     },
+    /// The rows that meet a test.
     Filter {
         from: Blob,
         test: Pred,
     },
+    /// Rows of other fields, made of the rows that are read.
     MapValues {
         from: Blob,
         set: Proj,
     },
+    /// A stream whose keys are the texts of this field.
     SelectKey {
         from: Blob,
         key: Name,
@@ -28,6 +33,7 @@ pub enum Op {
         from: Blob,
         by: Option<Name>,
     },
+    /// The sum of a field, grouped as a count is.
     Sum {
         from: Blob,
         by: Option<Name>,
@@ -58,6 +64,7 @@ pub enum Op {
     },
 }
 
+/// A node by its name.
 #[derive(Drop)]
 pub struct NodeDraft {
     pub name: Name,

@@ -149,7 +149,7 @@ pub fn count_firsts(labels: &[u8], nodes: u8) -> u8
     count
 }
 
-/// The subtopology in which a node lies, by the node's number.
+/// The subtopology in which a node lies, by the node's number; 0 where there is no such node.
 pub fn sub_of(shape: &Shape, node: usize) -> u8
     ensures { result ≡ sub_in shape.now.labels.items node }
 {

@@ -1,7 +1,8 @@
 //! What a layout is made of.
 use crate::node::Wiring;
 
-/// The nodes by number, without names and expressions, and what follows of where they lie.
+/// The nodes by number, without names and expressions, and what follows of where they lie. Any lists are a shape; those of a
+/// plan are what `shape_of` gives.
 #[derive(Drop)]
 pub struct Shape {
     /// The partition counts of the input topics.

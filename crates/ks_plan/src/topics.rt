@@ -127,7 +127,7 @@ fn right_of(wirings: &[Wiring], node: u8) -> usize
     }
 }
 
-/// A topic's partition count.
+/// A topic's partition count; 0 where the shape has no such input topic or node.
 pub fn parts_of_topic(shape: &Shape, topic: Topic) -> u8
     ensures { result ≡ topic_parts shape.now topic }
 {
@@ -144,8 +144,8 @@ pub fn parts_of_topic(shape: &Shape, topic: Topic) -> u8
     }
 }
 
-/// How many subtopologies there are.
-pub fn count_subs(shape: &Shape) -> u8
+// How many subtopologies there are.
+fn count_subs(shape: &Shape) -> u8
     requires { length shape.now.wirings.items ≤ 64 }
     ensures { result ≡ subs_in shape.now }
 {
@@ -185,7 +185,7 @@ fn is_drained(shape: &Shape, topic: Topic) -> bool
     }
 }
 
-/// Those of the topics that somebody reads, in their order. An error only where memory runs out.
+/// These topics without the inputs that no node reads, in their order. An error only where memory runs out.
 pub fn drained_topics(
     alloc: Global,
     shape: &Shape,

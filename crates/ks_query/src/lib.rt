@@ -4,5 +4,5 @@
 mod printing;
 mod table;
 
-pub use printing::printed;
+pub use printing::{print_head, print_rows, printed};
 pub use table::{Table, TableRow};

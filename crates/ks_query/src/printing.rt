@@ -53,8 +53,9 @@ fn print_row(alloc: Global, row: &TableRow) -> Result<String, AllocError>
     Ok(line)
 }
 
+/// The line before the rows of a table: `table NAME ROWS`. Want of memory is the one error.
 #[tactic(auto, unfolding(crate::specs::Printed::head_line))]
-fn print_head(alloc: Global, name: &str, count: usize) -> Result<String, AllocError>
+pub fn print_head(alloc: Global, name: &str, count: usize) -> Result<String, AllocError>
     ensures { IfOk result (λ s. string_bytes s ≡ head_line name.now count) }
 {
     let mut head = String::from_str(alloc, "table ")?;
@@ -65,7 +66,8 @@ fn print_head(alloc: Global, name: &str, count: usize) -> Result<String, AllocEr
     Ok(head)
 }
 
-fn print_rows(alloc: Global, rows: &[TableRow]) -> Result<String, AllocError>
+/// The lines of some rows, one after another, as `printed` has them. Want of memory is the one error.
+pub fn print_rows(alloc: Global, rows: &[TableRow]) -> Result<String, AllocError>
     ensures { IfOk result (λ s. string_bytes s ≡ flat_map row_line rows.now) }
 {
     let mut text = String::new(alloc);

@@ -199,7 +199,7 @@ fn judge_draft(alloc: Global, draft: &Draft) -> Result<(), Stop>
     Ok(())
 }
 
-/// The first fault of a draft; none exactly where it is well formed.
+/// The first fault of a draft; none exactly where it is well formed. Want of memory is the one error.
 pub fn first_fault(alloc: Global, draft: &Draft) -> Result<Option<TopoFault>, AllocError>
     ensures { IfOk result (λ o. o ≡ fault_of (draft_view draft.now)) }
 {
@@ -211,7 +211,8 @@ pub fn first_fault(alloc: Global, draft: &Draft) -> Result<Option<TopoFault>, Al
 }
 
 impl Topology {
-    /// The topology of a draft, exactly where the draft is well formed; else its first fault.
+    /// The topology of a draft, exactly where the draft is well formed; else its first fault. Want of memory is the one
+    /// outer error.
     pub fn build(alloc: Global, draft: Draft) -> Result<Result<Topology, TopoFault>, AllocError>
         ensures { IfOk result (λ r. Builds (draft_view draft) r) }
     {
