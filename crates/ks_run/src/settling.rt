@@ -36,14 +36,18 @@ pub struct Settled {
 }
 
 // The text of tables, which are let go.
-fn print_and_drop(alloc: Global, tables: Vec<Table>) -> Result<Vec<u8>, AllocError>
+fn print_and_drop<R: Threads + Sync>(
+    rt: &R,
+    alloc: Global,
+    tables: Vec<Table>,
+) -> Result<Vec<u8>, AllocError>
     ensures { IfOk result (λ v. v.items ≡ settled_text tables.items) }
 {
-    print_settled(alloc, &tables)
+    print_settled(rt, alloc, &tables)
 }
 
 // The text of a run's tables and its journal, made side by side.
-fn end_run<R: Threads, W: Work + Send>(
+fn end_run<R: Threads + Sync, W: Work + Send>(
     rt: &R,
     alloc: Global,
     cluster: Cluster<W>,
@@ -55,7 +59,7 @@ fn end_run<R: Threads, W: Work + Send>(
 {
     let (text, journal) = join(
         rt,
-        move || print_and_drop(alloc, tables),
+        move || print_and_drop(rt, alloc, tables),
         move || cluster.into_journal(),
     );
     let text = text?;
