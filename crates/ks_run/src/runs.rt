@@ -41,7 +41,7 @@ pub struct Ended {
 ///
 /// A line is whole at its line feed, at its byte 65,537, or at the end of the input; the source isn't asked again once a faulty
 /// line is whole, nor after its end. The text is built whole before its first byte is written. The gates are dropped unasked.
-pub fn run_job<H: Hash128 + Sync, R: Threads + Wait + Sync, S: Source, K: Sink>(
+pub fn run_job<H: Hash128 + Send + Sync, R: Threads + Wait + Sync, S: Source, K: Sink>(
     rt: &R,
     alloc: Global,
     _settings: &Settings,

@@ -67,7 +67,7 @@ fn end_run<R: Threads + Sync, W: Work + Send>(
 }
 
 // The run of a job's tasks.
-fn settle<H: Hash128 + Sync, R: Threads + Sync, W: Work + Send + Sync>(
+fn settle<H: Hash128 + Send + Sync, R: Threads + Sync, W: Work + Send + Sync>(
     rt: &R,
     alloc: Global,
     topology: &Topology,
@@ -106,7 +106,7 @@ fn split_job(items: Vec<JobItem>) -> Option<(Draft, Vec<JobItem>)>
 }
 
 /// The run of a job that was read to its end.
-pub fn settle_job<H: Hash128 + Sync, R: Threads + Sync>(
+pub fn settle_job<H: Hash128 + Send + Sync, R: Threads + Sync>(
     rt: &R,
     alloc: Global,
     items: Vec<JobItem>,
