@@ -15,6 +15,7 @@ use ks_history::{Pending, Producer, Slot};
 use ks_log::{Log, one_slot, sent};
 use ks_row::{Assignment, PartId, Rec, Refused, Seq, TaskId};
 use std::alloc::{AllocError, Global};
+use std::thread::Threads;
 
 /// All that a cluster knows but its journal.
 #[derive(Drop)]
@@ -26,6 +27,16 @@ pub struct Broker {
 }
 
 impl Broker {
+    /// Lets a broker go, the partitions of its log side by side in threads.
+    pub fn let_go<R: Threads + Sync>(self, rt: &R) {
+        let Broker {
+            log,
+            producers: _,
+            group: _,
+        } = self;
+        log.let_go(rt);
+    }
+
     /// An empty broker.
     pub fn new(alloc: Global, tasks: Vec<TaskId>) -> Result<Broker, AllocError>
         ensures { IfOk result (λ b. IsNew tasks.items b) }

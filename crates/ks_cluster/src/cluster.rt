@@ -22,6 +22,7 @@ use ks_log::{copy, ends_in, next_in};
 use ks_row::{Assignment, PartId, Rec, Refused, Seq, TaskId};
 use std::alloc::{AllocError, Global};
 use std::marker::Model;
+use std::thread::Threads;
 
 /// A cluster in memory: its partitions, producers, group and committed offsets, and the journal of all requests that
 /// write. The journal is a history at all times, and all else is where the journal leaves it.
@@ -445,6 +446,22 @@ impl<W: Work> Cluster<W> {
             broker: _,
             journal,
         } = self;
+        Seq::of(journal)
+    }
+
+    /// The journal alone, as `into_journal` gives it; the log is let go by several threads.
+    pub fn into_journal_wide<R: Threads + Sync>(self, rt: &R) -> Journal
+        ensures entries { result ≡ self.journal }
+        ensures history { IsHistory (setup_of W.plan self) self.journal }
+        ensures few { records_in (setup_of W.plan self) self.journal < 2 ^ 48 }
+    {
+        let Cluster {
+            work: _,
+            counts: _,
+            broker,
+            journal,
+        } = self;
+        broker.let_go(rt);
         Seq::of(journal)
     }
 

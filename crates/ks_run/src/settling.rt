@@ -60,7 +60,7 @@ fn end_run<R: Threads + Sync, W: Work + Send>(
     let (text, journal) = join(
         rt,
         move || print_and_drop(rt, alloc, tables),
-        move || cluster.into_journal(),
+        move || cluster.into_journal_wide(rt),
     );
     let text = text?;
     Ok(Settled { text, journal })

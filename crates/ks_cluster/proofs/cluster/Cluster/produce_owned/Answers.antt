@@ -3,7 +3,6 @@ use Rattle.ks_history.specs.declared.journal.Request.TheVariants.{Produce}
 use Rattle.ks_history.specs.declared.journal.Reply.TheVariants.{Number}
 use Rattle.ks_history.specs.History.{Meets}
 use Rattle.ks_cluster.specs.Kept.{setup_of, state_of}
-use Rattle.ks_cluster.specs.Moves.{Moves}
 use Rattle.ks_cluster.proofs.Entries.{moved_kept, answered}
 use Rattle.ks_cluster.proofs.cluster.Cluster.produce_owned.Goals as goal
 
