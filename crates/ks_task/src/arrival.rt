@@ -7,26 +7,27 @@ ghost use Rattle.ks_machine.specs.Bytes.{if_there};
 ghost use Rattle.ks_task.specs.Program.{kind_of, step_view, given_as, given_said, moved_said, said_in, arrived_in};
 
 use crate::program::{Doing, Step};
-use ks_row::{Blob, Key, Rec, Row, decode};
+use crate::spelled::Spelled;
+use ks_row::{Blob, Key, Rec};
 use ks_topo::Topic;
 use ks_wire::{Delta, read_delta};
 use std::alloc::{AllocError, Global};
 
 /// What is said of a key.
 #[derive(Drop)]
-pub enum Said {
+pub enum Said<'a> {
     /// A source's row, or that it is gone.
-    Became(Option<Row>),
+    Became(Option<Spelled<'a>>),
     /// A change of an aggregate.
     Moves(Delta),
 }
 
 /// A record that was taken, with its topic and its key.
 #[derive(Drop)]
-pub struct Arrived {
+pub struct Arrived<'a> {
     pub topic: Topic,
     pub key: Key,
-    pub said: Said,
+    pub said: Said<'a>,
     pub time: u64,
 }
 
@@ -44,20 +45,23 @@ fn key_there(alloc: Global, key: &Option<Blob>) -> Result<Option<Option<Key>>, A
 }
 
 // None where the bytes are there and spell no row.
-fn row_there(alloc: Global, value: &Option<Blob>) -> Result<Option<Option<Row>>, AllocError>
+fn row_there<'a>(
+    alloc: Global,
+    value: &'a Option<Blob>,
+) -> Result<Option<Option<Spelled<'a>>>, AllocError>
     ensures { IfOk result (λ o. o ≡ if_there row_from value.now) }
 {
     let Some(bytes) = value else {
         return Ok(Some(None));
     };
-    match decode(alloc, bytes.as_slice())? {
+    match Spelled::of(alloc, bytes.as_slice())? {
         Some(row) => Ok(Some(Some(row))),
         None => Ok(None),
     }
 }
 
 // Of an input topic.
-fn read_given(alloc: Global, rec: &Rec) -> Result<Option<(Key, Said)>, AllocError>
+fn read_given<'a>(alloc: Global, rec: &'a Rec) -> Result<Option<(Key, Said<'a>)>, AllocError>
     ensures { IfOk result (λ o. o ≡ given_said rec.now) }
 {
     let Some(key) = key_there(alloc, &rec.key)? else {
@@ -73,7 +77,11 @@ fn read_given(alloc: Global, rec: &Rec) -> Result<Option<(Key, Said)>, AllocErro
 }
 
 // Of the repartition topic of a table.
-fn read_moved(alloc: Global, doing: &Doing, rec: &Rec) -> Result<Option<(Key, Said)>, AllocError>
+fn read_moved<'a>(
+    alloc: Global,
+    doing: &Doing,
+    rec: &'a Rec,
+) -> Result<Option<(Key, Said<'a>)>, AllocError>
     ensures { IfOk result (λ o. o ≡ moved_said (kind_of doing.now) rec.now) }
 {
     let Doing::Aggregate { .. } = doing else {
@@ -91,12 +99,12 @@ fn read_moved(alloc: Global, doing: &Doing, rec: &Rec) -> Result<Option<(Key, Sa
     Ok(Some((key, Said::Moves(delta))))
 }
 
-fn read_said(
+fn read_said<'a>(
     alloc: Global,
     steps: &[Step],
     topic: Topic,
-    rec: &Rec,
-) -> Result<Option<(Key, Said)>, AllocError>
+    rec: &'a Rec,
+) -> Result<Option<(Key, Said<'a>)>, AllocError>
     ensures { IfOk result (λ o. o ≡ said_in (map (λ (s : Step). kind_of s.doing) steps.now) topic rec.now) }
 {
     match topic {
@@ -110,12 +118,12 @@ fn read_said(
 }
 
 /// What a record of a topic says; none where it spells nothing of the topic's kind, or has no key.
-pub fn read_arrived(
+pub fn read_arrived<'a>(
     alloc: Global,
     steps: &[Step],
     topic: Topic,
-    rec: &Rec,
-) -> Result<Option<Arrived>, AllocError>
+    rec: &'a Rec,
+) -> Result<Option<Arrived<'a>>, AllocError>
     ensures { IfOk result (λ o. o ≡ arrived_in (map (λ (s : Step). kind_of s.doing) steps.now) topic rec.now) }
 {
     match read_said(alloc, steps, topic, rec)? {

@@ -1,144 +1,137 @@
 //! One whole step: each node acts once, in list order, at the step's key alone.
-ghost use Rattle.std.specs.Prelude.{◌≡◌, ◌++◌, IfOk, OnOk, map, get_or, option_map};
+ghost use Rattle.std.specs.Prelude.{◌≡◌, ◌++◌, IfOk, OnOk, Option, map, get_or, option_map};
 ghost use Rattle.ks_wire.specs.Spelling.{delta_bytes};
 ghost use Rattle.ks_plan.specs.declared.node.Topic.TheVariants.{Input, Repartition};
-ghost use Rattle.ks_machine.specs.Messages.{shown};
-ghost use Rattle.ks_machine.specs.Bytes.{stored_bytes};
+ghost use Rattle.ks_machine.specs.Messages.{Stored, shown};
 ghost use Rattle.ks_machine.specs.Step.{arrived as arrived_at, taken_row, applied, of_row};
-ghost use Rattle.ks_task.specs.Program.{kind_of, step_view, stored_in, arrival_of, old_at, new_at, value_after, pair_view, pair_at, no_pair, part_in, delta_rec, sent_delta, sends_of, all_sends as sends_in, change_of, all_changes as changes_in, made_of};
+ghost use Rattle.ks_task.specs.Program.{kind_of, step_view, stored_in, stored_after, arrival_of, old_at, new_at, value_after, pair_view, pair_at, no_pair, part_in, delta_rec, sent_delta, sends_of, all_sends as sends_in, change_of, all_changes as changes_in, made_of};
 ghost use Rattle.ks_task.specs.Views.{stores_in};
 
 use crate::arrival::{Arrived, Said};
 use crate::logs::{Log, find_bytes};
 use crate::program::{Doing, Step, is_same_topic};
-use crate::values::{Kept, agg_in, copy_kept, is_same_kept, read_kept, shown_row, write_kept};
+use crate::spelled::Spelled;
+use crate::values::{After, Kept, agg_in, changed, read_kept, shown_after, shown_row};
 use ks_agg::{table_apply, table_parts};
 use ks_hash::murmur2;
-use ks_row::{Blob, Change, Key, Name, PartId, Rec, Row};
+use ks_row::{Blob, Change, Key, Name, PartId, Rec};
 use ks_topo::Topic;
 use ks_wire::{Delta, write_delta};
 use std::alloc::{AllocError, Global};
 
 /// A node's changelog, and what it stores at the step's key before and after the step.
-#[derive(Drop)]
-pub struct Pair {
+#[derive(Clone, Copy)]
+pub struct Pair<'a> {
     pub log: u16,
-    pub old: Option<Kept>,
-    pub new: Option<Kept>,
+    pub old: Option<Kept<'a>>,
+    pub new: After<'a>,
 }
 
 // What a node stores at the key.
-fn old_value(
-    alloc: Global,
-    logs: &[Log],
-    key: &Key,
-    step: &Step,
-) -> Result<Option<Kept>, AllocError>
-    ensures { IfOk result (λ o. stored_in o ≡ old_at (stores_in logs.now) key.now (step_view step.now)) }
+fn old_value<'a>(logs: &'a [Log], key: &Key, step: &Step) -> Option<Kept<'a>>
+    ensures { stored_in result ≡ old_at (stores_in logs.now) key.now (step_view step.now) }
 {
     if !step.own {
-        return Ok(None);
+        return None;
     }
-    match find_bytes(logs, step.log, key.as_str().as_bytes()) {
-        Some(bytes) => read_kept(alloc, &step.doing, bytes),
-        None => Ok(None),
-    }
+    let bytes = find_bytes(logs, step.log, key.as_str().as_bytes())?;
+    read_kept(&step.doing, bytes)
 }
 
-fn row_kept(row: &Option<Row>) -> Result<Option<Kept>, AllocError>
-    ensures { IfOk result (λ k. stored_in k ≡ of_row row.now) }
+fn row_after<'a>(row: &'a Option<Spelled<'a>>) -> After<'a>
+    ensures { (old : Option Stored) → stored_after old result ≡ of_row row.now }
 {
     match row {
-        Some(row) => Ok(Some(Kept::Shown(row.clone()?))),
-        None => Ok(None),
+        Some(row) => After::Shown(row),
+        None => After::Gone,
     }
 }
 
-fn source_after(topic: u16, old: &Option<Kept>, x: &Arrived) -> Result<Option<Kept>, AllocError>
-    ensures { IfOk result (λ k. stored_in k ≡ taken_row (stored_in old.now) (arrived_at (arrival_of x.now) (Input topic))) }
+fn source_after<'a>(topic: u16, x: &'a Arrived<'a>) -> After<'a>
+    ensures { (old : Option Stored) → stored_after old result ≡ taken_row old (arrived_at (arrival_of x.now) (Input topic)) }
 {
     if !is_same_topic(x.topic, Topic::Input(topic)) {
-        return copy_kept(old);
+        return After::Same;
     }
     match &x.said {
-        Said::Became(row) => row_kept(row),
-        Said::Moves(_) => copy_kept(old),
+        Said::Became(row) => row_after(row),
+        Said::Moves(_) => After::Same,
     }
 }
 
-fn aggregate_after(
+fn aggregate_after<'a>(
     number: u8,
     field: &Option<Name>,
-    old: &Option<Kept>,
-    x: &Arrived,
-) -> Result<Option<Kept>, AllocError>
-    ensures { IfOk result (λ k. stored_in k ≡ applied field.now (stored_in old.now) (arrived_at (arrival_of x.now) (Repartition number))) }
+    old: Option<Kept<'a>>,
+    x: &'a Arrived<'a>,
+) -> After<'a>
+    ensures { stored_after (stored_in old.entry) result ≡ applied field.now (stored_in old.entry) (arrived_at (arrival_of x.now) (Repartition number)) }
 {
     if !is_same_topic(x.topic, Topic::Repartition(number)) {
-        return copy_kept(old);
+        return After::Same;
     }
     match &x.said {
-        Said::Became(_) => copy_kept(old),
+        Said::Became(_) => After::Same,
         Said::Moves(delta) => match table_apply(agg_in(old), *delta) {
-            Some(agg) => Ok(Some(Kept::Counted {
+            Some(agg) => After::Counted {
                 count: field.is_none(),
                 agg,
-            })),
-            None => Ok(None),
+            },
+            None => After::Gone,
         },
     }
 }
 
 // What a node stores at the key after the step.
-fn new_value(step: &Step, old: &Option<Kept>, x: &Arrived) -> Result<Option<Kept>, AllocError>
-    ensures { IfOk result (λ k. stored_in k ≡ new_at (step_view step.now) (stored_in old.now) (arrival_of x.now)) }
+fn new_value<'a>(step: &Step, old: Option<Kept<'a>>, x: &'a Arrived<'a>) -> After<'a>
+    ensures { stored_after (stored_in old.entry) result ≡ new_at (step_view step.now) (stored_in old.entry) (arrival_of x.now) }
 {
     if !step.own {
-        return Ok(None);
+        return After::Gone;
     }
     match &step.doing {
-        Doing::Source { topic } => source_after(*topic, old, x),
+        Doing::Source { topic } => source_after(*topic, x),
         Doing::Aggregate { field, .. } => aggregate_after(step.number, field, old, x),
     }
 }
 
-fn pair_of(alloc: Global, logs: &[Log], step: &Step, x: &Arrived) -> Result<Pair, AllocError>
-    ensures { IfOk result (λ p. pair_view p ≡ pair_at (stores_in logs.now) x.now.key (arrival_of x.now) (step_view step.now)) }
+fn pair_of<'a>(logs: &'a [Log], step: &Step, x: &'a Arrived<'a>) -> Pair<'a>
+    ensures { pair_view result ≡ pair_at (stores_in logs.now) x.now.key (arrival_of x.now) (step_view step.now) }
 {
-    let old = old_value(alloc, logs, &x.key, step)?;
-    let new = new_value(step, &old, x)?;
-    Ok(Pair {
+    let old = old_value(logs, &x.key, step);
+    let new = new_value(step, old, x);
+    Pair {
         log: step.log,
         old,
         new,
-    })
+    }
 }
 
-fn pairs_of(
+fn pairs_of<'a>(
     alloc: Global,
-    logs: &[Log],
+    logs: &'a [Log],
     steps: &[Step],
-    x: &Arrived,
-) -> Result<Vec<Pair>, AllocError>
+    x: &'a Arrived<'a>,
+) -> Result<Vec<Pair<'a>>, AllocError>
     ensures { IfOk result (λ v. map pair_view v.items ≡ map (pair_at (stores_in logs.now) x.now.key (arrival_of x.now)) (map step_view steps.now)) }
 {
     let mut pairs = Vec::new(alloc);
     for step in steps {
-        pairs.push(pair_of(alloc, logs, step, x)?)?;
+        pairs.push(pair_of(logs, step, x))?;
     }
     Ok(pairs)
 }
 
 // The rows that a node shows before and after the step.
-fn change_in(alloc: Global, pairs: &[Pair], from: u8, key: &Key) -> Result<Change, AllocError>
+fn change_in(alloc: Global, pairs: &[Pair<'_>], from: u8, key: &Key) -> Result<Change, AllocError>
     ensures old { IfOk result (λ c. c.old ≡ option_map shown (get_or (map pair_view pairs.now) from no_pair).old) }
     ensures new { IfOk result (λ c. c.new ≡ option_map shown (get_or (map pair_view pairs.now) from no_pair).new) }
 {
     match pairs.get(from as usize) {
         Some(pair) => Ok(Change {
             key: key.clone()?,
-            old: shown_row(alloc, &pair.old)?,
-            new: shown_row(alloc, &pair.new)?,
+            old: shown_row(alloc, pair.old)?,
+            new: shown_after(alloc, pair.old, pair.new)?,
         }),
         None => Ok(Change {
             key: key.clone()?,
@@ -207,9 +200,9 @@ fn push_deltas(
 fn push_sends(
     alloc: Global,
     out: &mut Vec<(PartId, Rec)>,
-    pairs: &[Pair],
+    pairs: &[Pair<'_>],
     step: &Step,
-    x: &Arrived,
+    x: &Arrived<'_>,
 ) -> Result<(), AllocError>
     ensures { OnOk result (out.new.items ≡ out.old.items ++ sends_of (map pair_view pairs.now) x.now.time (step_view step.now) (kind_of step.now.doing)) }
 {
@@ -226,8 +219,8 @@ fn push_sends(
 fn all_sends(
     alloc: Global,
     steps: &[Step],
-    pairs: &[Pair],
-    x: &Arrived,
+    pairs: &[Pair<'_>],
+    x: &Arrived<'_>,
 ) -> Result<Vec<(PartId, Rec)>, AllocError>
     ensures { IfOk result (λ v. v.items ≡ sends_in (map pair_view pairs.now) x.now.time (map step_view steps.now)) }
 {
@@ -238,34 +231,24 @@ fn all_sends(
     Ok(out)
 }
 
-fn value_there(alloc: Global, kept: &Option<Kept>) -> Result<Option<Blob>, AllocError>
-    ensures { IfOk result (λ b. b ≡ option_map stored_bytes (stored_in kept.now)) }
-{
-    match kept {
-        Some(kept) => Ok(Some(write_kept(alloc, kept)?)),
-        None => Ok(None),
-    }
-}
-
 // The changelog record of a node whose stored value changed.
 fn push_change(
     alloc: Global,
     out: &mut Vec<(PartId, Rec)>,
     part: u8,
-    x: &Arrived,
-    pair: &Pair,
+    x: &Arrived<'_>,
+    pair: &Pair<'_>,
 ) -> Result<(), AllocError>
     ensures { OnOk result (out.new.items ≡ out.old.items ++ change_of x.now.key part x.now.time (pair_view pair.now)) }
 {
-    if is_same_kept(&pair.old, &pair.new) {
+    let Some(value) = changed(alloc, pair.old, pair.new)? else {
         return Ok(());
-    }
+    };
     let part = PartId {
         topic: pair.log,
         part,
     };
     let key = Blob::from_slice(alloc, x.key.as_str().as_bytes())?;
-    let value = value_there(alloc, &pair.new)?;
     out.push((
         part,
         Rec {
@@ -281,8 +264,8 @@ fn push_changes(
     alloc: Global,
     out: &mut Vec<(PartId, Rec)>,
     part: u8,
-    x: &Arrived,
-    pairs: &[Pair],
+    x: &Arrived<'_>,
+    pairs: &[Pair<'_>],
 ) -> Result<(), AllocError>
     ensures { OnOk result (out.new.items ≡ out.old.items ++ changes_in x.now.key part x.now.time (map pair_view pairs.now)) }
 {
@@ -298,7 +281,7 @@ pub fn make(
     steps: &[Step],
     logs: &[Log],
     part: u8,
-    x: &Arrived,
+    x: &Arrived<'_>,
 ) -> Result<Vec<(PartId, Rec)>, AllocError>
     ensures { IfOk result (λ v. v.items ≡ made_of (map step_view steps.now) (stores_in logs.now) part x.now) }
 {

@@ -43,13 +43,13 @@ pub struct Task {
 }
 
 // What a record of a topic says.
-fn arrived_by(
+fn arrived_by<'a>(
     alloc: Global,
     purposes: &[Topic],
     steps: &[Step],
     topic: u16,
-    rec: &Rec,
-) -> Result<Option<Arrived>, AllocError>
+    rec: &'a Rec,
+) -> Result<Option<Arrived<'a>>, AllocError>
     ensures { IfOk result (λ o. o ≡ arrived_at_topic (map (λ (s : Step). kind_of s.doing) steps.now) (slice_get purposes.now topic) rec.now) }
 {
     match purposes.get(topic as usize) {

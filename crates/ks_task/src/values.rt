@@ -1,148 +1,95 @@
 //! The stored values of table nodes.
-ghost use Rattle.std.specs.Prelude.{◌≡◌, Some, None, IfOk, option_map, is_none, option_copied};
+ghost use Rattle.std.specs.Prelude.{◌≡◌, ◌==◌, Some, None, IfOk, option_map};
 ghost use Rattle.std.specs.Ordering.{eq_by_cmp, int_cmp};
-ghost use Rattle.ks_expr.specs.Eval.{same_bytes, same_field};
-ghost use Rattle.ks_machine.specs.Messages.{same_row, same_agg, same_bool, same_stored, same_option, shown, agg_of};
-ghost use Rattle.ks_machine.specs.Bytes.{stored_from, stored_bytes};
-ghost use Rattle.ks_task.specs.Program.{kind_of, stored, stored_in};
+ghost use Rattle.std.specs.Cmp.Lexicographic.{pointwise};
+ghost use Rattle.ks_row.specs.Reading.{row_from};
+ghost use Rattle.ks_machine.specs.Messages.Stored.{OfRow, OfAgg};
+ghost use Rattle.ks_machine.specs.Messages.{same_agg, same_bool, same_stored, same_option, shown, agg_of};
+ghost use Rattle.ks_machine.specs.Bytes.{stored_from};
+ghost use Rattle.ks_task.specs.Program.{kind_of, stored_in, stored_after, changed_bytes};
 
 use crate::program::Doing;
+use crate::spelled::Spelled;
 use ks_agg::agg_row;
-use ks_row::{Blob, Field, Name, Row, Text, decode, encode};
+use ks_row::{Blob, Row, decode};
 use ks_wire::{Agg, read_agg, write_agg};
 use std::alloc::{AllocError, Global};
 
-/// What a table node stores at a key.
-#[derive(Drop)]
-pub enum Kept {
-    Shown(Row),
+/// What a table node stores at a key, as it is found.
+#[derive(Clone, Copy)]
+pub enum Kept<'a> {
+    /// Of a source, the bytes in its store: those that spell no row are no value.
+    Bytes(&'a [u8]),
     /// An aggregate, and whether it is a count.
     Counted { count: bool, agg: Agg },
 }
 
-/// The value that a node's bytes spell; none where they spell nothing of its kind.
-pub fn read_kept(alloc: Global, doing: &Doing, bytes: &[u8]) -> Result<Option<Kept>, AllocError>
-    ensures { IfOk result (λ o. stored_in o ≡ stored_from (kind_of doing.now) bytes.now) }
+/// What a table node's value is after a step.
+#[derive(Clone, Copy)]
+pub enum After<'a> {
+    /// What it was.
+    Same,
+    Gone,
+    /// A source's row.
+    Shown(&'a Spelled<'a>),
+    /// An aggregate, and whether it is a count.
+    Counted { count: bool, agg: Agg },
+}
+
+/// The value that a node's bytes spell; none where an aggregate's spell nothing. Takes no memory.
+pub fn read_kept<'a>(doing: &Doing, bytes: &'a [u8]) -> Option<Kept<'a>>
+    ensures { stored_in result ≡ stored_from (kind_of doing.now) bytes.now }
 {
     match doing {
-        Doing::Source { .. } => match decode(alloc, bytes)? {
-            Some(row) => Ok(Some(Kept::Shown(row))),
-            None => Ok(None),
-        },
-        Doing::Aggregate { field, .. } => match read_agg(bytes) {
-            Some(agg) => Ok(Some(Kept::Counted {
-                count: field.is_none(),
-                agg,
-            })),
-            None => Ok(None),
-        },
-    }
-}
-
-/// The bytes that spell a value.
-pub fn write_kept(alloc: Global, kept: &Kept) -> Result<Blob, AllocError>
-    ensures { IfOk result (λ b. b ≡ stored_bytes (stored kept.now)) }
-{
-    match kept {
-        Kept::Shown(row) => encode(alloc, row),
-        Kept::Counted { agg, .. } => write_agg(alloc, agg),
-    }
-}
-
-fn copy_of(kept: &Kept) -> Result<Kept, AllocError>
-    ensures { IfOk result (λ k. stored k ≡ stored kept.now) }
-{
-    match kept {
-        Kept::Shown(row) => Ok(Kept::Shown(row.clone()?)),
-        Kept::Counted { count, agg } => Ok(Kept::Counted {
-            count: *count,
-            agg: *agg,
+        Doing::Source { .. } => Some(Kept::Bytes(bytes)),
+        Doing::Aggregate { field, .. } => Some(Kept::Counted {
+            count: field.is_none(),
+            agg: read_agg(bytes)?,
         }),
     }
 }
 
-/// The same value again.
-pub fn copy_kept(kept: &Option<Kept>) -> Result<Option<Kept>, AllocError>
-    ensures { IfOk result (λ k. stored_in k ≡ stored_in kept.now) }
-{
-    match kept {
-        Some(kept) => Ok(Some(copy_of(kept)?)),
-        None => Ok(None),
-    }
-}
-
-fn row_of(alloc: Global, kept: &Kept) -> Result<Row, AllocError>
-    ensures { IfOk result (λ r. r ≡ shown (stored kept.now)) }
-{
-    match kept {
-        Kept::Shown(row) => row.clone(),
-        Kept::Counted { count, agg } => agg_row(alloc, *count, *agg),
-    }
-}
-
 /// The row that the nodes below see.
-pub fn shown_row(alloc: Global, kept: &Option<Kept>) -> Result<Option<Row>, AllocError>
-    ensures { IfOk result (λ r. r ≡ option_map shown (stored_in kept.now)) }
+pub fn shown_row(alloc: Global, kept: Option<Kept<'_>>) -> Result<Option<Row>, AllocError>
+    ensures { IfOk result (λ r. r ≡ option_map shown (stored_in kept.entry)) }
 {
     match kept {
-        Some(kept) => Ok(Some(row_of(alloc, kept)?)),
+        Some(Kept::Bytes(bytes)) => decode(alloc, bytes),
+        Some(Kept::Counted { count, agg }) => Ok(Some(agg_row(alloc, count, agg)?)),
         None => Ok(None),
     }
 }
 
-/// The aggregate, where one is stored.
-pub fn agg_in(kept: &Option<Kept>) -> Option<Agg>
-    ensures { result ≡ agg_of (stored_in kept.now) }
+/// The row that the nodes below see after a step.
+pub fn shown_after(
+    alloc: Global,
+    kept: Option<Kept<'_>>,
+    after: After<'_>,
+) -> Result<Option<Row>, AllocError>
+    ensures { IfOk result (λ r. r ≡ option_map shown (stored_after (stored_in kept.entry) after.entry)) }
+{
+    match after {
+        After::Same => shown_row(alloc, kept),
+        After::Gone => Ok(None),
+        After::Shown(given) => Ok(Some(given.row().clone()?)),
+        After::Counted { count, agg } => Ok(Some(agg_row(alloc, count, agg)?)),
+    }
+}
+
+/// The aggregate, where one is stored. Takes no memory.
+pub fn agg_in(kept: Option<Kept<'_>>) -> Option<Agg>
+    ensures { result ≡ agg_of (stored_in kept.entry) }
 {
     match kept {
-        Some(Kept::Counted { agg, .. }) => Some(*agg),
+        Some(Kept::Counted { agg, .. }) => Some(agg),
         _ => None,
     }
-}
-
-fn is_same_name(a: &Name, b: &Name) -> bool
-    ensures { result ≡ same_bytes a.now b.now }
-{
-    a.as_str() == b.as_str()
-}
-
-fn is_same_text(a: &Text, b: &Text) -> bool
-    ensures { result ≡ same_bytes a.now b.now }
-{
-    a.as_str() == b.as_str()
 }
 
 fn is_same_number(a: i64, b: i64) -> bool
     ensures { result ≡ eq_by_cmp int_cmp a b }
 {
     a == b
-}
-
-fn is_same_field(a: &Field, b: &Field) -> bool
-    ensures { result ≡ same_field a.now b.now }
-{
-    match (a, b) {
-        (Field::Int(x), Field::Int(y)) => is_same_number(*x, *y),
-        (Field::Text(x), Field::Text(y)) => is_same_text(x, y),
-        _ => false,
-    }
-}
-
-fn is_same_row(a: &[(Name, Field)], b: &[(Name, Field)]) -> bool
-    ensures { result ≡ same_row a.now b.now }
-{
-    match a {
-        [] => match b {
-            [] => true,
-            [_, ..] => false,
-        },
-        [x, xs @ ..] => match b {
-            [] => false,
-            [y, ys @ ..] => {
-                is_same_name(&x.0, &y.0) && is_same_field(&x.1, &y.1) && is_same_row(xs, ys)
-            }
-        },
-    }
 }
 
 fn is_same_agg(a: &Agg, b: &Agg) -> bool
@@ -157,25 +104,101 @@ fn is_same_bool(a: bool, b: bool) -> bool
     a == b
 }
 
-fn is_same(a: &Kept, b: &Kept) -> bool
-    ensures { result ≡ same_stored (stored a.now) (stored b.now) }
+// Whether nothing is stored: bytes have to be read for it.
+fn is_nothing(alloc: Global, kept: Option<Kept<'_>>) -> Result<bool, AllocError>
+    ensures { IfOk result (λ b. b ≡ same_option same_stored (stored_in kept.entry) None) }
 {
-    match (a, b) {
-        (Kept::Shown(x), Kept::Shown(y)) => is_same_row(x.members(), y.members()),
-        (Kept::Counted { count: c, agg: x }, Kept::Counted { count: d, agg: y }) => {
-            is_same_bool(*c, *d) && is_same_agg(x, y)
-        }
+    match kept {
+        Some(Kept::Bytes(bytes)) => Ok(decode(alloc, bytes)?.is_none()),
+        Some(Kept::Counted { .. }) => Ok(false),
+        None => Ok(true),
+    }
+}
+
+fn are_equal(a: &[u8], b: &[u8]) -> bool
+    ensures { result ≡ pointwise ◌==◌ a.now b.now }
+{
+    a == b
+}
+
+// A row has one spelling, so that bytes are compared and no row is read. Takes no memory.
+fn is_spelling(bytes: &[u8], given: &Spelled<'_>) -> bool
+    ensures { result ≡ same_option same_stored (option_map OfRow (row_from bytes.now)) (Some (OfRow given.now)) }
+{
+    are_equal(bytes, given.bytes())
+}
+
+fn is_this_row(kept: Option<Kept<'_>>, given: &Spelled<'_>) -> bool
+    ensures { result ≡ same_option same_stored (stored_in kept.entry) (Some (OfRow given.now)) }
+{
+    match kept {
+        Some(Kept::Bytes(bytes)) => is_spelling(bytes, given),
         _ => false,
     }
 }
 
-/// Whether a stored value stays.
-pub fn is_same_kept(a: &Option<Kept>, b: &Option<Kept>) -> bool
-    ensures { result ≡ same_option same_stored (stored_in a.now) (stored_in b.now) }
+fn is_this_agg(kept: Option<Kept<'_>>, count: bool, agg: &Agg) -> bool
+    ensures { result ≡ same_option same_stored (stored_in kept.entry) (Some (OfAgg count agg.now)) }
 {
-    match (a, b) {
-        (None, None) => true,
-        (Some(x), Some(y)) => is_same(x, y),
+    match kept {
+        Some(Kept::Counted { count: c, agg: x }) => is_same_bool(c, count) && is_same_agg(&x, agg),
         _ => false,
+    }
+}
+
+fn changed_row(
+    alloc: Global,
+    kept: Option<Kept<'_>>,
+    given: &Spelled<'_>,
+) -> Result<Option<Option<Blob>>, AllocError>
+    ensures { IfOk result (λ o. o ≡ changed_bytes (stored_in kept.entry) (Some (OfRow given.now))) }
+{
+    if is_this_row(kept, given) {
+        return Ok(None);
+    }
+    Ok(Some(Some(Blob::from_slice(alloc, given.bytes())?)))
+}
+
+fn changed_agg(
+    alloc: Global,
+    kept: Option<Kept<'_>>,
+    count: bool,
+    agg: &Agg,
+) -> Result<Option<Option<Blob>>, AllocError>
+    ensures { IfOk result (λ o. o ≡ changed_bytes (stored_in kept.entry) (Some (OfAgg count agg.now))) }
+{
+    if is_this_agg(kept, count, agg) {
+        return Ok(None);
+    }
+    Ok(Some(Some(write_agg(alloc, agg)?)))
+}
+
+fn changed_to_none(
+    alloc: Global,
+    kept: Option<Kept<'_>>,
+) -> Result<Option<Option<Blob>>, AllocError>
+    ensures { IfOk result (λ o. o ≡ changed_bytes (stored_in kept.entry) None) }
+{
+    if is_nothing(alloc, kept)? {
+        Ok(None)
+    } else {
+        Ok(Some(None))
+    }
+}
+
+/// What is to be written of a value after a step: none where the value stays, and else the bytes that spell it, or that it is gone.
+#[tactic(auto, using(crate::proofs::Spellings::value_itself))]
+pub fn changed(
+    alloc: Global,
+    kept: Option<Kept<'_>>,
+    after: After<'_>,
+) -> Result<Option<Option<Blob>>, AllocError>
+    ensures { IfOk result (λ o. o ≡ changed_bytes (stored_in kept.entry) (stored_after (stored_in kept.entry) after.entry)) }
+{
+    match after {
+        After::Same => Ok(None),
+        After::Gone => changed_to_none(alloc, kept),
+        After::Shown(given) => changed_row(alloc, kept, given),
+        After::Counted { count, agg } => changed_agg(alloc, kept, count, &agg),
     }
 }
