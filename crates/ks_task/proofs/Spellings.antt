@@ -1,7 +1,7 @@
 -- What stays: a row has one spelling, so that bytes tell whether a row is another.
-use Rattle.std.proofs.Common.{◌≡◌, ℕ, Bool, true, false, List, [], ◌∷◌, Option, Some, None, refl, sym, ap, subst, ◌∙◌}
-use Rattle.std.specs.Prelude.{option_map, nat_eq}
-use Rattle.std.specs.Ordering.{int_cmp, is_eq}
+use Rattle.std.proofs.Common.{◌≡◌, ℕ, Bool, true, false, List, [], ◌∷◌, Option, Some, None, refl, sym, ap, ◌∙◌}
+use Rattle.std.specs.Prelude.{option_map, is_some, nat_eq}
+use Rattle.std.specs.Ordering.{is_eq}
 use Rattle.std.specs.Cmp.{tied_itself, int_cmp_total}
 use Rattle.std.specs.Cmp.Lexicographic.{nat_list_cmp_total, pointwise, same_text, other_text}
 use Rattle.std.proofs.lemmas.Bool.{and_from}
@@ -15,6 +15,7 @@ use Rattle.ks_expr.specs.Eval.{Row, same_field}
 use Rattle.ks_machine.specs.Messages.{Stored, same_row, same_agg, same_bool, same_stored, same_option}
 use Rattle.ks_machine.specs.Messages.Stored.{OfRow, OfAgg}
 use Rattle.ks_machine.proofs.Same.{row-is}
+use Rattle.ks_task.specs.Judged.{members_of, row_in}
 
 field_itself : (f : Field) → same_field f f ≡ true
 field_itself (Int z) = ap is_eq (tied_itself int_cmp_total z)
@@ -57,3 +58,15 @@ told_by_bytes bytes row are fits spelled is = by (pointwise nat_eq bytes spelled
         let same : bytes ≡ spelling row = same_text bytes spelled e ∙ is in
         sym (ap (λ o. is_row o row) (ap row_from same ∙ row_codec.again row fits) ∙ row_itself row)
     by false e = other_row (row_from bytes) row (λ read. other_text bytes spelled e ((row_codec.back bytes row are read).1 ∙ sym is))
+
+-- the row that bytes spell, where they spell one
+row_is : (bytes : List ℕ) → is_some (row_from bytes) ≡ true → Some (row_in bytes) ≡ row_from bytes
+row_is bytes = by (row_from bytes)
+  where
+    by : (o : Option Row) → is_some o ≡ true → Some (members_of o) ≡ o
+    by (Some ms) e = refl
+    by None e = cc
+
+-- such bytes are that row's spelling
+pub row_spelled : (bytes : List ℕ) → IsBytes bytes → is_some (row_from bytes) ≡ true → FitsRow (row_in bytes) × (bytes ≡ spelling (row_in bytes))
+row_spelled bytes are e = row_codec.back bytes (row_in bytes) are (sym (row_is bytes e))

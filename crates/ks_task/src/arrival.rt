@@ -44,20 +44,15 @@ fn key_there(alloc: Global, key: &Option<Blob>) -> Result<Option<Option<Key>>, A
     }
 }
 
-// None where the bytes are there and spell no row.
-fn row_there<'a>(
-    alloc: Global,
-    value: &'a Option<Blob>,
-) -> Result<Option<Option<Spelled<'a>>>, AllocError>
-    ensures { IfOk result (λ o. o ≡ if_there row_from value.now) }
+// None where the bytes are there and spell no row. Takes no memory.
+fn row_there<'a>(value: &'a Option<Blob>) -> Option<Option<Spelled<'a>>>
+    ensures { result ≡ if_there row_from value.now }
 {
     let Some(bytes) = value else {
-        return Ok(Some(None));
+        return Some(None);
     };
-    match Spelled::of(alloc, bytes.as_slice())? {
-        Some(row) => Ok(Some(Some(row))),
-        None => Ok(None),
-    }
+    let row = Spelled::of(bytes.as_slice())?;
+    Some(Some(row))
 }
 
 // Of an input topic.
@@ -67,7 +62,7 @@ fn read_given<'a>(alloc: Global, rec: &'a Rec) -> Result<Option<(Key, Said<'a>)>
     let Some(key) = key_there(alloc, &rec.key)? else {
         return Ok(None);
     };
-    let Some(row) = row_there(alloc, &rec.value)? else {
+    let Some(row) = row_there(&rec.value) else {
         return Ok(None);
     };
     match key {

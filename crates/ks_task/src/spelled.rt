@@ -1,16 +1,16 @@
-//! Rows with the bytes that spell them.
-ghost use Rattle.std.specs.Prelude.{◌≡◌, IfOk};
+//! Bytes that spell a row.
+ghost use Rattle.std.specs.Prelude.{◌≡◌, Some, IfOk};
 ghost use Rattle.ks_row.specs.Spelling.{spelling, FitsRow};
 ghost use Rattle.ks_row.specs.Reading.{row_from};
 
+use crate::judging::spells_row;
 use ks_row::{Row, decode};
 use std::alloc::{AllocError, Global};
 use std::marker::Model;
 
-/// A row, with the bytes that spell it, which are borrowed; contracts see the row.
+/// Bytes that spell a row, which are borrowed; contracts see the row.
 #[derive(Drop)]
 pub struct Spelled<'a> {
-    row: Row,
     bytes: &'a [u8],
 }
 
@@ -18,29 +18,32 @@ impl<'a> Model for Spelled<'a> {
     ghost use Rattle.std.specs.Prelude.{◌≡◌, List};
     ghost use Rattle.ks_row.specs.Rows.{Member};
     ghost use Rattle.ks_row.specs.Spelling.{spelling, FitsRow};
+    ghost use Rattle.ks_task.specs.Judged.{row_in};
 
     ghost Value = { List Member };
 
-    ghost view = { λ s. s.row };
+    ghost view = { λ s. row_in s.bytes.now };
 
-    ghost invariant = { λ s. FitsRow s.row × (s.bytes.now ≡ spelling s.row) };
+    ghost invariant = { λ s. FitsRow (row_in s.bytes.now) × (s.bytes.now ≡ spelling (row_in s.bytes.now)) };
 }
 
 impl<'a> Spelled<'a> {
-    /// The row that the bytes spell, all of them; none where they spell no row.
-    pub fn of(alloc: Global, bytes: &'a [u8]) -> Result<Option<Spelled<'a>>, AllocError>
-        ensures { IfOk result (λ o. o ≡ row_from bytes.now) }
+    /// The row that the bytes spell, all of them; none where they spell no row. Takes no memory.
+    pub fn of(bytes: &'a [u8]) -> Option<Spelled<'a>>
+        ensures { result ≡ row_from bytes.now }
     {
-        match decode(alloc, bytes)? {
-            Some(row) => Ok(Some(Spelled { row, bytes })),
-            None => Ok(None),
+        if spells_row(bytes) {
+            Some(Spelled { bytes })
+        } else {
+            None
         }
     }
 
-    pub fn row(&self) -> &Row
-        ensures { result.now ≡ self.now }
+    /// The row itself, read from its bytes; it is always there.
+    pub fn row(&self, alloc: Global) -> Result<Option<Row>, AllocError>
+        ensures { IfOk result (λ o. o ≡ Some self.now) }
     {
-        &self.row
+        decode(alloc, self.bytes)
     }
 
     pub fn bytes(&self) -> &[u8]

@@ -8,6 +8,7 @@ ghost use Rattle.ks_machine.specs.Messages.{same_agg, same_bool, same_stored, sa
 ghost use Rattle.ks_machine.specs.Bytes.{stored_from};
 ghost use Rattle.ks_task.specs.Program.{kind_of, stored_in, stored_after, changed_bytes};
 
+use crate::judging::spells_row;
 use crate::program::Doing;
 use crate::spelled::Spelled;
 use ks_agg::agg_row;
@@ -71,7 +72,7 @@ pub fn shown_after(
     match after {
         After::Same => shown_row(alloc, kept),
         After::Gone => Ok(None),
-        After::Shown(given) => Ok(Some(given.row().clone()?)),
+        After::Shown(given) => given.row(alloc),
         After::Counted { count, agg } => Ok(Some(agg_row(alloc, count, agg)?)),
     }
 }
@@ -104,14 +105,13 @@ fn is_same_bool(a: bool, b: bool) -> bool
     a == b
 }
 
-// Whether nothing is stored: bytes have to be read for it.
-fn is_nothing(alloc: Global, kept: Option<Kept<'_>>) -> Result<bool, AllocError>
-    ensures { IfOk result (λ b. b ≡ same_option same_stored (stored_in kept.entry) None) }
+fn is_nothing(kept: Option<Kept<'_>>) -> bool
+    ensures { result ≡ same_option same_stored (stored_in kept.entry) None }
 {
     match kept {
-        Some(Kept::Bytes(bytes)) => Ok(decode(alloc, bytes)?.is_none()),
-        Some(Kept::Counted { .. }) => Ok(false),
-        None => Ok(true),
+        Some(Kept::Bytes(bytes)) => !spells_row(bytes),
+        Some(Kept::Counted { .. }) => false,
+        None => true,
     }
 }
 
@@ -173,17 +173,10 @@ fn changed_agg(
     Ok(Some(Some(write_agg(alloc, agg)?)))
 }
 
-fn changed_to_none(
-    alloc: Global,
-    kept: Option<Kept<'_>>,
-) -> Result<Option<Option<Blob>>, AllocError>
-    ensures { IfOk result (λ o. o ≡ changed_bytes (stored_in kept.entry) None) }
+fn changed_to_none(kept: Option<Kept<'_>>) -> Option<Option<Blob>>
+    ensures { result ≡ changed_bytes (stored_in kept.entry) None }
 {
-    if is_nothing(alloc, kept)? {
-        Ok(None)
-    } else {
-        Ok(Some(None))
-    }
+    if is_nothing(kept) { None } else { Some(None) }
 }
 
 /// What is to be written of a value after a step: none where the value stays, and else the bytes that spell it, or that it is gone.
@@ -197,7 +190,7 @@ pub fn changed(
 {
     match after {
         After::Same => Ok(None),
-        After::Gone => changed_to_none(alloc, kept),
+        After::Gone => Ok(changed_to_none(kept)),
         After::Shown(given) => changed_row(alloc, kept, given),
         After::Counted { count, agg } => changed_agg(alloc, kept, count, &agg),
     }
