@@ -15,7 +15,7 @@ use Rattle.ks_expr.specs.Eval.{Row, same_field}
 use Rattle.ks_machine.specs.Messages.{Stored, same_row, same_agg, same_bool, same_stored, same_option}
 use Rattle.ks_machine.specs.Messages.Stored.{OfRow, OfAgg}
 use Rattle.ks_machine.proofs.Same.{row-is}
-use Rattle.ks_task.specs.Judged.{members_of, row_in}
+use Rattle.ks_wire.specs.Judged.{members_of, row_in}
 
 field_itself : (f : Field) → same_field f f ≡ true
 field_itself (Int z) = ap is_eq (tied_itself int_cmp_total z)

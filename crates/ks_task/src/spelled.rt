@@ -3,8 +3,8 @@ ghost use Rattle.std.specs.Prelude.{◌≡◌, Some, IfOk};
 ghost use Rattle.ks_row.specs.Spelling.{spelling, FitsRow};
 ghost use Rattle.ks_row.specs.Reading.{row_from};
 
-use crate::judging::spells_row;
 use ks_row::{Row, decode};
+use ks_wire::spells_row;
 use std::alloc::{AllocError, Global};
 use std::marker::Model;
 
@@ -18,7 +18,7 @@ impl<'a> Model for Spelled<'a> {
     ghost use Rattle.std.specs.Prelude.{◌≡◌, List};
     ghost use Rattle.ks_row.specs.Rows.{Member};
     ghost use Rattle.ks_row.specs.Spelling.{spelling, FitsRow};
-    ghost use Rattle.ks_task.specs.Judged.{row_in};
+    ghost use Rattle.ks_wire.specs.Judged.{row_in};
 
     ghost Value = { List Member };
 

@@ -8,12 +8,11 @@ ghost use Rattle.ks_machine.specs.Messages.{same_agg, same_bool, same_stored, sa
 ghost use Rattle.ks_machine.specs.Bytes.{stored_from};
 ghost use Rattle.ks_task.specs.Program.{kind_of, stored_in, stored_after, changed_bytes};
 
-use crate::judging::spells_row;
 use crate::program::Doing;
 use crate::spelled::Spelled;
 use ks_agg::agg_row;
 use ks_row::{Blob, Row, decode};
-use ks_wire::{Agg, read_agg, write_agg};
+use ks_wire::{Agg, read_agg, spells_row, write_agg};
 use std::alloc::{AllocError, Global};
 
 /// What a table node stores at a key, as it is found.

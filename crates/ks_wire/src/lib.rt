@@ -2,6 +2,7 @@
 #![tactic(auto)]
 
 mod codec;
+mod judging;
 mod reading;
 mod values;
 mod writing;
@@ -10,6 +11,7 @@ pub use codec::{
     read_agg, read_delta, read_hash, read_response, read_subscription, read_subscription_key,
     read_time, read_window_key, reading_undoes_writing,
 };
+pub use judging::spells_row;
 pub use values::{Agg, Delta, Response, Subscription};
 pub use writing::{
     write_agg, write_delta, write_hash, write_response, write_subscription, write_subscription_key,

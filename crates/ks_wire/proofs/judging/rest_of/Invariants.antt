@@ -1,6 +1,6 @@
 use Rattle.std.proofs.Common.{◌≡◌}
-use Rattle.ks_task.specs.Judged.{rest_after}
-use Rattle.ks_task.proofs.judging.rest_of.Given as goal
+use Rattle.ks_wire.specs.Judged.{rest_after}
+use Rattle.ks_wire.proofs.judging.rest_of.Given as goal
 
 abbrev pub invariant-loop-left : goal.invariant-loop-left
 invariant-loop-left l = rest_after l.last l.left l.rest ≡ rest_after l.name l.count l.bytes

@@ -6,7 +6,7 @@ use Rattle.std.specs.Cmp.Lexicographic.{slice_cmp}
 use Rattle.std.proofs.lemmas.Bool.Decides.{Decides-eqb}
 use Rattle.ks_row.specs.Rows.{Member, names_of, rises, row_of}
 use Rattle.ks_row.specs.Reading.{◌>>=◌, member_at, members_at, row_from}
-use Rattle.ks_task.specs.Judged.{named_at, rest_after, whole_rest, is_whole}
+use Rattle.ks_wire.specs.Judged.{named_at, rest_after, whole_rest, is_whole}
 
 pub goes_on : (last : List ℕ) (left : ℕ) (rest name after : List ℕ) (total : Option (List ℕ)) → 0 < left → Some (name, after) ≡ named_at rest → is_lt (slice_cmp nat_cmp last name) ≡ true
     → rest_after last left rest ≡ total → rest_after name (left - 1) after ≡ total

@@ -5,7 +5,7 @@ ghost use Rattle.std.specs.Ordering.{nat_cmp, is_lt};
 ghost use Rattle.std.specs.Cmp.Lexicographic.{slice_cmp};
 ghost use Rattle.ks_row.specs.Texts.{name_from, text_from};
 ghost use Rattle.ks_row.specs.Reading.{name_at, field_at, member_at, row_from};
-ghost use Rattle.ks_task.specs.Judged.{after_field, named_at, rest_after, whole_rest};
+ghost use Rattle.ks_wire.specs.Judged.{after_field, named_at, rest_after, whole_rest};
 
 use ks_row::{read_bytes, read_i64, read_u32};
 use std::str;

@@ -1,6 +1,6 @@
 use Rattle.std.proofs.lemmas.Str.{is_utf8-from_IsUtf8}
 use Rattle.ks_row.proofs.Utf8.{not_utf8}
-use Rattle.ks_task.proofs.judging.utf8_text.Goals as goal
+use Rattle.ks_wire.proofs.judging.utf8_text.Goals as goal
 
 pub returns-in-Ok : goal.returns-in-Ok
 returns-in-Ok c = let h = c.in-Ok.ensures.cases in (h.0, is_utf8-from_IsUtf8 c.args.bytes.now h.1)
