@@ -32,7 +32,7 @@ put_first Less k v e es o h = rw o refl
 put_first Equal k v e es o h = rw o refl
 put_first Greater k v e es o h = rw o (ap (λ l. e ∷ l) h)
 
-put_is : (es : Rows) (k : Key) (v : Row) → insert_entry by_bytes es k v ≡ put by_bytes k v es
+pub put_is : (es : Rows) (k : Key) (v : Row) → insert_entry by_bytes es k v ≡ put by_bytes k v es
 put_is [] k v = refl
 put_is (e ∷ es) k v = put_first (by_bytes k e.0) k v e es refl (put_is es k v)
 
@@ -68,10 +68,10 @@ rows_are d s name node topic k =
     ∙ ap (λ t. fin.entries (fold (λ rows part. folded.with_rows (kind_at p n) rows (pairs_in s (part_in t part))) fin.empty (up_to node.parts))) k.number
     ∙ ap (λ c. fin.entries (folded.rows_of p s n (up_to c))) k.parts
 
-pub table_is : (d : DraftView) (s : State) (name : Name) (node : Node) (topic : ℕ) (own : Name) (rows : Rows) (lines : List TableRow) → IsKept d name node topic → own ≡ node.name →
-    rows ≡ put_parts (op_view node.op) s topic [] (up_to node.parts) → lines ≡ map plain_row rows → ◌≡◌ {A = Table} record { name = own; rows = lines } (folded.folded_table d s name)
-table_is d s name node topic own rows lines k a b c =
-    ap (λ (n : Name). table n lines) (a ∙ k.named) ∙ ap (λ ls. table name ls) (c ∙ ap (map plain_row) (b ∙ rows_are d s name node topic k))
+pub table_is : (d : DraftView) (s : State) (name : Name) (node : Node) (topic : ℕ) (own : Name) (lines : List TableRow) → IsKept d name node topic → own ≡ node.name →
+    lines ≡ map plain_row (put_parts (op_view node.op) s topic [] (up_to node.parts)) → ◌≡◌ {A = Table} record { name = own; rows = lines } (folded.folded_table d s name)
+table_is d s name node topic own lines k a b =
+    ap (λ (n : Name). table n lines) (a ∙ k.named) ∙ ap (λ ls. table name ls) (b ∙ ap (map plain_row) (rows_are d s name node topic k))
   where
     table : Name → List TableRow → Table
     table n ls = record { name = n; rows = ls }

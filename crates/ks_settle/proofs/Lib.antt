@@ -4,6 +4,9 @@ pub mod Topics
 pub mod Pairs
 pub mod Named
 pub mod Folds
+pub mod Merges
+pub mod NextRow
+pub mod Parted
 pub mod Works
 pub mod Told
 pub mod Filling

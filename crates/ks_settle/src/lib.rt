@@ -2,6 +2,7 @@
 #![tactic(auto)]
 
 mod draining;
+mod merging;
 mod reading;
 mod rows;
 mod shown;

@@ -6,12 +6,13 @@ ghost use Rattle.ks_cluster.specs.Kept.{Kept, state_of};
 ghost use Rattle.ks_answer.specs.Folded.{folded_table, folded_tables};
 ghost use Rattle.ks_settle.specs.Rows.{node_named, IsKept, IsPrinted};
 
-use crate::rows::{lines_of, rows_kept};
+use crate::rows::rows_kept;
 use ks_cluster::{Cluster, Work};
 use ks_query::Table;
 use ks_row::Seq;
 use ks_topo::{Node, Topology};
 use std::alloc::{AllocError, Global};
+use std::thread::Threads;
 
 // The first node of this name.
 fn find_node<'a>(nodes: &'a [Node], name: &[u8]) -> Option<&'a Node>
@@ -41,7 +42,8 @@ fn find_kept<'a>(topology: &'a Topology, name: &[u8]) -> (&'a Node, u16)
     (node, topic)
 }
 
-fn table_of<W: Work>(
+fn table_of<R: Threads + Sync, W: Work + Sync>(
+    rt: &R,
     alloc: Global,
     topology: &Topology,
     cluster: &Cluster<W>,
@@ -52,17 +54,17 @@ fn table_of<W: Work>(
     ensures { IfOk result (λ t. t ≡ folded_table (draft_of topology.now) (state_of W.plan cluster.now) name.now) }
 {
     let (node, topic) = find_kept(topology, name);
-    let rows = rows_kept(alloc, cluster, &node.op, topic, node.parts)?;
-    let lines = lines_of(alloc, rows)?;
+    let rows = rows_kept(rt, alloc, cluster, &node.op, topic, node.parts)?;
     Ok(Table {
         name: node.name.clone()?,
-        rows: Seq::of(lines),
+        rows: Seq::of(rows),
     })
 }
 
 /// The printed tables of a topology, in the order of `print`: of each the rows that the decided records of its changelog keep, over
-/// all partitions.
-pub fn tables<W: Work>(
+/// all partitions, which are read side by side where threads can be made. `Err` only where memory ran out.
+pub fn tables<R: Threads + Sync, W: Work + Sync>(
+    rt: &R,
     alloc: Global,
     topology: &Topology,
     cluster: &Cluster<W>,
@@ -73,7 +75,7 @@ pub fn tables<W: Work>(
     let names = topology.print();
     let mut tables = Vec::new(alloc);
     for i in 0..names.len() {
-        tables.push(table_of(alloc, topology, cluster, names[i].as_slice())?)?;
+        tables.push(table_of(rt, alloc, topology, cluster, names[i].as_slice())?)?;
     }
     Ok(tables)
 }

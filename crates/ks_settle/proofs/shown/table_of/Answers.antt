@@ -4,10 +4,10 @@ use Rattle.ks_cluster.specs.Kept.{setup_of, state_of}
 use Rattle.ks_settle.proofs.Folds.{table_is, is_part}
 use Rattle.ks_settle.proofs.shown.table_of.Goals as goal
 
-pub rows_kept-requires : goal.rows_kept-requires
-rows_kept-requires g c = is_part (draft_of c.args.topology.now) (setup_of g.W.Work.plan c.args.cluster.now) c.args.name.now _ _ c.find_kept-topic.ensures c.requires.counts
+pub rows_kept-requires-clause-parts : goal.rows_kept-requires-clause-parts
+rows_kept-requires-clause-parts g c κs within = is_part (draft_of c.args.topology.now) (setup_of g.W.Work.plan c.args.cluster.now) c.args.name.now _ _ c.find_kept-topic.ensures c.requires.counts
 
 pub returns : goal.returns
 returns g c =
-    table_is (draft_of c.args.topology.now) (state_of g.W.Work.plan c.args.cluster.now) c.args.name.now _ _ c.in_ok-clone.field-0 c.in_ok-rows.rows.entries c.of.result c.find_kept-topic.ensures
-    c.in_ok-clone.ensures.cases c.in_ok-rows.ensures (c.of.ensures ∙ c.in_ok-lines.ensures)
+    table_is (draft_of c.args.topology.now) (state_of g.W.Work.plan c.args.cluster.now) c.args.name.now _ _ c.in_ok-clone.field-0 c.of.result c.find_kept-topic.ensures
+    c.in_ok-clone.ensures.cases (c.of.ensures ∙ c.in_ok-rows.ensures)

@@ -4,7 +4,7 @@ use Rattle.ks_settle.proofs.Folds.{printed_at, one_table_more}
 use Rattle.ks_settle.proofs.shown.tables.Goals as goal
 
 pub table_of-requires-clause-printed : goal.table_of-requires-clause-printed
-table_of-requires-clause-printed g c =
+table_of-requires-clause-printed g c κs within =
     printed_at (draft_of c.args.topology.now) c.print-names.result.now c.loop-i.i c.index-names-i.result c.as_slice.result.now c.print-names.ensures c.loop-i-test.true c.index-names-i.is c.as_slice.ensures
 
 pub loop-i-preserved : goal.loop-i-preserved
