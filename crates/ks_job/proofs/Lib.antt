@@ -1,3 +1,4 @@
 pub mod Cuts
 pub mod Whole
 pub mod Ends
+pub mod Joined

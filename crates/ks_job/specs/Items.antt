@@ -2,8 +2,9 @@
 use Rattle.std.specs.Prelude.{ℕ, List, map}
 use Rattle.ks_row.specs.declared.record.Rec.{Rec}
 use Rattle.ks_plan.specs.Drafts.{DraftView, draft_view}
+use Rattle.ks_line.specs.declared.record.Input.{Input}
 use Rattle.ks_job.specs.declared.judge.JobItem.{JobItem}
-use Rattle.ks_job.specs.declared.judge.JobItem.TheVariants.{Topology, Input}
+use Rattle.ks_job.specs.declared.judge.JobItem.TheVariants as items
 
 -- a topology with the number of its line; a record with the number of its topic
 pub data ItemView : Type 0 where
@@ -11,8 +12,15 @@ pub data ItemView : Type 0 where
   RecordTo : ℕ → Rec → ItemView
 
 abbrev pub item_view : JobItem → ItemView
-item_view (Topology line draft) = TopologyAt line (draft_view draft)
-item_view (Input topic rec) = RecordTo topic rec
+item_view (items.Topology line draft) = TopologyAt line (draft_view draft)
+item_view (items.Input topic rec) = RecordTo topic rec
 
 abbrev pub item_views : List JobItem → List ItemView
 item_views is = map item_view is
+
+-- the same of records alone
+abbrev pub input_view : Input → ItemView
+input_view i = RecordTo i.topic i.rec
+
+abbrev pub input_views : List Input → List ItemView
+input_views is = map input_view is

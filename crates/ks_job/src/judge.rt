@@ -13,7 +13,8 @@ use serde_json::Value;
 use std::alloc::{AllocError, Global};
 use std::str;
 
-const MOST_BYTES: u64 = 67_108_864;
+/// The most bytes of a job.
+pub const MOST_BYTES: u64 = 67_108_864;
 
 const MOST_LINE: usize = 65_536;
 

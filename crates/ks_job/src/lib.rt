@@ -4,7 +4,10 @@
 
 mod judge;
 mod place;
+mod places;
 mod reader;
+mod records;
+mod wide;
 
 pub use judge::JobItem;
 pub use ks_line::{Input, JobKind};

@@ -11,9 +11,11 @@ ghost use Rattle.ks_job.specs.Phases.{reader_of, machine, Fed, Answers, IsFaulty
 
 use crate::judge::{JobItem, judge_line, too_long};
 use crate::place::Place;
+use crate::wide::feed_by_threads;
 use ks_line::{JobKind, ReadError};
 use std::alloc::{AllocError, Global};
 use std::marker::Model;
+use std::thread::Threads;
 
 const MOST_LINE: usize = 65_536;
 
@@ -31,8 +33,8 @@ pub enum Phase {
     Faulty(JobFault),
 }
 
-// Where the first line ends.
-fn line_end(bytes: &[u8]) -> usize
+/// Where the first line ends: at its LF, or at the end.
+pub fn line_end(bytes: &[u8]) -> usize
     ensures within { result ≤ length bytes.now }
     ensures before { (k : ℕ) → k < result → is_line_end (slice_index bytes.now k) ≡ false }
     ensures at { result < length bytes.now → is_line_end (slice_index bytes.now result) ≡ true }
@@ -137,8 +139,9 @@ fn feed_reading(
     keep_rest(alloc, place, begun, rest)
 }
 
+/// What comes after these bytes.
 #[tactic(auto, using(crate::proofs::Cuts::after_faulty))]
-fn feed_phase(
+pub fn feed_phase(
     alloc: Global,
     phase: Phase,
     piece: &[u8],
@@ -272,6 +275,27 @@ impl JobReader {
         let answer = answer(&next)?;
         self.phase = Some(next);
         Ok(answer)
+    }
+
+    /// Takes the next piece as `feed` does; a long one is read by several threads.
+    pub fn feed_wide<R: Threads + Sync>(
+        &mut self,
+        rt: &R,
+        piece: &[u8],
+        items: &mut Vec<JobItem>,
+    ) -> Result<Result<(), JobFault>, AllocError>
+        ensures fed { OnOk result (Fed self.old self.new items.old.items items.new.items piece.now) }
+        ensures answer { IfOk result (λ r. IfSome self.new (λ s. Answers r s)) }
+        ensures err { OnErr result (self.new ≡ None) }
+        ensures sticky { self.old ≡ None → IsErr result × (items.new.items ≡ items.old.items) }
+    {
+        let Some(phase) = self.phase.take() else {
+            return Err(AllocError);
+        };
+        let next = feed_by_threads(rt, self.alloc, phase, piece, items)?;
+        let verdict = answer(&next)?;
+        self.phase = Some(next);
+        Ok(verdict)
     }
 }
 

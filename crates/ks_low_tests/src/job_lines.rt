@@ -4,6 +4,7 @@ use ks_job::{JobFault, JobReader};
 use ks_line::fault_text;
 use std::alloc::{AllocError, Global};
 use std::test::Fail;
+use std::thread::Threads;
 
 const PIECES: [usize; 3] = [1, 7, 65_536];
 
@@ -340,6 +341,64 @@ fn most_records(rt: HostRuntime) -> Result<(), Fail> {
             expected.as_bytes()
         );
         job.truncate(records);
+    }
+    Ok(())
+}
+
+// A job with this text behind so many of its 3,000 records, which are of 72 bytes.
+fn long_job(alloc: Global, text: &[u8], before: usize) -> Result<Vec<u8>, AllocError> {
+    let mut job = after_table(alloc, b"")?;
+    for i in 0..3_000usize {
+        if i == before {
+            job.extend_from_slice(text)?;
+        }
+        job.extend_from_slice(
+            br#"{"topic":"t","key":"a key","value":{"n":12345,"s":"a text"},"ts":67890}"#,
+        )?;
+        job.push(b'\n')?;
+    }
+    Ok(job)
+}
+
+// As `outcome`, with the bytes in one piece that is read by several threads.
+fn wide_outcome<R: Threads + Sync>(
+    rt: &R,
+    alloc: Global,
+    bytes: &[u8],
+) -> Result<Vec<u8>, AllocError> {
+    let mut reader = JobReader::new(alloc);
+    let mut items = Vec::new(alloc);
+    if let Err(fault) = reader.feed_wide(rt, bytes, &mut items)? {
+        return printed(alloc, &fault);
+    }
+    match reader.finish(&mut items)? {
+        Ok(()) => Vec::from_slice(alloc, items.len().to_string(alloc)?.as_bytes()),
+        Err(fault) => printed(alloc, &fault),
+    }
+}
+
+// Whether a job gives this, both in pieces and by several threads.
+fn gives_widely<R: Threads + Sync>(
+    rt: &R,
+    alloc: Global,
+    job: &[u8],
+    expected: &str,
+) -> Result<bool, AllocError> {
+    let by_pieces = outcome(alloc, job, 8_192)?;
+    let by_threads = wide_outcome(rt, alloc, job)?;
+    Ok(by_pieces.as_slice() == expected.as_bytes() && by_threads.as_slice() == expected.as_bytes())
+}
+
+#[test]
+fn pieces_by_threads(rt: HostRuntime) -> Result<(), Fail> {
+    let alloc = rt.alloc();
+    for (text, before, expected) in [
+        (b"".as_slice(), 0, "3001"),
+        (b"\n", 700, "3001"),
+        (b"[1]\n", 1_900, "1902: 21 BadShape \"line\""),
+    ] {
+        let job = long_job(alloc, text, before)?;
+        assert!(rt; gives_widely(&rt, alloc, &job, expected)?, "{before}");
     }
     Ok(())
 }

@@ -12,6 +12,10 @@ use crate::stop::{Stop, refused};
 use ks_edge::{Failed, Source};
 use ks_job::{JobFault, JobItem, JobReader};
 use std::alloc::{AllocError, Global};
+use std::thread::Threads;
+
+// The bytes that the source is asked for at once.
+const PIECE: usize = 1_048_576;
 
 /// Why a job wasn't read.
 #[derive(Clone, Copy, PartialEq, Eq, Debug)]
@@ -66,7 +70,8 @@ fn judge_answer(
 }
 
 // The next piece of a job.
-fn feed_piece(
+fn feed_piece<R: Threads + Sync>(
+    rt: &R,
     alloc: Global,
     reader: &mut JobReader,
     items: &mut Vec<JobItem>,
@@ -76,7 +81,7 @@ fn feed_piece(
     ensures stop { IfOk result (λ o. IfSome (machine_of reader.old items.old.items) (λ m. topology_stop m.items ≡ None → o ≡ stop_of (after m piece.now))) }
 {
     let is_first = items.is_empty();
-    let answer = reader.feed(piece, items)?;
+    let answer = reader.feed_wide(rt, piece, items)?;
     judge_answer(alloc, is_first, items, answer)
 }
 
@@ -98,8 +103,9 @@ fn end_job(
 }
 
 /// The items of the job that the source holds, or why it is none. The source isn't asked again once that is known, nor after
-/// its end; at most 67,174,401 bytes are taken, since a faulty line is whole then.
-pub fn read_job<S: Source>(
+/// its end, nor after 67,174,401 bytes, since a faulty line is whole then.
+pub fn read_job<R: Threads + Sync, S: Source>(
+    rt: &R,
     alloc: Global,
     input: &mut S,
 ) -> Result<Result<Vec<JobItem>, Stop>, ReadError>
@@ -109,14 +115,14 @@ pub fn read_job<S: Source>(
 {
     let mut reader = JobReader::new(alloc);
     let mut items = Vec::new(alloc);
-    let mut buf = [0u8; 8192];
+    let mut buf = vec![in alloc; 0u8; PIECE]?;
     let mut taken: u64 = 0;
     loop {
         let count = input.take(&mut buf)?;
         if count == 0 {
             return Ok(end_job(alloc, reader, items)?);
         }
-        if let Some(stop) = feed_piece(alloc, &mut reader, &mut items, &buf[..count])? {
+        if let Some(stop) = feed_piece(rt, alloc, &mut reader, &mut items, &buf[..count])? {
             return Ok(Err(stop));
         }
         taken += count as u64;
