@@ -15,7 +15,7 @@ use std::alloc::{AllocError, Global};
 use std::thread::Threads;
 
 // The bytes that the source is asked for at once.
-const PIECE: usize = 1_048_576;
+const PIECE: usize = 4_194_304;
 
 /// Why a job wasn't read.
 #[derive(Clone, Copy, PartialEq, Eq, Debug)]
