@@ -1,5 +1,5 @@
 //! Reads a job from a source, in whatever pieces it comes.
-ghost use Rattle.std.specs.Prelude.{◌≡◌, None, Err, IfOk, IfSome, OnOk, option_map, if◌then◌else◌};
+ghost use Rattle.std.specs.Prelude.{◌≡◌, ◌<◌, ◌≤◌, length, vec_len, None, Err, IfOk, IfSome, OnOk, option_map, if◌then◌else◌};
 ghost use Rattle.std.specs.Option.{option_or};
 ghost use Rattle.ks_edge.specs.Causes.{Rose};
 ghost use Rattle.ks_job.specs.Items.{item_views};
@@ -102,6 +102,41 @@ fn end_job(
     }
 }
 
+// The items of a job, of which these bytes are read at once.
+fn read_by<R: Threads + Sync, S: Source>(
+    rt: &R,
+    alloc: Global,
+    input: &mut S,
+    buf: &mut [u8],
+) -> Result<Result<Vec<JobItem>, Stop>, ReadError>
+    requires some { 0 < length buf.old }
+    requires room { length buf.old ≤ 1048576 }
+    ensures kept { OnOk result (S.faults input.new ≡ S.faults input.old) }
+    ensures read { IfOk result (λ r. Read (S.left input.old) r) }
+    ensures fault { result ≡ Err ReadError.Fault → Rose (S.faults input.old) (S.faults input.new) × TookNoFault (S.left input.old) (S.left input.new) }
+{
+    let mut reader = JobReader::new(alloc);
+    let mut items = Vec::new(alloc);
+    let mut taken: u64 = 0;
+    loop {
+        let count = input.take(buf)?;
+        if count == 0 {
+            return Ok(end_job(alloc, reader, items)?);
+        }
+        if let Some(stop) = feed_piece(rt, alloc, &mut reader, &mut items, &buf[..count])? {
+            return Ok(Err(stop));
+        }
+        taken += count as u64;
+    }
+}
+
+// So many zeros.
+fn zeros(alloc: Global, count: usize) -> Result<Vec<u8>, AllocError>
+    ensures { IfOk result (λ v. vec_len v ≡ count) }
+{
+    vec![in alloc; 0u8; count]
+}
+
 /// The items of the job that the source holds, or why it is none. The source isn't asked again once that is known, nor after
 /// its end, nor after 67,174,401 bytes, since a faulty line is whole then.
 pub fn read_job<R: Threads + Sync, S: Source>(
@@ -113,18 +148,6 @@ pub fn read_job<R: Threads + Sync, S: Source>(
     ensures read { IfOk result (λ r. Read (S.left input.old) r) }
     ensures fault { result ≡ Err ReadError.Fault → Rose (S.faults input.old) (S.faults input.new) × TookNoFault (S.left input.old) (S.left input.new) }
 {
-    let mut reader = JobReader::new(alloc);
-    let mut items = Vec::new(alloc);
-    let mut buf = vec![in alloc; 0u8; PIECE]?;
-    let mut taken: u64 = 0;
-    loop {
-        let count = input.take(&mut buf)?;
-        if count == 0 {
-            return Ok(end_job(alloc, reader, items)?);
-        }
-        if let Some(stop) = feed_piece(rt, alloc, &mut reader, &mut items, &buf[..count])? {
-            return Ok(Err(stop));
-        }
-        taken += count as u64;
-    }
+    let mut buf = zeros(alloc, PIECE)?;
+    read_by(rt, alloc, input, &mut buf)
 }

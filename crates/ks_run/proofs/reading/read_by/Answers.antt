@@ -2,7 +2,7 @@ use Rattle.std.proofs.Common.{ℕ, ◌∙◌, ◌++◌, sym, arith, length-appen
 use Rattle.std.specs.Prelude.{None}
 use Rattle.ks_run.proofs.Machines.{few_bytes}
 use Rattle.ks_run.proofs.Taking.{took_more, so_far_more, unstopped_more, stopped_early}
-use Rattle.ks_run.proofs.reading.read_job.Goals as goal
+use Rattle.ks_run.proofs.reading.read_by.Goals as goal
 
 pub returns-in-Some-clause-read : goal.returns-in-Some-clause-read
 returns-in-Some-clause-read g c =
@@ -30,5 +30,6 @@ loop-items-preserved g c =
       stands = so_far_more _ _ was.got piece was.stands c.in_ok-stop.ensures.fed;
       unstopped = sym (unstopped_more _ was.got piece None was.stands was.unstopped (rw c.in_default.is at c.in_ok-stop.ensures.stop));
       counted = let b = c.in_ok-count.ensures.bound in omega (arith, was.counted, length-append {A = ℕ}, length-take {A = ℕ});
+      some = omega (arith, was.some);
       room = omega (arith, was.room);
     }

@@ -1,10 +1,10 @@
-use Rattle.std.proofs.Common.{◌≡◌, ℕ, ◌-◌, List, length}
+use Rattle.std.proofs.Common.{◌≡◌, ◌<◌, ◌≤◌, ℕ, ◌-◌, List, length}
 use Rattle.std.specs.Prelude.{Option, Some, None}
 use Rattle.std.specs.Io.KnownBytes.{Consumes}
 use Rattle.ks_job.specs.Reader.{Machine, so_far}
 use Rattle.ks_run.specs.Reading.{machine_of}
 use Rattle.ks_run.specs.Stops.{stop_of}
-use Rattle.ks_run.proofs.reading.read_job.Given as goal
+use Rattle.ks_run.proofs.reading.read_by.Given as goal
 
 -- so far the source has lost what was taken, and has not failed; the reader has read that, and there is no reason to stop
 pub record Taking (left_old left_now : Option (List ℕ)) (faults_old faults_now : ℕ) (machine : Option Machine) (taken : ℕ) (buf : List ℕ) : Type 0 where
@@ -14,7 +14,8 @@ pub record Taking (left_old left_now : Option (List ℕ)) (faults_old faults_now
   pub stands : machine ≡ Some (so_far got)
   pub unstopped : stop_of (so_far got) ≡ None
   pub counted : taken ≡ length got
-  pub room : length buf ≡ 8192
+  pub some : 0 < length buf
+  pub room : length buf ≤ 1048576
 
 abbrev pub invariant-loop-items : goal.invariant-loop-items
 invariant-loop-items g l =
