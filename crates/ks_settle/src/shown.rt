@@ -69,7 +69,7 @@ pub fn tables<R: Threads + Sync, W: Work + Sync>(
     topology: &Topology,
     cluster: &Cluster<W>,
 ) -> Result<Vec<Table>, AllocError>
-    requires { cluster.now.counts ≡ map (parts_of_topic (plan_in topology.now)) (topics_of (plan_in topology.now)) }
+    requires counts { cluster.now.counts ≡ map (parts_of_topic (plan_in topology.now)) (topics_of (plan_in topology.now)) }
     ensures { IfOk result (λ v. v.items ≡ folded_tables (draft_of topology.now) (state_of W.plan cluster.now)) }
 {
     let names = topology.print();
