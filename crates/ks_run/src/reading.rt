@@ -110,7 +110,7 @@ fn read_by<R: Threads + Sync, S: Source>(
     buf: &mut [u8],
 ) -> Result<Result<Vec<JobItem>, Stop>, ReadError>
     requires some { 0 < length buf.old }
-    requires room { length buf.old ≤ 1048576 }
+    requires room { length buf.old ≤ 4194304 }
     ensures kept { OnOk result (S.faults input.new ≡ S.faults input.old) }
     ensures read { IfOk result (λ r. Read (S.left input.old) r) }
     ensures fault { result ≡ Err ReadError.Fault → Rose (S.faults input.old) (S.faults input.new) × TookNoFault (S.left input.old) (S.left input.new) }

@@ -15,7 +15,7 @@ pub record Taking (left_old left_now : Option (List ℕ)) (faults_old faults_now
   pub unstopped : stop_of (so_far got) ≡ None
   pub counted : taken ≡ length got
   pub some : 0 < length buf
-  pub room : length buf ≤ 1048576
+  pub room : length buf ≤ 4194304
 
 abbrev pub invariant-loop-items : goal.invariant-loop-items
 invariant-loop-items g l =
