@@ -8,6 +8,8 @@ pub mod Merges
 pub mod NextRow
 pub mod Parted
 pub mod Works
+pub mod Beside
+pub mod Sharing
 pub mod Told
 pub mod Filling
 pub mod Publishing

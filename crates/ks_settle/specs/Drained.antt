@@ -1,5 +1,5 @@
 -- A cluster that is brought to rest topic by topic: what holds of its tasks in between, and what they hand to the commits.
-use Rattle.std.specs.Prelude.{◌≡◌, ℕ, ◌<◌, ◌≤◌, ◌+◌, ◌==◌, Bool, true, false, List, [], ◌∷◌, ◌++◌, length, map, Option, Some, None, if◌then◌else◌, IfSome, slice_index, slice_index_or}
+use Rattle.std.specs.Prelude.{◌≡◌, ℕ, ◌<◌, ◌≤◌, ◌+◌, ◌==◌, Bool, true, false, List, [], ◌∷◌, ◌++◌, length, map, Option, Some, None, option_map, IfOk, if◌then◌else◌, IfSome, slice_index, slice_index_or}
 use Rattle.std.specs.List.{All, AllWithin}
 use Rattle.ks_row.specs.declared.record.PartId.{PartId}
 use Rattle.ks_row.specs.declared.record.TaskId.{TaskId}
@@ -19,11 +19,13 @@ use Rattle.ks_history.specs.State.{pending_of}
 use Rattle.ks_cluster.specs.Kept.{Kept, setup_of, state_of}
 use Rattle.ks_answer.specs.Jobs.{produces}
 use Rattle.ks_commit.specs.declared.publisher.Publisher.{Publisher}
+use Rattle.ks_commit.specs.Work.{work_view}
 use Rattle.ks_commit.specs.Committed.{IsReady, MayCommit, EachMay, AreApart, names_in, EachEnds}
 use Rattle.ks_commit.specs.Sending.{pendings_of}
 use Rattle.ks_task.specs.declared.task.Task.{Task}
 use Rattle.ks_task.specs.Tasks.{task_view, IsTaskOf}
 use Rattle.ks_task.specs.Views.{own_ends}
+use Rattle.ks_settle.specs.declared.draining.Attempt.{Attempt}
 use Rattle.ks_settle.specs.Reading.{SendsOn, IsClean, HasRead, HasReadAll}
 use Rattle.ks_commit.specs.Sending.{is_produce}
 
@@ -140,6 +142,21 @@ pub record AreReading (d : DraftView) (setup : Setup) (journal : List Entry) (to
   pub full : AllWithin (IsFull d setup journal topic fs) ts 0 i
   pub rest : AllWithin (λ t. Rests d setup journal topic t × (work_for (task_view t).task fs ≡ None)) ts i (length ts)
   pub works : AreWorks setup journal topic fs
+
+-- ---- tasks that read a topic side by side
+abbrev pub tasks_in : List Attempt → List Task
+tasks_in xs = map (λ x. x.task) xs
+
+-- what came of these: where memory sufficed the task has read the topic, and this is the work that it then has
+pub record AreTried (d : DraftView) (setup : Setup) (journal : List Entry) (topic : ℕ) (old new : List Attempt) : Type 0 where
+  pub count : length new ≡ length old
+  pub each : (k : ℕ) (x : Attempt) → k < length old → IfOk (slice_index_or new k x).work (λ o. IsRead d setup journal topic (slice_index_or old k x).task (slice_index_or new k x).task (option_map work_view o))
+
+-- these tasks were put back, and these are their works; what came of the others is left
+pub record ArePutBack (d : DraftView) (setup : Setup) (journal : List Entry) (topic : ℕ) (ts : List Task) (left : List Attempt) (fs : List WorkView) : Type 0 where
+  pub old : List Attempt
+  pub reading : AreReading d setup journal topic (length ts) (ts ++ tasks_in old) fs
+  pub tried : AreTried d setup journal topic old left
 
 -- the works were committed, and these ends answered
 pub record ArePublished (setup : Setup) (journal new : List Entry) (topic : ℕ) (fs : List WorkView) (told : List (List (ℕ × ℕ))) : Type 0 where

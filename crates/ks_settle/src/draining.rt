@@ -12,8 +12,12 @@ ghost use Rattle.ks_commit.specs.Committed.{works_of, IsReady};
 ghost use Rattle.ks_commit.specs.Work.{work_view};
 ghost use Rattle.ks_task.specs.Built.{IsBuilt, rules_of};
 ghost use Rattle.ks_task.specs.Tasks.{task_view, IsTaskOf};
+ghost use Rattle.std.specs.Thread.{IsSync};
+ghost use Rattle.ks_plan.specs.contracts.draft.Op as op;
+ghost use Rattle.ks_plan.specs.contracts.node.Node as node;
+ghost use Rattle.ks_topo.specs.contracts.built.Topology as built;
 ghost use Rattle.ks_follow.specs.Views.{fresh_view};
-ghost use Rattle.ks_settle.specs.Drained.{MayDrain, with_work, AreReading, AreResting, AreFresh, Extends, OnlyProduces, ids};
+ghost use Rattle.ks_settle.specs.Drained.{MayDrain, with_work, IsRead, Rests, tasks_in, AreTried, AreReading, AreResting, AreFresh, Extends, OnlyProduces, ids};
 
 use crate::reading::read_task;
 use crate::telling::tell;
@@ -21,8 +25,52 @@ use ks_cluster::{Cluster, Work};
 use ks_commit::{Frozen, Publisher, commit};
 use ks_hash::Hash128;
 use ks_task::{Task, TaskWork};
-use ks_topo::Topology;
+use ks_topo::{Op, Topology};
 use std::alloc::{AllocError, Global};
+use std::mem;
+use std::thread;
+use std::thread::Threads;
+
+// The most threads that read a topic.
+const THREADS: usize = 64;
+
+// A task, and what came of its reading: the work that it then has, if it has one.
+#[derive(Drop)]
+struct Attempt {
+    task: Task,
+    work: Result<Option<Frozen>, AllocError>,
+}
+
+// A type that threads may share.
+fn shared<T: Sync>()
+    ensures { IsSync T.row }
+{
+}
+
+fn share_op()
+    ensures { IsSync op.the_row }
+{
+    shared::<Op>()
+}
+
+fn share_node()
+    ensures { IsSync node.the_row }
+{
+    share_op();
+}
+
+// Threads may share a topology.
+fn share_topology()
+    ensures { IsSync built.the_row }
+{
+    share_node();
+}
+
+// Lets all of these go, side by side.
+fn drop_all<R: Threads + Sync, T: Send + Drop>(rt: &R, all: Vec<T>) -> Result<(), AllocError> {
+    drop(thread::map_vec(rt, all, &|one: T| -> () { drop(one) })?);
+    Ok(())
+}
 
 fn keep(works: &mut Vec<Frozen>, work: Option<Frozen>) -> Result<(), AllocError>
     ensures { OnOk result (works_of works.new.items ≡ with_work (works_of works.old.items) (option_map work_view work)) }
@@ -34,8 +82,68 @@ fn keep(works: &mut Vec<Frozen>, work: Option<Frozen>) -> Result<(), AllocError>
     Ok(())
 }
 
+// The tasks, none of which has read yet.
+fn attempts_of(alloc: Global, tasks: Vec<Task>) -> Result<Vec<Attempt>, AllocError>
+    ensures { IfOk result (λ v. tasks_in v.items ≡ tasks.items) }
+{
+    let mut attempts = Vec::new(alloc);
+    for task in tasks {
+        attempts.push(Attempt {
+            task,
+            work: Ok(None),
+        })?;
+    }
+    Ok(attempts)
+}
+
+// A task reads the topic to its end, where it is one of its inputs.
+fn read_own<H: Hash128, V: Work, W: Work>(
+    alloc: Global,
+    topology: &Topology,
+    work: &V,
+    cluster: &Cluster<W>,
+    attempt: &mut Attempt,
+    topic: u16,
+)
+    requires may { MayDrain (setup_of W.plan cluster.now) }
+    requires idle { IsIdle (state_of W.plan cluster.now) }
+    requires work { W.plan cluster.now.work ≡ work_of (rules_of H.hash_of) (plan_in topology.now) }
+    requires inputs { V.plan work.now ≡ W.plan cluster.now.work }
+    requires rests { Rests (draft_of topology.now) (setup_of W.plan cluster.now) cluster.now.journal topic attempt.old.task }
+    ensures { IfOk attempt.new.work (λ o. IsRead (draft_of topology.now) (setup_of W.plan cluster.now) cluster.now.journal topic attempt.old.task attempt.new.task (option_map work_view o)) }
+{
+    let inputs = work.inputs(attempt.task.id().sub);
+    attempt.work = read_task::<H, W>(alloc, topology, cluster, inputs, &mut attempt.task, topic);
+}
+
+// Each task that reads the topic reads it to its end, side by side.
+fn read_each<H: Hash128 + Sync, R: Threads + Sync, V: Work + Sync, W: Work + Sync>(
+    rt: &R,
+    alloc: Global,
+    topology: &Topology,
+    work: &V,
+    cluster: &Cluster<W>,
+    attempts: &mut [Attempt],
+    topic: u16,
+)
+    requires may { MayDrain (setup_of W.plan cluster.now) }
+    requires idle { IsIdle (state_of W.plan cluster.now) }
+    requires work { W.plan cluster.now.work ≡ work_of (rules_of H.hash_of) (plan_in topology.now) }
+    requires inputs { V.plan work.now ≡ W.plan cluster.now.work }
+    requires rests { All (λ a. Rests (draft_of topology.now) (setup_of W.plan cluster.now) cluster.now.journal topic a.task) attempts.old }
+    ensures { AreTried (draft_of topology.now) (setup_of W.plan cluster.now) cluster.now.journal topic attempts.old attempts.new }
+{
+    share_topology();
+    let one = |_: usize, attempt: &mut Attempt|
+        requires { MayDrain (setup_of W.plan cluster.now) × IsIdle (state_of W.plan cluster.now) × (W.plan cluster.now.work ≡ work_of (rules_of H.hash_of) (plan_in topology.now)) × (V.plan work.now ≡ W.plan cluster.now.work) × Rests (draft_of topology.now) (setup_of W.plan cluster.now) cluster.now.journal topic attempt.now.task }
+        ensures { IfOk attempt.exit.now.work (λ o. IsRead (draft_of topology.entry.now) (setup_of W.plan cluster.entry.now) cluster.entry.now.journal topic attempt.entry.now.task attempt.exit.now.task (option_map work_view o)) }
+    { read_own::<H, V, W>(alloc, topology, work, cluster, attempt, topic) };
+    thread::for_each_mut(rt, attempts, THREADS, &one);
+}
+
 // Each task that reads the topic reads it to its end; what they then have to commit.
-fn read_tasks<H: Hash128, V: Work, W: Work>(
+fn read_tasks<H: Hash128 + Sync, R: Threads + Sync, V: Work + Sync, W: Work + Sync>(
+    rt: &R,
     alloc: Global,
     topology: &Topology,
     work: &V,
@@ -50,12 +158,14 @@ fn read_tasks<H: Hash128, V: Work, W: Work>(
     requires reading { AreReading (draft_of topology.now) (setup_of W.plan cluster.now) cluster.now.journal topic 0 tasks.old.items [] }
     ensures { IfOk result (λ works. AreReading (draft_of topology.now) (setup_of W.plan cluster.now) cluster.now.journal topic (length tasks.new.items) tasks.new.items (works_of works.items)) }
 {
+    let all = mem::replace(tasks, Vec::new(alloc));
+    let mut attempts = attempts_of(alloc, all)?;
+    let each = attempts.as_mut_slice();
+    read_each::<H, R, V, W>(rt, alloc, topology, work, cluster, each, topic);
     let mut works = Vec::new(alloc);
-    for i in 0..tasks.len() {
-        let task = &mut tasks[i];
-        let inputs = work.inputs(task.id().sub);
-        let own = read_task::<H, W>(alloc, topology, cluster, inputs, task, topic)?;
-        keep(&mut works, own)?;
+    for attempt in attempts {
+        tasks.push(attempt.task)?;
+        keep(&mut works, attempt.work?)?;
     }
     Ok(works)
 }
@@ -86,7 +196,8 @@ fn publish<W: Work>(
 }
 
 // The tasks that read the topic read it to its end, and then one transaction commits what they made.
-fn drain_topic<H: Hash128, V: Work, W: Work>(
+fn drain_topic<H: Hash128 + Sync, R: Threads + Sync, V: Work + Sync, W: Work + Sync>(
+    rt: &R,
     alloc: Global,
     topology: &Topology,
     work: &V,
@@ -101,7 +212,7 @@ fn drain_topic<H: Hash128, V: Work, W: Work>(
     requires resting { AreResting W.plan cluster.old publisher.old (draft_of topology.now) topic tasks.old.items }
     ensures { OnOk result (AreResting W.plan cluster.new publisher.new (draft_of topology.now) (topic + 1) tasks.new.items × Extends cluster.old cluster.new) }
 {
-    let works = read_tasks::<H, V, W>(alloc, topology, work, cluster, tasks, topic)?;
+    let works = read_tasks::<H, R, V, W>(rt, alloc, topology, work, cluster, tasks, topic)?;
     publish(
         alloc,
         topology,
@@ -110,7 +221,8 @@ fn drain_topic<H: Hash128, V: Work, W: Work>(
         tasks,
         works.as_slice(),
         topic,
-    )
+    )?;
+    drop_all(rt, works)
 }
 
 fn fresh_tasks(alloc: Global, topology: &Topology) -> Result<Vec<Task>, AllocError>
@@ -126,7 +238,8 @@ fn fresh_tasks(alloc: Global, topology: &Topology) -> Result<Vec<Task>, AllocErr
 }
 
 // Topic by topic, in the drain order.
-fn drain_all<H: Hash128, V: Work, W: Work>(
+fn drain_all<H: Hash128 + Sync, R: Threads + Sync, V: Work + Sync, W: Work + Sync>(
+    rt: &R,
     alloc: Global,
     topology: &Topology,
     work: &V,
@@ -142,7 +255,7 @@ fn drain_all<H: Hash128, V: Work, W: Work>(
 {
     let order = topology.drain_order();
     for i in 0..order.len() {
-        drain_topic::<H, V, W>(alloc, topology, work, cluster, publisher, tasks, order[i])?;
+        drain_topic::<H, R, V, W>(rt, alloc, topology, work, cluster, publisher, tasks, order[i])?;
     }
     Ok(())
 }
@@ -167,7 +280,8 @@ fn begin<W: Work>(
 
 /// Brings to rest a cluster of a topology in which nothing but records of its inputs stand, at a worker of its own, 16: topic by
 /// topic, in the drain order, the tasks that read it read it to its end, and then one transaction commits what they made.
-pub fn drain<H: Hash128, W: Work>(
+pub fn drain<H: Hash128 + Sync, R: Threads + Sync, W: Work + Sync>(
+    rt: &R,
     alloc: Global,
     topology: &Topology,
     cluster: &mut Cluster<W>,
@@ -180,6 +294,8 @@ pub fn drain<H: Hash128, W: Work>(
 {
     let _nodes = topology.nodes();
     let (mut publisher, mut tasks) = begin(alloc, topology, cluster)?;
+    share_topology();
     let work: TaskWork<'_, H> = TaskWork::new(topology);
-    drain_all::<H, TaskWork<'_, H>, W>(alloc, topology, &work, cluster, &mut publisher, &mut tasks)
+    drain_all::<H, R, TaskWork<'_, H>, W>(rt, alloc, topology, &work, cluster, &mut publisher, &mut tasks)?;
+    drop_all(rt, tasks)
 }
