@@ -1,5 +1,5 @@
 -- Tasks that read a topic side by side, and are put back in their order.
-use Rattle.std.proofs.Common.{◌≡◌, ℕ, zero, suc, ◌+◌, ◌<◌, true, List, [], ◌∷◌, ◌++◌, length, get_or, map, refl, sym, ap, subst, ◌∙◌, arith, append-nil, append_assoc, Option, Ok, IfOk}
+use Rattle.std.proofs.Common.{◌≡◌, ℕ, zero, suc, ◌+◌, true, List, [], ◌∷◌, ◌++◌, length, get_or, refl, sym, ap, subst, ◌∙◌, arith, append-nil, append_assoc, Option, Ok, IfOk}
 use Rattle.std.specs.Prelude.{option_map}
 use Rattle.std.proofs.Math.ListN.{set}
 use Rattle.std.proofs.Math.Seq.{get_or-append_seam, set-append_seam}
@@ -45,10 +45,10 @@ one_put draft setup journal topic ts new left rest x f fs gs once p next got pus
     by (o ∷ old) r tried =
         let read : IsRead draft setup journal topic o.task x.task (option_map work_view f) = subst (λ y. IfOk y (λ u. IsRead draft setup journal topic o.task x.task (option_map work_view u))) got (tried.each 0 x (omega arith)) in
         let more : AreReading draft setup journal topic (length ts + 1) (set (ts ++ o.task ∷ tasks_in old) (length ts) x.task) (with_work fs (option_map work_view f)) =
-            one_task_more draft setup journal topic (length ts) (ts ++ o.task ∷ tasks_in old) fs o.task x.task (option_map work_view f) once r (omega (arith, length-append ts (o.task ∷ tasks_in old))) (sym (get_or-append_seam ts o.task (tasks_in old) o.task)) read in
+        one_task_more draft setup journal topic (length ts) (ts ++ o.task ∷ tasks_in old) fs o.task x.task (option_map work_view f) once r (omega (arith, length-append ts (o.task ∷ tasks_in old))) (sym (get_or-append_seam ts o.task (tasks_in old) o.task)) read in
         let place : length ts + 1 ≡ length new = sym (ap length pushed ∙ length-append ts (x.task ∷ [])) in
         let all : set (ts ++ o.task ∷ tasks_in old) (length ts) x.task ≡ new ++ tasks_in old =
-            set-append_seam ts o.task (tasks_in old) x.task ∙ sym (ap (λ (l : List Task). l ++ tasks_in old) pushed ∙ append_assoc ts (x.task ∷ []) (tasks_in old)) in
+        set-append_seam ts o.task (tasks_in old) x.task ∙ sym (ap (λ (l : List Task). l ++ tasks_in old) pushed ∙ append_assoc ts (x.task ∷ []) (tasks_in old)) in
         record {
           old = old;
           reading = subst (λ (l : List WorkView). AreReading draft setup journal topic (length new) (new ++ tasks_in old) l) (sym kept)

@@ -27,11 +27,10 @@ use ks_hash::Hash128;
 use ks_task::{Task, TaskWork};
 use ks_topo::{Op, Topology};
 use std::alloc::{AllocError, Global};
-use std::mem;
-use std::thread;
 use std::thread::Threads;
+use std::{mem, thread};
 
-// The most threads that read a topic.
+// The most threads that read a topic side by side.
 const THREADS: usize = 64;
 
 // A task, and what came of its reading: the work that it then has, if it has one.
@@ -41,11 +40,10 @@ struct Attempt {
     work: Result<Option<Frozen>, AllocError>,
 }
 
-// A type that threads may share.
+// That threads may share values of a type, as a fact. A topology's is put together from those of what it holds.
 fn shared<T: Sync>()
     ensures { IsSync T.row }
-{
-}
+{}
 
 fn share_op()
     ensures { IsSync op.the_row }
@@ -59,7 +57,6 @@ fn share_node()
     share_op();
 }
 
-// Threads may share a topology.
 fn share_topology()
     ensures { IsSync built.the_row }
 {
@@ -116,7 +113,7 @@ fn read_own<H: Hash128, V: Work, W: Work>(
     attempt.work = read_task::<H, W>(alloc, topology, cluster, inputs, &mut attempt.task, topic);
 }
 
-// Each task that reads the topic reads it to its end, side by side.
+// All of the tasks, side by side.
 fn read_each<H: Hash128 + Sync, R: Threads + Sync, V: Work + Sync, W: Work + Sync>(
     rt: &R,
     alloc: Global,
@@ -255,7 +252,9 @@ fn drain_all<H: Hash128 + Sync, R: Threads + Sync, V: Work + Sync, W: Work + Syn
 {
     let order = topology.drain_order();
     for i in 0..order.len() {
-        drain_topic::<H, R, V, W>(rt, alloc, topology, work, cluster, publisher, tasks, order[i])?;
+        drain_topic::<H, R, V, W>(
+            rt, alloc, topology, work, cluster, publisher, tasks, order[i],
+        )?;
     }
     Ok(())
 }
@@ -296,6 +295,14 @@ pub fn drain<H: Hash128 + Sync, R: Threads + Sync, W: Work + Sync>(
     let (mut publisher, mut tasks) = begin(alloc, topology, cluster)?;
     share_topology();
     let work: TaskWork<'_, H> = TaskWork::new(topology);
-    drain_all::<H, R, TaskWork<'_, H>, W>(rt, alloc, topology, &work, cluster, &mut publisher, &mut tasks)?;
+    drain_all::<H, R, TaskWork<'_, H>, W>(
+        rt,
+        alloc,
+        topology,
+        &work,
+        cluster,
+        &mut publisher,
+        &mut tasks,
+    )?;
     drop_all(rt, tasks)
 }

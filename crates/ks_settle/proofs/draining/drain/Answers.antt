@@ -9,6 +9,6 @@ pub begin-requires-clause-may : goal.begin-requires-clause-may
 begin-requires-clause-may g c = subst MayDrain (sym c.requires.setup) (may_drain g.H.Hash128.hash_of (draft_of c.args.topology.now) c.nodes-nodes.ensures.well_formed c.requires.built)
 
 pub drain_all-requires-clause-may : goal.drain_all-requires-clause-may
-drain_all-requires-clause-may g c =
+drain_all-requires-clause-may g c κs within =
     subst MayDrain (sym (same_setup g.W.Work.plan c.args.cluster.now c.begin.new.cluster c.in_ok-publisher.ensures.1 ∙ c.requires.setup))
     (may_drain g.H.Hash128.hash_of (draft_of c.args.topology.now) c.nodes-nodes.ensures.well_formed c.requires.built)

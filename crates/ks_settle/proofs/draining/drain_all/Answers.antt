@@ -6,7 +6,7 @@ use Rattle.ks_settle.proofs.Ordering.{resting_at, draining_on, settled_last}
 use Rattle.ks_settle.proofs.draining.drain_all.Goals as goal
 
 pub drain_topic-requires-clause-resting : goal.drain_topic-requires-clause-resting
-drain_topic-requires-clause-resting g c =
+drain_topic-requires-clause-resting g c κs within =
     resting_at g.W.Work.plan (rules_of g.H.Hash128.hash_of) (draft_of c.args.topology.now) c.args.cluster.now c.requires.setup c.loop-i.cluster c.loop-i.publisher c.loop-i.i (slice_index c.drain_order-order.result.now c.loop-i.i)
     c.drain_order-order.result.now c.loop-i.tasks.items c.loop-i.invariant c.drain_order-order.ensures c.loop-i-test.true refl
 

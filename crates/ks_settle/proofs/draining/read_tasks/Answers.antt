@@ -2,7 +2,7 @@ use Rattle.std.proofs.Common.{◌∙◌, ap, arith}
 use Rattle.ks_topo.specs.Topologies.{draft_of}
 use Rattle.ks_cluster.specs.Kept.{setup_of}
 use Rattle.ks_commit.specs.Committed.{works_of}
-use Rattle.ks_settle.proofs.Beside.{all_rest, none_put, one_put, all_put}
+use Rattle.ks_settle.proofs.Beside.{all_rest, one_put, all_put}
 use Rattle.ks_settle.proofs.draining.read_tasks.Goals as goal
 
 pub read_each-requires-clause-rests : goal.read_each-requires-clause-rests
