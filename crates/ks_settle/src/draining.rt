@@ -57,7 +57,8 @@ fn share_node()
     share_op();
 }
 
-fn share_topology()
+/// Threads may share a topology, as a fact for the calls that follow; does nothing.
+pub fn share_topology()
     ensures { IsSync built.the_row }
 {
     share_node();
