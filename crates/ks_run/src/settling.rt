@@ -22,7 +22,7 @@ use ks_hash::Hash128;
 use ks_history::Journal;
 use ks_job::JobItem;
 use ks_query::Table;
-use ks_settle::{drain, tables};
+use ks_settle::{drain, share_topology, tables};
 use ks_task::TaskWork;
 use ks_topo::{Draft, Topology};
 use std::alloc::{AllocError, Global};
@@ -120,6 +120,7 @@ pub fn settle_job<H: Hash128 + Send + Sync, R: Threads + Sync>(
     let Ok(topology) = Topology::build(alloc, draft)? else {
         unreachable!()
     };
+    share_topology();
     let work = TaskWork::<H>::new(&topology);
     settle::<H, R, TaskWork<H>>(rt, alloc, &topology, work, records)
 }

@@ -8,5 +8,5 @@ mod rows;
 mod shown;
 mod telling;
 
-pub use draining::drain;
+pub use draining::{drain, share_topology};
 pub use shown::tables;

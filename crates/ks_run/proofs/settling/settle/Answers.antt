@@ -29,15 +29,15 @@ produce_all-requires-clause-records g c =
     (ap (λ k. g.W.Work.plan k.work) c.in_ok-cluster.ensures ∙ c.requires.work) c.requires.records
 
 pub drain-requires-clause-setup : goal.drain-requires-clause-setup
-drain-requires-clause-setup g c =
+drain-requires-clause-setup g c κs within =
     let d = draft_of c.args.topology.now in
     let counts = c.in_ok-counts.ensures ∙ (ap (map (λ (i : TopicInfo). i.parts)) c.topics.ensures ∙ shown_counts d) in
     produced_setup g.W.Work.plan c.in_ok-cluster.cluster c.produce_all.new.cluster _ c.in_ok-produce_all.ensures
     ∙ (ap (λ k. kept.setup_of g.W.Work.plan k) c.in_ok-cluster.ensures
     ∙ setup_is g.H.Hash128.hash_of d (g.W.Work.plan c.args.work) c.in_ok-kept.kept.items c.in_ok-tasks.tasks.items c.requires.work (c.in_ok-kept.ensures.items ∙ (c.as_slice.ensures.value ∙ counts)) (c.in_ok-tasks.ensures.items ∙ c.tasks.ensures))
 
-pub tables-requires : goal.tables-requires
-tables-requires g c =
+pub tables-requires-clause-counts : goal.tables-requires-clause-counts
+tables-requires-clause-counts g c κs within =
     let d = draft_of c.args.topology.now in
     let counts = c.in_ok-counts.ensures ∙ (ap (map (λ (i : TopicInfo). i.parts)) c.topics.ensures ∙ shown_counts d) in
     ap (λ k. k.counts) c.in_ok-drain.ensures.more.same ∙ (c.in_ok-produce_all.ensures.counts ∙ (ap (λ k. k.counts) c.in_ok-cluster.ensures ∙ (c.in_ok-kept.ensures.items ∙ (c.as_slice.ensures.value ∙ counts))))
