@@ -1,5 +1,5 @@
 -- What is answered to a job's topology and records is answered to the job.
-use Rattle.std.proofs.Common.{◌≡◌, ℕ, List, [], ◌∷◌, Option, Some, None, sym, ap, subst, ◌∙◌}
+use Rattle.std.proofs.Common.{◌≡◌, ℕ, List, [], ◌∷◌, Some, sym, ap, subst}
 use Rattle.std.specs.Option.{unwrap_or}
 use Rattle.ks_plan.specs.Drafts.{DraftView}
 use Rattle.ks_machine.specs.Messages.{Rules}
