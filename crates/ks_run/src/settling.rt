@@ -35,17 +35,6 @@ pub struct Settled {
     pub journal: Journal,
 }
 
-// The text of tables, which are let go.
-fn print_and_drop<R: Threads + Sync>(
-    rt: &R,
-    alloc: Global,
-    tables: Vec<Table>,
-) -> Result<Vec<u8>, AllocError>
-    ensures { IfOk result (λ v. v.items ≡ settled_text tables.items) }
-{
-    print_settled(rt, alloc, &tables)
-}
-
 // The text of a run's tables and its journal, made side by side.
 fn end_run<R: Threads + Sync, W: Work + Send>(
     rt: &R,
@@ -59,7 +48,7 @@ fn end_run<R: Threads + Sync, W: Work + Send>(
 {
     let (text, journal) = join(
         rt,
-        move || print_and_drop(rt, alloc, tables),
+        move || print_settled(rt, alloc, tables),
         move || cluster.into_journal_wide(rt),
     );
     let text = text?;
@@ -105,7 +94,7 @@ fn split_job(items: Vec<JobItem>) -> Option<(Draft, Vec<JobItem>)>
     }
 }
 
-/// The run of a job that was read to its end.
+/// The run of a job that was read to its end. Want of memory is the one error.
 pub fn settle_job<H: Hash128 + Send + Sync, R: Threads + Sync>(
     rt: &R,
     alloc: Global,
