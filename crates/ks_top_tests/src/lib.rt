@@ -8,6 +8,8 @@ mod jobs;
 #[cfg(test)]
 mod kinds;
 #[cfg(test)]
+mod many;
+#[cfg(test)]
 mod rows;
 #[cfg(test)]
 mod runs;
