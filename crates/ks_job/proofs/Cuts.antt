@@ -1,12 +1,11 @@
 -- The first line end of a list of bytes, and the machine up to it.
-use Rattle.std.proofs.Common.{◌≡◌, ℕ, zero, suc, ◌+◌, ◌-◌, ◌<◌, ◌≤◌, List, [], ◌∷◌, ◌++◌, length, take, drop, refl, arith, rules, ap, Bool, true, false, ◌∙◌, sym, cond, slice_index, add-one, get_or, append_assoc, append-nil}
+use Rattle.std.proofs.Common.{◌≡◌, ℕ, zero, suc, ◌+◌, ◌-◌, ◌<◌, ◌≤◌, List, [], ◌∷◌, ◌++◌, length, take, drop, refl, arith, rules, ap, Bool, true, false, ◌∙◌, sym, cond, add-one, get_or, append_assoc, append-nil}
 use Rattle.std.specs.Prelude.{nat_le}
 use Rattle.std.proofs.Math.Dec.{leb-suc-suc}
 use Rattle.std.proofs.lemmas.Bool.{le-leb, lt-leb, leb-true, leb-false}
 use Rattle.std.specs.Prelude.{Option, Some, None, ◌==◌, option_map, Result, Ok, Err}
 use Rattle.std.proofs.lemmas.List.{take_rest, length-append}
 use Rattle.std.specs.Str.{IsUtf8}
-use Rattle.std.specs.Str.Lossy.{utf8_valid_len}
 use Rattle.std.proofs.lemmas.Str.{utf8_valid_len-IsUtf8}
 use Rattle.serde_json.specs.Data.{Data}
 use Rattle.serde_json.specs.Read.{read}
@@ -15,7 +14,7 @@ use Rattle.ks_job.specs.declared.judge.JobItem.{JobItem}
 use Rattle.ks_job.specs.Items.{ItemView, item_view, item_views}
 use Rattle.std.proofs.lemmas.List.{map-append}
 use Rattle.ks_job.specs.Lines.{Spot, judged, parsed, too_long}
-use Rattle.ks_job.specs.Reader.{Reader, Reading, Faulty, Machine, is_line_end, is_full, longer, after, after_byte, after_line, with_item}
+use Rattle.ks_job.specs.Reader.{Reader, Reading, Faulty, Machine, is_line_end, is_full, longer, after, after_byte, after_line}
 use Rattle.ks_job.specs.Cut.{cut_line, room, ended, kept}
 
 equal_true : (m n : ℕ) → m ≡ n → (m == n) ≡ true

@@ -2,3 +2,4 @@ pub mod Cuts
 pub mod Whole
 pub mod Ends
 pub mod Joined
+pub mod Crossed

@@ -1,13 +1,13 @@
 -- The machine over bytes is the judgement of lines.
-use Rattle.std.proofs.Common.{◌≡◌, ℕ, zero, suc, ◌+◌, ◌<◌, ◌≤◌, List, [], ◌∷◌, ◌++◌, length, refl, arith, ap, sym, ◌∙◌, Bool, true, false, cond}
-use Rattle.std.specs.Prelude.{Option, None, Result, Ok, Err, codes, min, nat_lt}
+use Rattle.std.proofs.Common.{◌≡◌, ℕ, ◌+◌, ◌<◌, ◌≤◌, List, [], ◌∷◌, ◌++◌, length, refl, arith, ap, sym, ◌∙◌, Bool, true, false, cond}
+use Rattle.std.specs.Prelude.{Option, Result, Ok, Err, codes, min}
 use Rattle.std.proofs.lemmas.List.{length-append}
 use Rattle.std.proofs.lemmas.Bool.{le-leb, lt-leb, leb-true, leb-false}
 use Rattle.ks_line.specs.declared.fault.JobKind.{JobKind}
 use Rattle.ks_line.specs.declared.fault.JobKind.TheVariants.{TooMany, LineTooLong}
 use Rattle.ks_job.specs.Items.{ItemView}
-use Rattle.ks_job.specs.Lines.{Spot, judged, passes, is_too_long, too_long, is_blank, next_line, data_line}
-use Rattle.ks_job.specs.Reader.{Reader, Reading, Faulty, Machine, is_line_end, is_full, longer, after, after_line, with_item, so_far}
+use Rattle.ks_job.specs.Lines.{Spot, judged, passes, is_too_long, too_long}
+use Rattle.ks_job.specs.Reader.{Reading, Faulty, Machine, is_line_end, is_full, longer, after, after_line, with_item, so_far}
 use Rattle.ks_job.specs.ByLines.{onto_lines, lines_from, judge_lines, and_lines, begun_line, first_spot, by_lines}
 use Rattle.ks_job.proofs.Cuts.{on_line, with_reader, stopped, after_faulty}
 

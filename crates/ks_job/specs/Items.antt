@@ -2,7 +2,6 @@
 use Rattle.std.specs.Prelude.{ℕ, List, map}
 use Rattle.ks_row.specs.declared.record.Rec.{Rec}
 use Rattle.ks_plan.specs.Drafts.{DraftView, draft_view}
-use Rattle.ks_line.specs.declared.record.Input.{Input}
 use Rattle.ks_job.specs.declared.judge.JobItem.{JobItem}
 use Rattle.ks_job.specs.declared.judge.JobItem.TheVariants as items
 
@@ -17,10 +16,3 @@ item_view (items.Input topic rec) = RecordTo topic rec
 
 abbrev pub item_views : List JobItem → List ItemView
 item_views is = map item_view is
-
--- the same of records alone
-abbrev pub input_view : Input → ItemView
-input_view i = RecordTo i.topic i.rec
-
-abbrev pub input_views : List Input → List ItemView
-input_views is = map input_view is

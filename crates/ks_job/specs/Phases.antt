@@ -1,11 +1,10 @@
 -- A reader as it stands.
 use Rattle.std.specs.Prelude.{◌≡◌, ℕ, List, Option, Some, None, Result, Ok, Err, ⊤}
-use Rattle.ks_line.specs.declared.record.Input.{Input}
 use Rattle.ks_job.specs.declared.judge.JobItem.{JobItem}
 use Rattle.ks_job.specs.declared.reader.JobFault.{JobFault}
 use Rattle.ks_job.specs.declared.reader.Phase.{Phase}
 use Rattle.ks_job.specs.declared.reader.Phase.TheVariants as phases
-use Rattle.ks_job.specs.Items.{item_views, input_views}
+use Rattle.ks_job.specs.Items.{item_views}
 use Rattle.ks_job.specs.Lines.{spot}
 use Rattle.ks_job.specs.Reader.{Reader, Reading, Faulty, Machine, after}
 
@@ -15,10 +14,6 @@ reader_of (phases.Faulty f) = Faulty f.line f.kind
 
 abbrev pub machine : Phase → List JobItem → Machine
 machine p items = record { reader = reader_of p; items = item_views items }
-
--- the same where all items are records
-abbrev pub machine_ahead : Phase → List Input → Machine
-machine_ahead p inputs = record { reader = reader_of p; items = input_views inputs }
 
 -- the reader and the items are those after the piece
 abbrev pub Fed : Option Reader → Option Reader → List JobItem → List JobItem → List ℕ → Type 0

@@ -1,5 +1,5 @@
 -- A job's reader over the bytes of an input, one after another.
-use Rattle.std.specs.Prelude.{◌≡◌, ℕ, ◌==◌, List, [], ◌∷◌, ◌++◌, length, Bool, Option, Some, None, option_map, Result, Ok, Err, nat_le, if◌then◌else◌}
+use Rattle.std.specs.Prelude.{ℕ, ◌==◌, List, [], ◌∷◌, ◌++◌, length, Bool, Option, Some, None, Result, Ok, Err, nat_le, if◌then◌else◌}
 use Rattle.ks_line.specs.declared.fault.JobKind.{JobKind}
 use Rattle.ks_line.specs.declared.fault.JobKind.TheVariants.{NoTopology}
 use Rattle.ks_job.specs.Items.{ItemView}

@@ -6,7 +6,6 @@ mod judge;
 mod place;
 mod places;
 mod reader;
-mod records;
 mod wide;
 
 pub use judge::JobItem;

@@ -6,7 +6,7 @@ use crate::place::Place;
 use ks_row::{Name, Seq};
 use std::alloc::{AllocError, Global};
 
-/// A copy of these names.
+/// A copy of these names. `Err` only where memory ran out.
 pub fn copy_topics(alloc: Global, topics: &Seq<Name>) -> Result<Seq<Name>, AllocError>
     ensures { IfOk result (λ s. s ≡ topics.now) }
 {
@@ -19,7 +19,7 @@ pub fn copy_topics(alloc: Global, topics: &Seq<Name>) -> Result<Seq<Name>, Alloc
     Ok(Seq::of(copies))
 }
 
-/// A copy of the place.
+/// A copy of the place. `Err` only where memory ran out.
 pub fn copy_place(alloc: Global, place: &Place) -> Result<Place, AllocError>
     ensures { IfOk result (λ p. spot p ≡ spot place.now) }
 {

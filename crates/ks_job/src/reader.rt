@@ -139,7 +139,7 @@ fn feed_reading(
     keep_rest(alloc, place, begun, rest)
 }
 
-/// What comes after these bytes.
+/// What comes after these bytes. `Err` only where memory ran out.
 #[tactic(auto, using(crate::proofs::Cuts::after_faulty))]
 pub fn feed_phase(
     alloc: Global,
@@ -257,7 +257,8 @@ impl JobReader {
         answer(&last)
     }
 
-    /// Takes the next piece, and pushes the items of the lines that are whole now.
+    /// Takes the next piece, and pushes the items of the lines that are whole now. `Err` only where memory ran out, at this call or
+    /// at an earlier one: the reader then reads no more. A faulty line is the inner `Err`.
     pub fn feed(
         &mut self,
         piece: &[u8],
@@ -277,7 +278,7 @@ impl JobReader {
         Ok(answer)
     }
 
-    /// Takes the next piece as `feed` does; a long one is read by several threads.
+    /// Takes the next piece as `feed` does, and fails as it does; a long one is read by several threads.
     pub fn feed_wide<R: Threads + Sync>(
         &mut self,
         rt: &R,

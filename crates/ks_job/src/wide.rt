@@ -2,16 +2,16 @@
 //! from the place at which the first ends if each of its lines is a record. Where the first ends elsewhere, the second is read
 //! again from there.
 ghost use Rattle.std.specs.Prelude.{◌≡◌, ◌≤◌, ◌++◌, [], IfOk, IfSome, length, true};
+ghost use Rattle.std.specs.Thread.{IsSend, IsSync};
 ghost use Rattle.ks_job.specs.Lines.{spot};
 ghost use Rattle.ks_job.specs.Reader.{Reading, after};
-ghost use Rattle.ks_job.specs.Phases.{reader_of, machine, machine_ahead};
+ghost use Rattle.ks_job.specs.Phases.{reader_of, machine};
+ghost use Rattle.ks_job.specs.contracts.wide.Part as part;
 
 use crate::judge::{JobItem, MOST_BYTES};
 use crate::place::Place;
 use crate::places::{copy_place, copy_topics, is_same_place};
 use crate::reader::{Phase, feed_phase, line_end};
-use crate::records::{put_records, records_of};
-use ks_line::Input;
 use std::alloc::{AllocError, Global};
 use std::thread::{Threads, join};
 
@@ -23,13 +23,6 @@ const SHORTEST: usize = 65_536;
 struct Part {
     phase: Phase,
     items: Vec<JobItem>,
-}
-
-/// What comes of a piece that was read in another thread, where all items are records.
-#[derive(Drop)]
-struct Ahead {
-    phase: Phase,
-    inputs: Vec<Input>,
 }
 
 /// A piece in two parts, the place at which the second may begin, and a reader that stands there.
@@ -136,57 +129,49 @@ fn read_part(alloc: Global, phase: Phase, piece: &[u8]) -> Result<Part, AllocErr
     Ok(Part { phase, items })
 }
 
-// What a part gives, where all items are records.
-fn look_ahead(alloc: Global, part: Part) -> Result<Option<Ahead>, AllocError>
-    ensures { IfOk result (λ o. IfSome o (λ a. machine_ahead a.phase a.inputs.items ≡ machine part.phase part.items.items)) }
-{
-    let Part { phase, items } = part;
-    match records_of(alloc, items)? {
-        Some(inputs) => Ok(Some(Ahead { phase, inputs })),
-        None => Ok(None),
-    }
-}
-
 // What comes of both parts: the second, `back`, was read from this place.
 fn join_parts(
     alloc: Global,
     first: Part,
     place: &Place,
-    second: Option<Ahead>,
+    second: Part,
     back: &[u8],
 ) -> Result<Part, AllocError>
-    requires { IfSome second (λ a. machine_ahead a.phase a.inputs.items ≡ after (record { reader = Reading (spot place.now) []; items = [] }) back.now) }
+    requires { machine second.phase second.items.items ≡ after (record { reader = Reading (spot place.now) []; items = [] }) back.now }
     ensures { IfOk result (λ p. machine p.phase p.items.items ≡ after (machine first.phase first.items.items) back.now) }
 {
     let Part { phase, mut items } = first;
-    if let Some(ahead) = second {
-        if is_at(&phase, place) {
-            put_records(&mut items, ahead.inputs)?;
-            return Ok(Part {
-                phase: ahead.phase,
-                items,
-            });
-        }
+    if is_at(&phase, place) {
+        let Part {
+            phase,
+            items: mut more,
+        } = second;
+        items.append(&mut more)?;
+        return Ok(Part { phase, items });
     }
     let phase = feed_phase(alloc, phase, back, &mut items)?;
     Ok(Part { phase, items })
 }
 
-fn part_ahead(alloc: Global, phase: Phase, piece: &[u8]) -> Result<Option<Ahead>, AllocError>
-    ensures { IfOk result (λ o. IfSome o (λ a. machine_ahead a.phase a.inputs.items ≡ after (machine phase []) piece.now)) }
-{
-    look_ahead(alloc, read_part(alloc, phase, piece)?)
-}
+// A part may come back from another thread, as a fact for the call that follows; does nothing.
+#[tactic(auto, using(crate::proofs::Crossed::part_send))]
+fn send_part()
+    ensures { IsSend part.the_row }
+{}
 
-// Reads by two threads.
-fn read_halves<R: Threads + Sync>(
+// Cuts the piece in two so many times, as long as it is long enough, and reads each part in a thread of its own.
+fn read_wide<R: Threads + Sync>(
     rt: &R,
     alloc: Global,
     phase: Phase,
     piece: &[u8],
+    halvings: u32,
 ) -> Result<Part, AllocError>
     ensures { IfOk result (λ p. machine p.phase p.items.items ≡ after (machine phase []) piece.now) }
 {
+    if halvings == 0 {
+        return read_part(alloc, phase, piece);
+    }
     let Some(halves) = cut_piece(alloc, &phase, piece)? else {
         return read_part(alloc, phase, piece);
     };
@@ -196,52 +181,24 @@ fn read_halves<R: Threads + Sync>(
         place,
         start,
     } = halves;
+    let fewer = halvings - 1;
+    send_part();
     let (second, first) = join(
         rt,
-        move || part_ahead(alloc, start, back),
-        move || read_part(alloc, phase, front),
+        move || -> Result<Part, AllocError>
+            requires { IsSync R.row }
+            ensures { IfOk result (λ p. machine p.phase p.items.items ≡ after (machine start []) back.entry.now) }
+        { read_wide(rt, alloc, start, back, fewer) },
+        move || -> Result<Part, AllocError>
+            requires { IsSync R.row }
+            ensures { IfOk result (λ p. machine p.phase p.items.items ≡ after (machine phase []) front.entry.now) }
+        { read_wide(rt, alloc, phase, front, fewer) },
     );
     join_parts(alloc, first?, &place, second?, back)
 }
 
-fn halves_ahead<R: Threads + Sync>(
-    rt: &R,
-    alloc: Global,
-    phase: Phase,
-    piece: &[u8],
-) -> Result<Option<Ahead>, AllocError>
-    ensures { IfOk result (λ o. IfSome o (λ a. machine_ahead a.phase a.inputs.items ≡ after (machine phase []) piece.now)) }
-{
-    look_ahead(alloc, read_halves(rt, alloc, phase, piece)?)
-}
-
-// Reads by four threads.
-fn read_quarters<R: Threads + Sync>(
-    rt: &R,
-    alloc: Global,
-    phase: Phase,
-    piece: &[u8],
-) -> Result<Part, AllocError>
-    ensures { IfOk result (λ p. machine p.phase p.items.items ≡ after (machine phase []) piece.now) }
-{
-    let Some(halves) = cut_piece(alloc, &phase, piece)? else {
-        return read_part(alloc, phase, piece);
-    };
-    let Halves {
-        front,
-        back,
-        place,
-        start,
-    } = halves;
-    let (second, first) = join(
-        rt,
-        move || halves_ahead(rt, alloc, start, back),
-        move || read_halves(rt, alloc, phase, front),
-    );
-    join_parts(alloc, first?, &place, second?, back)
-}
-
-/// What comes after these bytes: the line that has begun is ended first, and the rest is read by at most four threads.
+/// What comes after these bytes: the line that has begun is ended first, and the rest is read by at most four threads. `Err` only
+/// where memory ran out.
 pub fn feed_by_threads<R: Threads + Sync>(
     rt: &R,
     alloc: Global,
@@ -256,7 +213,7 @@ pub fn feed_by_threads<R: Threads + Sync>(
     let Part {
         phase,
         items: mut more,
-    } = read_quarters(rt, alloc, begun, back)?;
+    } = read_wide(rt, alloc, begun, back, 2)?;
     items.append(&mut more)?;
     Ok(phase)
 }

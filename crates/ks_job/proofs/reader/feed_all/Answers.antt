@@ -1,10 +1,10 @@
-use Rattle.std.proofs.Common.{◌≡◌, ℕ, ◌+◌, ◌-◌, ◌<◌, ◌≤◌, List, [], ◌∷◌, ◌++◌, length, take, drop, get_or, refl, arith, rules, ap, sym, ◌∙◌}
+use Rattle.std.proofs.Common.{◌≡◌, ℕ, ◌-◌, ◌≤◌, List, [], ◌∷◌, ◌++◌, length, take, drop, get_or, refl, arith, sym, ◌∙◌}
 use Rattle.std.specs.Prelude.{Option, Some, None}
 use Rattle.std.specs.List.{flat_map}
-use Rattle.std.proofs.lemmas.List.{take_rest, take_all}
+use Rattle.std.proofs.lemmas.List.{take_rest}
 use Rattle.ks_job.specs.declared.judge.JobItem.{JobItem}
 use Rattle.ks_job.specs.Items.{item_views}
-use Rattle.ks_job.specs.Reader.{Reader, Machine, after}
+use Rattle.ks_job.specs.Reader.{Reader}
 use Rattle.ks_job.specs.Phases.{Fed}
 use Rattle.ks_job.proofs.Cuts.{after_both}
 use Rattle.ks_job.proofs.reader.feed_all.Invariants.{SameEnd}

@@ -3,8 +3,7 @@ use Rattle.std.specs.Prelude.{Option, Some, None}
 use Rattle.std.specs.List.{flat_map}
 use Rattle.ks_job.specs.declared.judge.JobItem.{JobItem}
 use Rattle.ks_job.specs.Items.{item_views}
-use Rattle.ks_job.specs.Reader.{Reader, Machine, after}
-use Rattle.ks_job.specs.Phases.{Fed}
+use Rattle.ks_job.specs.Reader.{Reader, after}
 use Rattle.ks_job.proofs.reader.feed_all.Given as goal
 
 -- what is left leads where all leads

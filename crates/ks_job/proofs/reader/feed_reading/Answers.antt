@@ -1,4 +1,3 @@
-use Rattle.std.proofs.Common.{◌≡◌}
 use Rattle.std.proofs.lemmas.Result.{IfOk-weaker}
 use Rattle.ks_job.specs.Items.{item_views}
 use Rattle.ks_job.specs.Lines.{spot}
