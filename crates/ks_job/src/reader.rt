@@ -13,6 +13,7 @@ use crate::judge::{JobItem, judge_line, too_long};
 use crate::place::Place;
 use crate::wide::feed_by_threads;
 use ks_line::{JobKind, ReadError};
+use memchr::memchr;
 use std::alloc::{AllocError, Global};
 use std::marker::Model;
 use std::thread::Threads;
@@ -39,16 +40,11 @@ pub fn line_end(bytes: &[u8]) -> usize
     ensures before { (k : ℕ) → k < result → is_line_end (slice_index bytes.now k) ≡ false }
     ensures at { result < length bytes.now → is_line_end (slice_index bytes.now result) ≡ true }
 {
-    for i in 0..bytes.len() {
-        if bytes[i] == b'\n' {
-            return i;
-        }
-    }
-    bytes.len()
+    memchr(b'\n', bytes).unwrap_or(bytes.len())
 }
 
 /// The bytes before the first line end, and those after it.
-fn split_line(bytes: &[u8]) -> Option<(&[u8], &[u8])>
+pub fn split_line(bytes: &[u8]) -> Option<(&[u8], &[u8])>
     ensures cut { option_map (λ p. (p.0.now, p.1.now)) result ≡ cut_line bytes.now }
     ensures shorter { IfSome result (λ p. length p.1.now < length bytes.now) }
 {
@@ -257,6 +253,18 @@ impl JobReader {
         answer(&last)
     }
 
+    // Stands at this phase, and answers by it; stays at none where there is no memory for the answer.
+    fn stand_at(&mut self, next: Phase) -> Result<Result<(), JobFault>, AllocError>
+        requires { self.old ≡ None }
+        ensures at { OnOk result (self.new ≡ Some (reader_of next)) }
+        ensures answer { IfOk result (λ r. Answers r (reader_of next)) }
+        ensures err { OnErr result (self.new ≡ None) }
+    {
+        let verdict = answer(&next)?;
+        self.phase = Some(next);
+        Ok(verdict)
+    }
+
     /// Takes the next piece, and pushes the items of the lines that are whole now. `Err` only where memory ran out, at this call or
     /// at an earlier one: the reader then reads no more. A faulty line is the inner `Err`.
     pub fn feed(
@@ -273,9 +281,7 @@ impl JobReader {
             return Err(AllocError);
         };
         let next = feed_phase(self.alloc, phase, piece, items)?;
-        let answer = answer(&next)?;
-        self.phase = Some(next);
-        Ok(answer)
+        self.stand_at(next)
     }
 
     /// Takes the next piece as `feed` does, and fails as it does; a long one is read by several threads.
@@ -294,9 +300,7 @@ impl JobReader {
             return Err(AllocError);
         };
         let next = feed_by_threads(rt, self.alloc, phase, piece, items)?;
-        let verdict = answer(&next)?;
-        self.phase = Some(next);
-        Ok(verdict)
+        self.stand_at(next)
     }
 }
 

@@ -11,7 +11,7 @@ ghost use Rattle.ks_job.specs.contracts.wide.Part as part;
 use crate::judge::{JobItem, MOST_BYTES};
 use crate::place::Place;
 use crate::places::{copy_place, copy_topics, is_same_place};
-use crate::reader::{Phase, feed_phase, line_end};
+use crate::reader::{Phase, feed_phase, line_end, split_line};
 use std::alloc::{AllocError, Global};
 use std::thread::{Threads, join};
 
@@ -39,10 +39,10 @@ fn count_lines(bytes: &[u8]) -> usize
     ensures { result ≤ length bytes.now }
 {
     let mut count = 0;
-    for byte in bytes {
-        if *byte == b'\n' {
-            count += 1;
-        }
+    let mut rest = bytes;
+    while let Some((_, next)) = split_line(rest) {
+        count += 1;
+        rest = next;
     }
     count
 }

@@ -1,5 +1,8 @@
-use Rattle.std.proofs.Common.{◌≤◌}
+use Rattle.std.proofs.Common.{◌≤◌, ◌+◌, length}
 use Rattle.ks_job.proofs.wide.count_lines.Given as goal
 
-abbrev pub invariant-loop-byte : goal.invariant-loop-byte
-invariant-loop-byte l = l.count ≤ l.byte-index
+abbrev pub invariant-loop-next : goal.invariant-loop-next
+invariant-loop-next l = l.count + length l.rest ≤ length l.bytes
+
+abbrev pub decreases-loop-next : goal.decreases-loop-next
+decreases-loop-next l = length l.rest
