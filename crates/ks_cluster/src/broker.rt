@@ -52,10 +52,8 @@ impl Broker {
         ensures ok { IfOk result (λ n. Moves self.old self.new (Produce part rec) (Number n)) }
         ensures err { OnErr result (self.new ≡ self.old) }
     {
-        let end = self.log.part(part).end();
-        let more = one_slot(alloc, Slot::Plain { rec })?;
-        self.log.append(alloc, part, more)?;
-        Ok(end)
+        let offset = self.log.append_plain(alloc, part, rec)?;
+        Ok(offset)
     }
 
     pub fn init(&mut self, alloc: Global, w: u8) -> Result<u64, AllocError>
@@ -104,11 +102,11 @@ impl Broker {
         number: u64,
         task: TaskId,
         part: PartId,
-        recs: &[Rec],
+        recs: Vec<Rec>,
     ) -> Result<Result<u64, Refused>, AllocError>
         requires worker { w ≤ 16 }
         requires count { length self.old.producers.items ≡ 17 }
-        ensures ok { IfOk result (λ r. Moves self.old self.new (Append w epoch number task part recs.now) (number_or r)) }
+        ensures ok { IfOk result (λ r. Moves self.old self.new (Append w epoch number task part recs.items) (number_or r)) }
         ensures err { OnErr result (self.new ≡ self.old) }
     {
         let p = &self.producers[w as usize];

@@ -11,14 +11,13 @@ ghost use Rattle.ks_cluster.specs.Replies.{done_or, number_or, truth_or};
 ghost use Rattle.ks_history.specs.Count.{records_in};
 ghost use Rattle.ks_cluster.specs.Kept.{Kept, setup_of, setup_from, state_of, Answers, Refuses};
 
-use crate::append::copies;
 use crate::broker::Broker;
 use crate::producers::{new_pending, pending_count};
 use crate::replies::{done, numbered, told};
 use crate::work::Work;
 use ks_group::{copy_assignment, copy_held};
 use ks_history::{Entry, Journal, Reply, Request};
-use ks_log::{copy, ends_in, next_in};
+use ks_log::{copies, copy, ends_in, next_in};
 use ks_row::{Assignment, PartId, Rec, Refused, Seq, TaskId};
 use std::alloc::{AllocError, Global};
 use std::marker::Model;
@@ -75,22 +74,23 @@ impl<W: Work> Cluster<W> {
         ensures ok { IfOk result (λ n. Answers W.plan self.old self.new (Produce part rec.now) (Number n)) }
         ensures err { OnErr result (self.new ≡ self.old) }
     {
-        self.produce_owned(alloc, part, copy(rec)?)
+        self.produce_owned(alloc, part, copy(rec)?, copy(rec)?)
     }
 
-    /// Puts a record itself into a partition of an input topic, and answers its offset; the journal keeps a copy. After want
-    /// of memory the record is gone.
+    /// Puts a record itself into a partition of an input topic, and answers its offset; the journal keeps the copy of it that is
+    /// handed over. After want of memory both are gone.
     pub fn produce_owned(
         &mut self,
         alloc: Global,
         part: PartId,
         rec: Rec,
+        kept: Rec,
     ) -> Result<u64, AllocError>
-        requires { Meets (setup_of W.plan self.old) (state_of W.plan self.old) (Produce part rec) }
+        requires meets { Meets (setup_of W.plan self.old) (state_of W.plan self.old) (Produce part rec) }
+        requires same { kept ≡ rec }
         ensures ok { IfOk result (λ n. Answers W.plan self.old self.new (Produce part rec) (Number n)) }
         ensures err { OnErr result (self.new ≡ self.old) }
     {
-        let kept = copy(&rec)?;
         self.journal.reserve(1)?;
         let offset = self.broker.produce(alloc, part, rec)?;
         self.journal.push_reserved(Entry {
@@ -137,7 +137,7 @@ impl<W: Work> Cluster<W> {
         Ok(outcome)
     }
 
-    /// Appends records of a task to a partition of the producer's transaction, and answers the first offset. Refused:
+    /// Appends copies of records of a task to a partition of the producer's transaction, and answers the first offset. Refused:
     /// Fenced, NoTransaction, OutOfSequence.
     pub fn append(
         &mut self,
@@ -153,7 +153,29 @@ impl<W: Work> Cluster<W> {
         ensures ok { IfOk result (λ r. Answers W.plan self.old self.new (Append w epoch number task part recs.now) (number_or r)) }
         ensures err { OnErr result (self.new ≡ self.old) }
     {
+        let own = copies(alloc, recs)?;
         let kept = copies(alloc, recs)?;
+        self.append_owned(alloc, w, epoch, number, task, part, own, kept)
+    }
+
+    /// Appends records of a task themselves, and answers as `append` does; the journal keeps the copies of them that are handed
+    /// over. After want of memory both are gone.
+    pub fn append_owned(
+        &mut self,
+        alloc: Global,
+        w: u8,
+        epoch: u64,
+        number: u64,
+        task: TaskId,
+        part: PartId,
+        recs: Vec<Rec>,
+        kept: Vec<Rec>,
+    ) -> Result<Result<u64, Refused>, AllocError>
+        requires meets { Meets (setup_of W.plan self.old) (state_of W.plan self.old) (Append w epoch number task part recs.items) }
+        requires same { kept.items ≡ recs.items }
+        ensures ok { IfOk result (λ r. Answers W.plan self.old self.new (Append w epoch number task part recs.items) (number_or r)) }
+        ensures err { OnErr result (self.new ≡ self.old) }
+    {
         self.journal.reserve(1)?;
         let outcome = self
             .broker

@@ -1,7 +1,6 @@
 //! A cluster in memory: its log, its producers and its group, under one journal that is legal and faithful.
 #![tactic(auto)]
 
-mod append;
 mod broker;
 mod cluster;
 mod producers;

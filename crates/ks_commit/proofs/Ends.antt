@@ -16,7 +16,7 @@ use Rattle.ks_history.specs.Reads.{end_of}
 use Rattle.ks_history.proofs.Names.{same_part-is}
 use Rattle.ks_replay.proofs.Slots.{Waiting}
 use Rattle.ks_follow.specs.Views.{WorkView, recs_at, names_part, is_empty, are_outputs, IsPast, AreEnds}
-use Rattle.ks_commit.specs.Committed.{EachMay, ends_in, ends_of_each, EachEnds}
+use Rattle.ks_commit.specs.Committed.{EachMay, own_in, own_of_each, ends_at, ends_of_each, EachEnds}
 
 -- each decided record stands before the end
 decided_within : (waiting : Waiting) (n at : ℕ) (slots : List Slot) → at + length slots ≤ n → below n (decided_from waiting at slots) ≡ decided_from waiting at slots
@@ -54,24 +54,24 @@ other_topic topic n part k h same = by (topic == n) h
     by true g = absurd (true≢false (sym (eq-eqb part k (sym (eqb-true k part same))) ∙ g))
     by false g = refl
 
-skips : (s : State) (t : TaskId) (topic old : ℕ) (out : PartId × List Rec) (outs : List (PartId × List Rec)) → same_part (part_of topic t) out.0 ≡ false → offset_in old topic (ends_in s t (out ∷ outs)) ≡ offset_in old topic (ends_in s t outs)
+skips : (s : State) (t : TaskId) (topic old : ℕ) (out : PartId × List Rec) (outs : List (PartId × List Rec)) → same_part (part_of topic t) out.0 ≡ false → offset_in old topic (ends_at s (own_in t (out ∷ outs))) ≡ offset_in old topic (ends_at s (own_in t outs))
 skips s t topic old out outs h = by (out.0.part == t.part) refl
   where
-    by : (b : Bool) → (out.0.part == t.part) ≡ b → offset_in old topic (cond b ((out.0.topic, end_of s out.0) ∷ ends_in s t outs) (ends_in s t outs)) ≡ offset_in old topic (ends_in s t outs)
-    by true is = ap (λ b. cond b (end_of s out.0) (offset_in old topic (ends_in s t outs))) (other_topic topic out.0.topic t.part out.0.part h is)
+    by : (b : Bool) → (out.0.part == t.part) ≡ b → offset_in old topic (ends_at s (cond b (out.0 ∷ own_in t outs) (own_in t outs))) ≡ offset_in old topic (ends_at s (own_in t outs))
+    by true is = ap (λ b. cond b (end_of s out.0) (offset_in old topic (ends_at s (own_in t outs)))) (other_topic topic out.0.topic t.part out.0.part h is)
     by false is = refl
 
-ends_named : (s : State) (t : TaskId) (topic old : ℕ) (outs : List (PartId × List Rec)) → recs_at (part_of topic t) outs ≢ [] → offset_in old topic (ends_in s t outs) ≡ end_of s (part_of topic t)
+ends_named : (s : State) (t : TaskId) (topic old : ℕ) (outs : List (PartId × List Rec)) → recs_at (part_of topic t) outs ≢ [] → offset_in old topic (ends_at s (own_in t outs)) ≡ end_of s (part_of topic t)
 ends_named s t topic old [] some = absurd (some refl)
 ends_named s t topic old (out ∷ outs) some = by (same_part (part_of topic t) out.0) refl some (λ g. ends_named s t topic old outs g)
   where
-    by : (b : Bool) → same_part (part_of topic t) out.0 ≡ b → cond b (out.1 ++ recs_at (part_of topic t) outs) (recs_at (part_of topic t) outs) ≢ [] → (recs_at (part_of topic t) outs ≢ [] → offset_in old topic (ends_in s t outs) ≡ end_of s (part_of topic t))
-        → offset_in old topic (ends_in s t (out ∷ outs)) ≡ end_of s (part_of topic t)
+    by : (b : Bool) → same_part (part_of topic t) out.0 ≡ b → cond b (out.1 ++ recs_at (part_of topic t) outs) (recs_at (part_of topic t) outs) ≢ [] → (recs_at (part_of topic t) outs ≢ [] → offset_in old topic (ends_at s (own_in t outs)) ≡ end_of s (part_of topic t))
+        → offset_in old topic (ends_at s (own_in t (out ∷ outs))) ≡ end_of s (part_of topic t)
     by true is h more =
         let both : ((topic == out.0.topic) ≡ true) × ((t.part == out.0.part) ≡ true) = and_parts (topic == out.0.topic) (t.part == out.0.part) is in
         let here : (out.0.part == t.part) ≡ true = eq-eqb out.0.part t.part (sym (eqb-true t.part out.0.part both.1)) in
-        ap (λ b. offset_in old topic (cond b ((out.0.topic, end_of s out.0) ∷ ends_in s t outs) (ends_in s t outs))) here
-        ∙ ap (λ b. cond b (end_of s out.0) (offset_in old topic (ends_in s t outs))) both.0
+        ap (λ b. offset_in old topic (ends_at s (cond b (out.0 ∷ own_in t outs) (own_in t outs)))) here
+        ∙ ap (λ b. cond b (end_of s out.0) (offset_in old topic (ends_at s (own_in t outs)))) both.0
         ∙ ap (end_of s) (sym (same_part-is (part_of topic t) out.0 is))
     by false is h more = skips s t topic old out outs is ∙ more h
 
@@ -86,20 +86,20 @@ outputs_parts out outs h = by (names_part out.0 outs) h
     by true g = absurd (true≢false (sym g))
     by false g = and_parts (not (is_empty out.1)) (are_outputs outs) g
 
-ends_others : (s : State) (t : TaskId) (topic old : ℕ) (outs : List (PartId × List Rec)) → are_outputs outs ≡ true → recs_at (part_of topic t) outs ≡ [] → offset_in old topic (ends_in s t outs) ≡ old
+ends_others : (s : State) (t : TaskId) (topic old : ℕ) (outs : List (PartId × List Rec)) → are_outputs outs ≡ true → recs_at (part_of topic t) outs ≡ [] → offset_in old topic (ends_at s (own_in t outs)) ≡ old
 ends_others s t topic old [] are none = refl
 ends_others s t topic old (out ∷ outs) are none = by (same_part (part_of topic t) out.0) refl none (λ g. ends_others s t topic old outs (outputs_parts out outs are).1 g)
   where
-    by : (b : Bool) → same_part (part_of topic t) out.0 ≡ b → cond b (out.1 ++ recs_at (part_of topic t) outs) (recs_at (part_of topic t) outs) ≡ [] → (recs_at (part_of topic t) outs ≡ [] → offset_in old topic (ends_in s t outs) ≡ old) → offset_in old topic (ends_in s t (out ∷ outs)) ≡ old
+    by : (b : Bool) → same_part (part_of topic t) out.0 ≡ b → cond b (out.1 ++ recs_at (part_of topic t) outs) (recs_at (part_of topic t) outs) ≡ [] → (recs_at (part_of topic t) outs ≡ [] → offset_in old topic (ends_at s (own_in t outs)) ≡ old) → offset_in old topic (ends_at s (own_in t (out ∷ outs))) ≡ old
     by true is h more = absurd (not_empty out.1 (outputs_parts out outs are).0 (recs_at (part_of topic t) outs) h)
     by false is h more = skips s t topic old out outs is ∙ more h
 
-are_ends : (setup : Setup) (s : State) (f : WorkView) → ((q : PartId) → stable (s.partition q) ≡ end_of s q) → are_outputs f.outputs ≡ true → AreEnds setup s f (ends_in s f.task f.outputs)
+are_ends : (setup : Setup) (s : State) (f : WorkView) → ((q : PartId) → stable (s.partition q) ≡ end_of s q) → are_outputs f.outputs ≡ true → AreEnds setup s f (ends_at s (own_in f.task f.outputs))
 are_ends setup s f whole once = record {
   named = λ topic old h some. subst (IsPast s (part_of topic f.task)) (sym (ends_named s f.task topic old f.outputs some)) (end_past s (part_of topic f.task) (whole (part_of topic f.task)));
   others = λ topic old h none. ends_others s f.task topic old f.outputs once none;
 }
 
-pub each_ends : (setup : Setup) (before s : State) (fs : List WorkView) → ((q : PartId) → stable (s.partition q) ≡ end_of s q) → EachMay setup before fs → EachEnds setup s fs (ends_of_each s fs)
+pub each_ends : (setup : Setup) (before s : State) (fs : List WorkView) → ((q : PartId) → stable (s.partition q) ≡ end_of s q) → EachMay setup before fs → EachEnds setup s fs (ends_of_each s (own_of_each fs))
 each_ends setup before s [] whole may = tt
 each_ends setup before s (f ∷ fs) whole may = (are_ends setup s f whole may.0.work.once, each_ends setup before s fs whole may.1)

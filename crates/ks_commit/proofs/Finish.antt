@@ -1,6 +1,7 @@
 -- A commit of several works, from begin to end.
-use Rattle.std.proofs.Common.{◌≡◌, ◌≢◌, ℕ, ◌+◌, Bool, true, false, cond, ◌||◌, List, [], ◌∷◌, ◌++◌, length, Option, Some, None, refl, sym, ap, ap₂, subst, ◌∙◌, arith, append-nil}
+use Rattle.std.proofs.Common.{◌≡◌, ◌≢◌, ℕ, zero, suc, ◌+◌, ◌<◌, Bool, true, false, cond, ◌||◌, List, [], ◌∷◌, ◌++◌, length, get_or, Option, Some, None, refl, sym, ap, ap₂, subst, ◌∙◌, arith, append-nil}
 use Rattle.std.specs.Prelude.{◌==◌}
+use Rattle.std.specs.List.{All}
 use Rattle.std.proofs.lemmas.Bool.{eqb-true, true≢false}
 use Rattle.ks_row.specs.declared.record.Rec.{Rec}
 use Rattle.ks_row.specs.declared.record.PartId.{PartId}
@@ -15,7 +16,7 @@ use Rattle.ks_history.specs.declared.transaction.Producer.{Producer}
 use Rattle.ks_history.specs.declared.transaction.Transaction.{Transaction}
 use Rattle.ks_history.specs.Partition.{count_sent}
 use Rattle.ks_history.specs.Machine.{Plan, IsNetwork}
-use Rattle.ks_history.specs.State.{State, Setup, has_part, has_task, pending_of, offset_in, committed_with}
+use Rattle.ks_history.specs.State.{State, Setup, IsPart, has_part, has_task, pending_of, offset_in, committed_with}
 use Rattle.ks_history.specs.Step.{refusal, effect, fenced, none_undecided, tx_of, no_tx, pending_at, owner}
 use Rattle.ks_history.specs.Faithful.{IsFaithful}
 use Rattle.ks_history.specs.History.{IsHistory, CommitsFaithfully}
@@ -28,7 +29,7 @@ use Rattle.ks_follow.specs.Commits.{commit_by}
 use Rattle.ks_commit.specs.declared.publisher.Publisher.{Publisher}
 use Rattle.ks_commit.specs.Alone.{IsIdle}
 use Rattle.ks_commit.specs.Sending.{put_count, Sends, Marked, adds_in, puts_in, adds_of, puts_of, pendings_of}
-use Rattle.ks_commit.specs.Committed.{IsReady, IsSame, IsSending, EachMay, EachOf, EachPlaced, AreApart, names_in, ends_of_each, EachEnds, Committed}
+use Rattle.ks_commit.specs.Committed.{IsReady, IsSame, IsSending, EachMay, EachOf, EachPlaced, AreApart, names_in, own_in, own_of_each, ends_of_each, EachEnds, Committed}
 use Rattle.ks_commit.proofs.Slots.{is_stable}
 use Rattle.ks_commit.proofs.Gaining.{has_part-append, put_count-append}
 use Rattle.ks_commit.proofs.Free.{none_then, not_fenced, has_tx, can_decide}
@@ -72,10 +73,24 @@ no_slots : (xs : List Slot) → length xs ≡ 0 → xs ≡ []
 no_slots [] h = refl
 no_slots (x ∷ xs) h = absurd (omega (arith, h))
 
--- the partitions of each work are the cluster's
-pub each_placed : (setup : Setup) (s : State) (fs : List WorkView) → EachMay setup s fs → EachPlaced setup fs
+-- a task's own partitions are the cluster's, if those of its outputs are
+own_placed : (setup : Setup) (t : TaskId) (outs : List (PartId × List Rec)) → All (λ (out : PartId × List Rec). IsPart setup out.0) outs → All (IsPart setup) (own_in t outs)
+own_placed setup t [] each = λ k d lt. absurd (omega (arith, lt))
+own_placed setup t (out ∷ outs) each = by (out.0.part == t.part) (own_placed setup t outs (λ k d lt. each (suc k) d (omega (arith, lt))))
+  where
+    by : (b : Bool) → All (IsPart setup) (own_in t outs) → All (IsPart setup) (cond b (out.0 ∷ own_in t outs) (own_in t outs))
+    by true more zero d lt = each 0 out (omega arith)
+    by true more (suc k) d lt = more k d (omega (arith, lt))
+    by false more k d lt = more k d lt
+
+pub each_placed : (setup : Setup) (s : State) (fs : List WorkView) → EachMay setup s fs → EachPlaced setup (own_of_each fs)
 each_placed setup s [] may = tt
-each_placed setup s (f ∷ fs) may = (may.0.parts, each_placed setup s fs may.1)
+each_placed setup s (f ∷ fs) may = (own_placed setup f.task f.outputs may.0.parts, each_placed setup s fs may.1)
+
+pub placed_at : (setup : Setup) (all : List (List PartId)) (i : ℕ) (own parts : List PartId) → EachPlaced setup all → i < length all → own ≡ get_or all i own → parts ≡ own → All (IsPart setup) parts
+placed_at setup [] i own parts each lt is same = absurd (omega (arith, lt))
+placed_at setup (x ∷ xs) zero own parts each lt is same = subst (All (IsPart setup)) (sym (same ∙ is)) each.0
+placed_at setup (x ∷ xs) (suc i) own parts each lt is same = placed_at setup xs i own parts each.1 (omega (arith, lt)) is same
 
 -- ---- the decision
 module _ {W : Type 0} (plan : W → Plan) (old sent : Kept W) (p q : Publisher) (fs : List WorkView) (net : IsNetwork (plan old.work)) (history : IsHistory (setup_of plan old) old.journal) (ready : IsReady (setup_of plan old) (state_of plan old) p)
@@ -171,7 +186,7 @@ module _ {W : Type 0} (plan : W → Plan) (old sent : Kept W) (p q : Publisher) 
         ∙ ap₂ (λ (o : Option Pending) (c : TaskId → ℕ → ℕ). elim o as (λ _. ℕ) [ None ↦ c t topic | Some x ↦ offset_in (c t topic) topic x.offsets ])
         (ap (λ w. pending_of t (pending_at ((state_of plan sent).producer w))) same.0 ∙ pending_is t) sends.gains.committed
 
-    pub all_committed : (told : List (List (ℕ × ℕ))) → told ≡ ends_of_each (state_of plan new) fs → Committed plan old new p.worker fs told
+    pub all_committed : (told : List (List (ℕ × ℕ))) → told ≡ ends_of_each (state_of plan new) (own_of_each fs) → Committed plan old new p.worker fs told
     all_committed told is =
         let entry : List Entry = record { request = Decide q.worker q.epoch true; reply = reply } ∷ [] in
         record {

@@ -5,6 +5,8 @@ pub mod Epochs
 pub mod Faith
 pub mod Marking
 pub mod Entries
+pub mod Turns
+pub mod Doubles
 pub mod Puts
 pub mod Written
 pub mod Starts

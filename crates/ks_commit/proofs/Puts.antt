@@ -1,10 +1,8 @@
 -- What a publisher sends, call by call.
-use Rattle.std.proofs.Common.{◌≡◌, ℕ, zero, suc, ◌+◌, ◌≤◌, ◌<◌, Bool, true, false, cond, ◌&&◌, ◌||◌, List, [], ◌∷◌, ◌++◌, length, take, get_or, Option, Some, None, refl, sym, ap, ap₂, subst, ◌∙◌, arith, append-nil, append_assoc, length-append, ⊎_elim, leb}
+use Rattle.std.proofs.Common.{◌≡◌, ℕ, ◌+◌, ◌≤◌, ◌<◌, Bool, true, false, cond, ◌&&◌, ◌||◌, List, [], ◌∷◌, ◌++◌, length, Option, Some, None, refl, sym, ap, ap₂, subst, ◌∙◌, arith, append-nil, append_assoc, length-append, ⊎_elim, leb}
 use Rattle.std.specs.Prelude.{◌==◌, nat_le}
-use Rattle.std.specs.List.{All}
 use Rattle.std.proofs.lemmas.Bool.{and_parts, and_from, le-leb, true≢false}
 use Rattle.std.proofs.lemmas.Bool.Decides.{leb_tells}
-use Rattle.std.proofs.lemmas.List.{take_more}
 use Rattle.ks_row.specs.declared.record.Rec.{Rec}
 use Rattle.ks_row.specs.declared.record.PartId.{PartId}
 use Rattle.ks_row.specs.declared.record.TaskId.{TaskId}
@@ -16,20 +14,18 @@ use Rattle.ks_history.specs.declared.transaction.Pending.{Pending}
 use Rattle.ks_history.specs.declared.transaction.Producer.{Producer}
 use Rattle.ks_history.specs.Partition.{count_sent}
 use Rattle.ks_history.specs.Machine.{Plan, has_topic, part_of}
-use Rattle.ks_history.specs.State.{State, Setup, IsPart, has_part, has_task}
+use Rattle.ks_history.specs.State.{State, Setup, has_part, has_task}
 use Rattle.ks_history.specs.Step.{refusal, fenced, markers_waiting, without_part, out_of_sequence, old_generation, not_assigned, unstable_beside, or_else, tx_of}
 use Rattle.ks_history.specs.History.{are_offsets, names_topic}
 use Rattle.ks_history.specs.Reads.{end_of}
 use Rattle.ks_history.proofs.Names.{same_part-is, same_part-refl}
 use Rattle.ks_cluster.specs.Kept.{Kept, setup_of, state_of, Answers}
 use Rattle.ks_follow.specs.Views.{WorkView, pending_work}
-use Rattle.ks_commit.specs.declared.work.Frozen.{Frozen}
 use Rattle.ks_commit.specs.declared.publisher.Publisher.{Publisher}
-use Rattle.ks_commit.specs.Work.{work_view}
 use Rattle.ks_commit.specs.Alone.{number_in, IsNumbered}
 use Rattle.ks_commit.specs.Numbers.{without, renumber}
 use Rattle.ks_commit.specs.Sending.{Put, are_sent, put_count, Gains, Sends, adds_in, puts_in, adds_of, puts_of, pendings_of}
-use Rattle.ks_commit.specs.Committed.{IsSending, IsOfCluster, EachOf, EachPlaced, works_of}
+use Rattle.ks_commit.specs.Committed.{IsSending, IsOfCluster}
 use Rattle.ks_commit.proofs.Slots.{sent_count, count_append, count_few}
 use Rattle.ks_commit.proofs.Gaining.{add_gains, append_gains, offsets_gains}
 use Rattle.ks_commit.proofs.Free.{none_then, not_fenced, none_wait, has_its_part, in_sequence, now_generation, is_assigned, stable_beside}
@@ -159,24 +155,14 @@ puts_in-append : (t : TaskId) (xs ys : List (PartId × List Rec)) → puts_in t 
 puts_in-append t [] ys = refl
 puts_in-append t (x ∷ xs) ys = ap (λ l. (t, x.0, x.1) ∷ l) (puts_in-append t xs ys)
 
-front_more : {A : Type 0} (xs : List A) (i : ℕ) (x : A) → i < length xs → x ≡ get_or xs i x → take (i + 1) xs ≡ take i xs ++ x ∷ []
-front_more xs i x lt is = take_more xs i x lt ∙ ap (λ y. take i xs ++ y ∷ []) (sym is)
-
-pub outs_more : {W : Type 0} (plan : W → Plan) (old mid new : Kept W) (w : ℕ) (t : TaskId) (outs : List (PartId × List Rec)) (i : ℕ) (x : PartId × List Rec) → i < length outs → x ≡ get_or outs i x
-    → Sends plan old mid w (adds_in (take i outs)) (puts_in t (take i outs)) [] → Sends plan mid new w (x.0 ∷ []) ((t, x.0, x.1) ∷ []) [] → Sends plan old new w (adds_in (take (i + 1) outs)) (puts_in t (take (i + 1) outs)) []
-outs_more plan old mid new w t outs i x lt is a b =
-    let next : take (i + 1) outs ≡ take i outs ++ x ∷ [] = front_more outs i x lt is in
-    let adds : adds_in (take (i + 1) outs) ≡ adds_in (take i outs) ++ x.0 ∷ [] = ap adds_in next ∙ adds_in-append (take i outs) (x ∷ []) in
-    let puts : puts_in t (take (i + 1) outs) ≡ puts_in t (take i outs) ++ (t, x.0, x.1) ∷ [] = ap (puts_in t) next ∙ puts_in-append t (take i outs) (x ∷ []) in
-    subst (λ (l : List PartId). Sends plan old new w l (puts_in t (take (i + 1) outs)) []) (sym adds)
-    (subst (λ (l : List Put). Sends plan old new w (adds_in (take i outs) ++ x.0 ∷ []) l []) (sym puts)
-    (sends_both plan old mid new w (adds_in (take i outs)) (x.0 ∷ []) (puts_in t (take i outs)) ((t, x.0, x.1) ∷ []) [] [] a b))
+pub outs_more : {W : Type 0} (plan : W → Plan) (old mid new : Kept W) (w : ℕ) (t : TaskId) (outs : List (PartId × List Rec)) (x : PartId × List Rec)
+    → Sends plan old mid w (adds_in outs) (puts_in t outs) [] → Sends plan mid new w (x.0 ∷ []) ((t, x.0, x.1) ∷ []) [] → Sends plan old new w (adds_in (outs ++ x ∷ [])) (puts_in t (outs ++ x ∷ [])) []
+outs_more plan old mid new w t outs x a b =
+    subst (λ (l : List PartId). Sends plan old new w l (puts_in t (outs ++ x ∷ [])) []) (sym (adds_in-append outs (x ∷ [])))
+    (subst (λ (l : List Put). Sends plan old new w (adds_in outs ++ x.0 ∷ []) l []) (sym (puts_in-append t outs (x ∷ [])))
+    (sends_both plan old mid new w (adds_in outs) (x.0 ∷ []) (puts_in t outs) ((t, x.0, x.1) ∷ []) [] [] a b))
 
 -- ---- works
-works_of-append : (xs ys : List Frozen) → works_of (xs ++ ys) ≡ works_of xs ++ works_of ys
-works_of-append [] ys = refl
-works_of-append (x ∷ xs) ys = ap (λ l. work_view x ∷ l) (works_of-append xs ys)
-
 adds_of-append : (xs ys : List WorkView) → adds_of (xs ++ ys) ≡ adds_of xs ++ adds_of ys
 adds_of-append [] ys = refl
 adds_of-append (x ∷ xs) ys = ap (λ l. adds_in x.outputs ++ l) (adds_of-append xs ys) ∙ sym (append_assoc (adds_in x.outputs) (adds_of xs) (adds_of ys))
@@ -189,27 +175,18 @@ pendings_of-append : (xs ys : List WorkView) → pendings_of (xs ++ ys) ≡ pend
 pendings_of-append [] ys = refl
 pendings_of-append (x ∷ xs) ys = ap (λ l. pending_work x ∷ l) (pendings_of-append xs ys)
 
-pub works_more : {W : Type 0} (plan : W → Plan) (old mid new : Kept W) (w : ℕ) (works : List Frozen) (i : ℕ) (x : Frozen) → i < length works → x ≡ get_or works i x
-    → Sends plan old mid w (adds_of (works_of (take i works))) (puts_of (works_of (take i works))) (pendings_of (works_of (take i works)))
-    → Sends plan mid new w (adds_in x.outputs) (puts_in x.task x.outputs) (pending_work (work_view x) ∷ [])
-    → Sends plan old new w (adds_of (works_of (take (i + 1) works))) (puts_of (works_of (take (i + 1) works))) (pendings_of (works_of (take (i + 1) works)))
-works_more plan old mid new w works i x lt is a b =
-    let before = works_of (take i works) in
-    let next : works_of (take (i + 1) works) ≡ before ++ work_view x ∷ [] = ap works_of (front_more works i x lt is) ∙ works_of-append (take i works) (x ∷ []) in
-    let adds : adds_of before ++ adds_in x.outputs ≡ adds_of (before ++ work_view x ∷ []) = sym (adds_of-append before (work_view x ∷ []) ∙ ap (λ l. adds_of before ++ l) (append-nil (adds_in x.outputs))) in
-    let puts : puts_of before ++ puts_in x.task x.outputs ≡ puts_of (before ++ work_view x ∷ []) = sym (puts_of-append before (work_view x ∷ []) ∙ ap (λ l. puts_of before ++ l) (append-nil (puts_in x.task x.outputs))) in
-    let ps : pendings_of before ++ pending_work (work_view x) ∷ [] ≡ pendings_of (before ++ work_view x ∷ []) = sym (pendings_of-append before (work_view x ∷ [])) in
-    subst (λ (fs : List WorkView). Sends plan old new w (adds_of fs) (puts_of fs) (pendings_of fs)) (sym next)
-    (subst (λ (l : List PartId). Sends plan old new w l (puts_of (before ++ work_view x ∷ [])) (pendings_of (before ++ work_view x ∷ []))) adds
-    (subst (λ (l : List Put). Sends plan old new w (adds_of before ++ adds_in x.outputs) l (pendings_of (before ++ work_view x ∷ []))) puts
-    (subst (λ (l : List Pending). Sends plan old new w (adds_of before ++ adds_in x.outputs) (puts_of before ++ puts_in x.task x.outputs) l) ps
-    (sends_both plan old mid new w (adds_of before) (adds_in x.outputs) (puts_of before) (puts_in x.task x.outputs) (pendings_of before) (pending_work (work_view x) ∷ []) a b))))
-
--- a work is one of the cluster, also later
-pub each_at : (setup : Setup) (s : State) (works : List Frozen) (i : ℕ) (x : Frozen) → EachOf setup s (works_of works) → i < length works → x ≡ get_or works i x → IsOfCluster setup s (work_view x)
-each_at setup s [] i x each lt is = absurd (omega (arith, lt))
-each_at setup s (y ∷ ys) zero x each lt is = subst (λ k. IsOfCluster setup s (work_view k)) (sym is) each.0
-each_at setup s (y ∷ ys) (suc i) x each lt is = each_at setup s ys i x each.1 (omega (arith, lt)) is
+pub works_more : {W : Type 0} (plan : W → Plan) (old mid new : Kept W) (w : ℕ) (fs : List WorkView) (f : WorkView)
+    → Sends plan old mid w (adds_of fs) (puts_of fs) (pendings_of fs)
+    → Sends plan mid new w (adds_in f.outputs) (puts_in f.task f.outputs) (pending_work f ∷ [])
+    → Sends plan old new w (adds_of (fs ++ f ∷ [])) (puts_of (fs ++ f ∷ [])) (pendings_of (fs ++ f ∷ []))
+works_more plan old mid new w fs f a b =
+    let adds : adds_of fs ++ adds_in f.outputs ≡ adds_of (fs ++ f ∷ []) = sym (adds_of-append fs (f ∷ []) ∙ ap (λ l. adds_of fs ++ l) (append-nil (adds_in f.outputs))) in
+    let puts : puts_of fs ++ puts_in f.task f.outputs ≡ puts_of (fs ++ f ∷ []) = sym (puts_of-append fs (f ∷ []) ∙ ap (λ l. puts_of fs ++ l) (append-nil (puts_in f.task f.outputs))) in
+    let ps : pendings_of fs ++ pending_work f ∷ [] ≡ pendings_of (fs ++ f ∷ []) = sym (pendings_of-append fs (f ∷ [])) in
+    subst (λ (l : List PartId). Sends plan old new w l (puts_of (fs ++ f ∷ [])) (pendings_of (fs ++ f ∷ []))) adds
+    (subst (λ (l : List Put). Sends plan old new w (adds_of fs ++ adds_in f.outputs) l (pendings_of (fs ++ f ∷ []))) puts
+    (subst (λ (l : List Pending). Sends plan old new w (adds_of fs ++ adds_in f.outputs) (puts_of fs ++ puts_in f.task f.outputs) l) ps
+    (sends_both plan old mid new w (adds_of fs) (adds_in f.outputs) (puts_of fs) (puts_in f.task f.outputs) (pendings_of fs) (pending_work f ∷ []) a b)))
 
 le_of : (a b : ℕ) → nat_le a b ≡ true → a ≤ b
 le_of a b h = ⊎_elim (λ (t : (leb a b ≡ true) × (a ≤ b)). t.1) (λ (t : (leb a b ≡ false) × (b < a)). absurd (true≢false (sym h ∙ t.0))) (leb_tells a b)
@@ -246,8 +223,3 @@ work_sends plan old mid new w t outs p a b =
     subst (λ (l : List PartId). Sends plan old new w l (puts_in t outs) (p ∷ [])) (append-nil (adds_in outs))
     (subst (λ (l : List Put). Sends plan old new w (adds_in outs ++ []) l (p ∷ [])) (append-nil (puts_in t outs))
     (sends_both plan old mid new w (adds_in outs) [] (puts_in t outs) [] [] (p ∷ []) a b))
-
-pub placed_at : (setup : Setup) (works : List Frozen) (i : ℕ) (x : Frozen) → EachPlaced setup (works_of works) → i < length works → x ≡ get_or works i x → All (λ (out : PartId × List Rec). IsPart setup out.0) x.outputs
-placed_at setup [] i x each lt is = absurd (omega (arith, lt))
-placed_at setup (y ∷ ys) zero x each lt is = subst (λ (k : Frozen). All (λ (out : PartId × List Rec). IsPart setup out.0) k.outputs) (sym is) each.0
-placed_at setup (y ∷ ys) (suc i) x each lt is = placed_at setup ys i x each.1 (omega (arith, lt)) is

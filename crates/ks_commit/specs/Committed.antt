@@ -60,10 +60,10 @@ abbrev pub EachOf : Setup → State → List WorkView → Type 0
 EachOf setup s [] = Unit {0}
 EachOf setup s (f ∷ fs) = IsOfCluster setup s f × EachOf setup s fs
 
--- the outputs of each work are partitions of the cluster
-abbrev pub EachPlaced : Setup → List WorkView → Type 0
+-- all of these are partitions of the cluster
+abbrev pub EachPlaced : Setup → List (List PartId) → Type 0
 EachPlaced setup [] = Unit {0}
-EachPlaced setup (f ∷ fs) = All (λ out. IsPart setup out.0) f.outputs × EachPlaced setup fs
+EachPlaced setup (own ∷ all) = All (IsPart setup) own × EachPlaced setup all
 
 abbrev pub tasks_in : List WorkView → List TaskId
 tasks_in [] = []
@@ -78,10 +78,20 @@ abbrev pub names_in : PartId → List WorkView → Bool
 names_in q [] = false
 names_in q (f ∷ fs) = names_part q f.outputs || names_in q fs
 
--- the ends of a task's own partitions among its outputs
-abbrev pub ends_in : State → TaskId → List (PartId × List Rec) → List (ℕ × ℕ)
-ends_in s t [] = []
-ends_in s t (out ∷ outs) = if out.0.part == t.part then (out.0.topic, end_of s out.0) ∷ ends_in s t outs else ends_in s t outs
+-- a task's own partitions among its outputs
+abbrev pub own_in : TaskId → List (PartId × List Rec) → List PartId
+own_in t [] = []
+own_in t (out ∷ outs) = if out.0.part == t.part then out.0 ∷ own_in t outs else own_in t outs
+
+-- the own partitions of each work
+abbrev pub own_of_each : List WorkView → List (List PartId)
+own_of_each [] = []
+own_of_each (f ∷ fs) = own_in f.task f.outputs ∷ own_of_each fs
+
+-- the ends of partitions, by topic
+abbrev pub ends_at : State → List PartId → List (ℕ × ℕ)
+ends_at s [] = []
+ends_at s (q ∷ qs) = (q.topic, end_of s q) ∷ ends_at s qs
 
 abbrev pub EachEnds : Setup → State → List WorkView → List (List (ℕ × ℕ)) → Type 0
 EachEnds setup s [] [] = Unit {0}
@@ -89,10 +99,10 @@ EachEnds setup s (f ∷ fs) (ends ∷ more) = AreEnds setup s f ends × EachEnds
 EachEnds setup s [] (ends ∷ more) = false ≡ true
 EachEnds setup s (f ∷ fs) [] = false ≡ true
 
--- the ends of each work
-abbrev pub ends_of_each : State → List WorkView → List (List (ℕ × ℕ))
+-- the ends of each work's own partitions
+abbrev pub ends_of_each : State → List (List PartId) → List (List (ℕ × ℕ))
 ends_of_each s [] = []
-ends_of_each s (f ∷ fs) = ends_in s f.task f.outputs ∷ ends_of_each s fs
+ends_of_each s (own ∷ all) = ends_at s own ∷ ends_of_each s all
 
 -- one transaction committed these works
 pub record Committed {W : Type 0} (plan : W → Plan) (old new : Kept W) (w : ℕ) (fs : List WorkView) (told : List (List (ℕ × ℕ))) : Type 0 where

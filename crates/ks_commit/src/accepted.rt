@@ -29,7 +29,7 @@ pub fn add<W: Work>(
     }
 }
 
-/// Appends records of a task, and answers the first offset.
+/// Appends records of a task, with the same records for the journal, and answers the first offset.
 pub fn append<W: Work>(
     alloc: Global,
     cluster: &mut Cluster<W>,
@@ -38,14 +38,16 @@ pub fn append<W: Work>(
     number: u64,
     task: TaskId,
     part: PartId,
-    recs: &[Rec],
+    recs: Vec<Rec>,
+    kept: Vec<Rec>,
 ) -> Result<u64, AllocError>
-    requires meets { Meets (setup_of W.plan cluster.old) (state_of W.plan cluster.old) (Append w epoch number task part recs.now) }
-    requires free { refusal (setup_of W.plan cluster.old) (state_of W.plan cluster.old) (Append w epoch number task part recs.now) ≡ None }
-    ensures ok { IfOk result (λ n. Answers W.plan cluster.old cluster.new (Append w epoch number task part recs.now) (Number n)) }
+    requires meets { Meets (setup_of W.plan cluster.old) (state_of W.plan cluster.old) (Append w epoch number task part recs.items) }
+    requires free { refusal (setup_of W.plan cluster.old) (state_of W.plan cluster.old) (Append w epoch number task part recs.items) ≡ None }
+    requires same { kept.items ≡ recs.items }
+    ensures ok { IfOk result (λ n. Answers W.plan cluster.old cluster.new (Append w epoch number task part recs.items) (Number n)) }
     ensures err { OnErr result (cluster.new ≡ cluster.old) }
 {
-    match cluster.append(alloc, w, epoch, number, task, part, recs)? {
+    match cluster.append_owned(alloc, w, epoch, number, task, part, recs, kept)? {
         Ok(offset) => Ok(offset),
         Err(_) => unreachable!(),
     }

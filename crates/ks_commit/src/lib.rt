@@ -3,6 +3,7 @@
 
 mod accepted;
 mod committing;
+mod doubling;
 pub mod laws;
 mod markers;
 mod numbers;

@@ -4,43 +4,47 @@ ghost use Rattle.std.specs.List.{All};
 ghost use Rattle.ks_history.specs.State.{IsPart, has_task};
 ghost use Rattle.ks_cluster.specs.Kept.{setup_of, state_of};
 ghost use Rattle.ks_follow.specs.Views.{pending_work};
-ghost use Rattle.ks_commit.specs.Work.{work_view};
 ghost use Rattle.ks_commit.specs.Sending.{Longer, Sends, adds_in, puts_in, adds_of, puts_of, pendings_of};
-ghost use Rattle.ks_commit.specs.Committed.{IsSending, IsSame, IsOfCluster, EachOf, works_of};
+ghost use Rattle.ks_commit.specs.Committed.{IsSending, IsSame, IsOfCluster, EachOf};
 
 use crate::accepted::{add, append, send_offsets};
+use crate::doubling::{Doubled, Output};
 use crate::numbers::{number, renumbered};
 use crate::publisher::Publisher;
-use crate::work::Frozen;
 use ks_cluster::{Cluster, Work};
-use ks_row::{PartId, Rec, Seq, TaskId};
+use ks_row::{PartId, Rec, TaskId};
 use std::alloc::{AllocError, Global};
 
-/// Takes a partition into the transaction, and puts records of a task there.
+/// Takes a partition into the transaction, and puts records of a task there, with the same records for the journal.
 fn put<W: Work>(
     alloc: Global,
     cluster: &mut Cluster<W>,
     publisher: &mut Publisher,
     task: TaskId,
     part: PartId,
-    recs: &[Rec],
+    recs: Vec<Rec>,
+    kept: Vec<Rec>,
 ) -> Result<(), AllocError>
     requires sending { IsSending (setup_of W.plan cluster.old) (state_of W.plan cluster.old) publisher.old }
     requires part { IsPart (setup_of W.plan cluster.old) part }
     requires task { has_task task (setup_of W.plan cluster.old).tasks ≡ true }
-    ensures sends { OnOk result (Sends W.plan cluster.old cluster.new publisher.old.worker (part ∷ []) ((task, part, recs.now) ∷ []) []) }
+    requires twice { kept.items ≡ recs.items }
+    ensures sends { OnOk result (Sends W.plan cluster.old cluster.new publisher.old.worker (part ∷ []) ((task, part, recs.items) ∷ []) []) }
     ensures sending { OnOk result (IsSending (setup_of W.plan cluster.new) (state_of W.plan cluster.new) publisher.new) }
     ensures same { OnOk result (IsSame publisher.old publisher.new) }
     ensures err { OnErr result (Longer cluster.old cluster.new) }
 {
     let (worker, epoch) = (publisher.worker, publisher.epoch);
     let before = number(publisher.numbers.as_slice(), part);
+    let count = recs.len() as u64;
     add(alloc, cluster, worker, epoch, part)?;
-    append(alloc, cluster, worker, epoch, before, task, part, recs)?;
+    append(
+        alloc, cluster, worker, epoch, before, task, part, recs, kept,
+    )?;
     let ends = cluster.ends(alloc, &[part])?;
     // The new number fits, since it is at most the partition's end.
     let _end = ends[0];
-    let now = before + recs.len() as u64;
+    let now = before + count;
     let numbers = renumbered(alloc, publisher.numbers.as_slice(), part, now)?;
     publisher.numbers = numbers;
     Ok(())
@@ -52,18 +56,19 @@ fn put_all<W: Work>(
     cluster: &mut Cluster<W>,
     publisher: &mut Publisher,
     task: TaskId,
-    outputs: &[(PartId, Seq<Rec>)],
+    outputs: Vec<Output>,
 ) -> Result<(), AllocError>
     requires sending { IsSending (setup_of W.plan cluster.old) (state_of W.plan cluster.old) publisher.old }
-    requires parts { All (λ out. IsPart (setup_of W.plan cluster.old) out.0) outputs.now }
+    requires parts { All (λ out. IsPart (setup_of W.plan cluster.old) out.0) outputs.items }
     requires task { has_task task (setup_of W.plan cluster.old).tasks ≡ true }
-    ensures sends { OnOk result (Sends W.plan cluster.old cluster.new publisher.old.worker (adds_in outputs.now) (puts_in task outputs.now) []) }
+    ensures sends { OnOk result (Sends W.plan cluster.old cluster.new publisher.old.worker (adds_in outputs.items) (puts_in task outputs.items) []) }
     ensures sending { OnOk result (IsSending (setup_of W.plan cluster.new) (state_of W.plan cluster.new) publisher.new) }
     ensures same { OnOk result (IsSame publisher.old publisher.new) }
     ensures err { OnErr result (Longer cluster.old cluster.new) }
 {
     for out in outputs {
-        put(alloc, cluster, publisher, task, out.0, out.1.as_slice())?;
+        let (part, recs, kept) = out.into_parts();
+        put(alloc, cluster, publisher, task, part, recs, kept)?;
     }
     Ok(())
 }
@@ -73,32 +78,33 @@ fn send<W: Work>(
     alloc: Global,
     cluster: &mut Cluster<W>,
     publisher: &mut Publisher,
-    work: &Frozen,
+    work: Doubled,
 ) -> Result<(), AllocError>
     requires sending { IsSending (setup_of W.plan cluster.old) (state_of W.plan cluster.old) publisher.old }
-    requires work { IsOfCluster (setup_of W.plan cluster.old) (state_of W.plan cluster.old) (work_view work.now) }
-    ensures sends { OnOk result (Sends W.plan cluster.old cluster.new publisher.old.worker (adds_in work.now.outputs) (puts_in work.now.task work.now.outputs) (pending_work (work_view work.now) ∷ [])) }
+    requires work { IsOfCluster (setup_of W.plan cluster.old) (state_of W.plan cluster.old) work }
+    ensures sends { OnOk result (Sends W.plan cluster.old cluster.new publisher.old.worker (adds_in work.outputs) (puts_in work.task work.outputs) (pending_work work ∷ [])) }
     ensures sending { OnOk result (IsSending (setup_of W.plan cluster.new) (state_of W.plan cluster.new) publisher.new) }
     ensures same { OnOk result (IsSame publisher.old publisher.new) }
     ensures err { OnErr result (Longer cluster.old cluster.new) }
 {
-    put_all(
-        alloc,
-        cluster,
-        publisher,
-        work.task,
-        work.outputs.as_slice(),
-    )?;
+    let Doubled {
+        task,
+        outputs,
+        offsets,
+        order,
+        late,
+    } = work;
+    put_all(alloc, cluster, publisher, task, outputs)?;
     send_offsets(
         alloc,
         cluster,
         publisher.worker,
         publisher.epoch,
         publisher.generation,
-        work.task,
-        work.offsets.as_slice(),
-        work.order.as_slice(),
-        work.late,
+        task,
+        offsets.as_slice(),
+        order.as_slice(),
+        late,
     )?;
     Ok(())
 }
@@ -108,11 +114,11 @@ pub fn send_all<W: Work>(
     alloc: Global,
     cluster: &mut Cluster<W>,
     publisher: &mut Publisher,
-    works: &[Frozen],
+    works: Vec<Doubled>,
 ) -> Result<(), AllocError>
     requires sending { IsSending (setup_of W.plan cluster.old) (state_of W.plan cluster.old) publisher.old }
-    requires works { EachOf (setup_of W.plan cluster.old) (state_of W.plan cluster.old) (works_of works.now) }
-    ensures sends { OnOk result (Sends W.plan cluster.old cluster.new publisher.old.worker (adds_of (works_of works.now)) (puts_of (works_of works.now)) (pendings_of (works_of works.now))) }
+    requires works { EachOf (setup_of W.plan cluster.old) (state_of W.plan cluster.old) works.items }
+    ensures sends { OnOk result (Sends W.plan cluster.old cluster.new publisher.old.worker (adds_of works.items) (puts_of works.items) (pendings_of works.items)) }
     ensures sending { OnOk result (IsSending (setup_of W.plan cluster.new) (state_of W.plan cluster.new) publisher.new) }
     ensures same { OnOk result (IsSame publisher.old publisher.new) }
     ensures err { OnErr result (Longer cluster.old cluster.new) }

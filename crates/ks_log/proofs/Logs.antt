@@ -76,3 +76,20 @@ with_slots-new p more (written ∷ log) h =
       | true ↦ λ h. absurd (omega (arith, h))
       | false ↦ λ h. ap (λ l. written ∷ l) (with_slots-new p more log (omega (arith, h)))
     ] h
+
+-- the slots of a partition that stands there, and of one that doesn't
+pub slots_in-there : (p : PartId) (log : List Written) (d : Written) → place p log < length log → slots_in p log ≡ (get_or log (place p log) d).slots
+slots_in-there p [] d h = absurd (omega arith)
+slots_in-there p (written ∷ log) d h =
+    elim (same_part p written.part) as (λ b. cond b 0 (suc (place p log)) < suc (length log) → cond b written.slots (slots_in p log) ≡ (get_or (written ∷ log) (cond b 0 (suc (place p log))) d).slots) [
+      | true ↦ λ h. refl
+      | false ↦ λ h. slots_in-there p log d (omega (arith, h))
+    ] h
+
+pub slots_in-new : (p : PartId) (log : List Written) → length log ≤ place p log → slots_in p log ≡ []
+slots_in-new p [] h = refl
+slots_in-new p (written ∷ log) h =
+    elim (same_part p written.part) as (λ b. suc (length log) ≤ cond b 0 (suc (place p log)) → cond b written.slots (slots_in p log) ≡ []) [
+      | true ↦ λ h. absurd (omega (arith, h))
+      | false ↦ λ h. slots_in-new p log (omega (arith, h))
+    ] h

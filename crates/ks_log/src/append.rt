@@ -13,6 +13,17 @@ pub fn copy(rec: &Rec) -> Result<Rec, AllocError>
     rec.clone()
 }
 
+/// The same records again, in their order. Want of memory for the copies is the one error.
+pub fn copies(alloc: Global, recs: &[Rec]) -> Result<Vec<Rec>, AllocError>
+    ensures { IfOk result (λ made. made.items ≡ recs.now) }
+{
+    let mut made = Vec::with_capacity(alloc, recs.len())?;
+    for rec in recs {
+        made.push(copy(rec)?)?;
+    }
+    Ok(made)
+}
+
 /// One slot alone, as a list. Want of memory for the list is the one error.
 pub fn one_slot(alloc: Global, slot: Slot) -> Result<Vec<Slot>, AllocError>
     ensures { IfOk result (λ made. made.items ≡ slot ∷ []) }
@@ -23,19 +34,19 @@ pub fn one_slot(alloc: Global, slot: Slot) -> Result<Vec<Slot>, AllocError>
 }
 
 /// The slots of records that a producer appends in an epoch for a task: one for each record, in their order, numbered on
-/// from `number`. Each record is copied. Want of memory is the one error, which comes also where a record would have the
-/// number 2^64 - 1.
+/// from `number`. Want of memory is the one error, which comes also where a record would have the number 2^64 - 1; the records
+/// are then gone.
 pub fn sent(
     alloc: Global,
     w: u8,
     epoch: u64,
     number: u64,
     task: TaskId,
-    recs: &[Rec],
+    recs: Vec<Rec>,
 ) -> Result<Vec<Slot>, AllocError>
-    ensures { IfOk result (λ made. made.items ≡ sent_slots w epoch number task recs.now) }
+    ensures { IfOk result (λ made. made.items ≡ sent_slots w epoch number task recs.items) }
 {
-    let mut made = Vec::new(alloc);
+    let mut made = Vec::with_capacity(alloc, recs.len())?;
     let mut next = number;
     for rec in recs {
         made.push(Slot::Sent {
@@ -43,7 +54,7 @@ pub fn sent(
             epoch,
             number: next,
             task,
-            rec: copy(rec)?,
+            rec,
         })?;
         if next == u64::MAX {
             return Err(AllocError);

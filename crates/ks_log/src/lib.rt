@@ -9,7 +9,7 @@ mod marks;
 mod part;
 mod reading;
 
-pub use append::{copy, one_slot, sent};
+pub use append::{copies, copy, one_slot, sent};
 pub use log::{Log, Written};
 pub use part::Part;
 pub use reading::{ends_in, next_in};

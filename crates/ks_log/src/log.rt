@@ -1,10 +1,11 @@
 //! The log: the partitions that were written to, each beside its name.
-ghost use Rattle.std.specs.Prelude.{◌≡◌, ◌<◌, ◌^◌, ◌++◌, [], length, OnOk, OnErr};
+ghost use Rattle.std.specs.Prelude.{◌≡◌, ◌<◌, ◌^◌, ◌++◌, ◌∷◌, [], length, IfOk, OnOk, OnErr};
+ghost use Rattle.ks_history.specs.declared.partition.Slot.TheVariants.{Plain};
 ghost use Rattle.ks_log.specs.Written.{slots_in, total, place, with_slots};
 
 use crate::part::Part;
 use ks_history::Slot;
-use ks_row::PartId;
+use ks_row::{PartId, Rec};
 use std::alloc::{AllocError, Global};
 use std::marker::Model;
 use std::thread;
@@ -81,6 +82,29 @@ fn grow(
     Ok(())
 }
 
+/// One plain record more at the end of a partition; its offset.
+fn grow_plain(
+    parts: &mut Vec<Written>,
+    alloc: Global,
+    part: PartId,
+    rec: Rec,
+) -> Result<u64, AllocError>
+    ensures at { IfOk result (λ at. at ≡ length (slots_in part parts.old.items)) }
+    ensures ok { OnOk result (parts.new.items ≡ with_slots part (Plain rec ∷ []) parts.old.items) }
+    ensures err { OnErr result (parts.new.items ≡ parts.old.items) }
+{
+    let at = place_of(parts.as_slice(), part);
+    if at < parts.len() {
+        let written = &mut parts[at];
+        let end = written.slots.append_plain(rec)?;
+        return Ok(end);
+    }
+    let mut slots = Part::new(alloc);
+    let end = slots.append_plain(rec)?;
+    parts.push(Written { part, slots })?;
+    Ok(end)
+}
+
 impl Log {
     /// A log without a slot.
     pub fn new(alloc: Global) -> Log
@@ -130,5 +154,21 @@ impl Log {
         grow(&mut self.parts, alloc, part, more)?;
         self.count += count;
         Ok(())
+    }
+
+    /// Puts a plain record at the end of one partition, and answers its offset. Want of memory is the one error, after which
+    /// the log is as before and the record is gone; it comes also where the log would have 2^48 slots or more.
+    pub fn append_plain(&mut self, alloc: Global, part: PartId, rec: Rec) -> Result<u64, AllocError>
+        ensures at { IfOk result (λ at. at ≡ length (slots_in part self.old)) }
+        ensures ok { OnOk result (self.new ≡ with_slots part (Plain rec ∷ []) self.old) }
+        ensures few { OnOk result (total self.new < 2 ^ 48) }
+        ensures err { OnErr result (self.new ≡ self.old) }
+    {
+        if self.count >= LIMIT - 1 {
+            return Err(AllocError);
+        }
+        let at = grow_plain(&mut self.parts, alloc, part, rec)?;
+        self.count += 1;
+        Ok(at)
     }
 }

@@ -1,5 +1,6 @@
 //! One partition: its slots, and beside them what readers and appends need of them.
-ghost use Rattle.std.specs.Prelude.{◌≡◌, ◌≤◌, ◌++◌, [], length, drop, take, vec_capacity, IfOk, OnOk, OnErr};
+ghost use Rattle.std.specs.Prelude.{◌≡◌, ◌≤◌, ◌++◌, ◌∷◌, [], length, drop, take, vec_capacity, IfOk, OnOk, OnErr};
+ghost use Rattle.ks_history.specs.declared.partition.Slot.TheVariants.{Plain};
 ghost use Rattle.ks_history.specs.Partition.{stable, count_sent};
 ghost use Rattle.ks_log.specs.Index.{shown_in, marks_in};
 ghost use Rattle.ks_log.specs.Reading.{readable_pairs, decided_pairs, at_or_past, waiting_in};
@@ -57,6 +58,20 @@ fn show_more(slots: &[Slot], marks: &[Marked], passed: usize, shown: &mut Vec<bo
         passed += mark_count(slot);
     }
     passed
+}
+
+/// More slots behind these; where there are none yet, the new ones are taken as they are.
+fn put_behind(slots: &mut Vec<Slot>, more: Vec<Slot>) -> Result<(), AllocError>
+    ensures ok { OnOk result (slots.new.items ≡ slots.old.items ++ more.items) }
+    ensures err { OnErr result (slots.new.items ≡ slots.old.items) }
+{
+    let mut more = more;
+    if slots.is_empty() {
+        *slots = more;
+        return Ok(());
+    }
+    slots.append(&mut more)?;
+    Ok(())
 }
 
 impl Part {
@@ -136,13 +151,12 @@ impl Part {
         ensures ok { OnOk result (self.new ≡ self.old ++ more.items) }
         ensures err { OnErr result (self.new ≡ self.old) }
     {
-        let mut more = more;
         let mut found = marks_of(alloc, more.as_slice())?;
         let counts = counts_with(alloc, self.counts.as_slice(), more.as_slice())?;
         let room = self.slots.len() - self.shown.len();
         self.shown.reserve(room + more.len())?;
         self.marks.reserve(found.len())?;
-        self.slots.append(&mut more)?;
+        put_behind(&mut self.slots, more)?;
         if self.marks.append(&mut found).is_err() {
             unreachable!();
         }
@@ -151,5 +165,22 @@ impl Part {
         let marks = self.marks.as_slice();
         self.passed = show_more(slots, marks, self.passed, &mut self.shown);
         Ok(())
+    }
+
+    /// Puts a plain record at the end, and answers its offset. Want of memory is the one error, after which all is as before,
+    /// but the record is gone.
+    pub fn append_plain(&mut self, rec: Rec) -> Result<u64, AllocError>
+        ensures at { IfOk result (λ at. at ≡ length self.old) }
+        ensures ok { OnOk result (self.new ≡ self.old ++ Plain rec ∷ []) }
+        ensures err { OnErr result (self.new ≡ self.old) }
+    {
+        let end = self.slots.len();
+        let room = end - self.shown.len();
+        self.shown.reserve(room + 1)?;
+        self.slots.push(Slot::Plain { rec })?;
+        let slots = self.slots.as_slice();
+        let marks = self.marks.as_slice();
+        self.passed = show_more(slots, marks, self.passed, &mut self.shown);
+        Ok(end as u64)
     }
 }

@@ -16,7 +16,7 @@ use Rattle.ks_plan.specs.declared.node.TopicInfo.{TopicInfo}
 use Rattle.ks_plan.specs.Faults.{first_fitting, is_past, any_past, size_lines, parts_fault, fault_of}
 use Rattle.ks_topo.proofs.Sorting.{past_sorted}
 use Rattle.ks_records.specs.Records.{HavePartitions}
-use Rattle.ks_run.specs.Producing.{HasPartsAt}
+use Rattle.ks_run.specs.Producing.{IsParted}
 
 none_of : {A : Type 0} (a b : Option A) → option_or a b ≡ None → (a ≡ None) × (b ≡ None)
 none_of None b e = (refl, e)
@@ -127,13 +127,12 @@ pub part_count : (p : Plan) (i : ℕ) → i < length p.counts → slice_index (m
 part_count p i l =
     get_mapped (parts_of_topic p) (topics_of p) i (InputTopic 0) 0 (omega (arith, topics_length p)) ∙ ap (parts_of_topic p) (topic_is p i l)
 
-pub have_parts : (d : DraftView) (topic : ℕ) → fault_of d ≡ None → HavePartitions d.topics → topic < length (plan_of d).counts → HasPartsAt (length (plan_of d).counts) (map (parts_of_topic (plan_of d)) (topics_of (plan_of d))) topic
+pub have_parts : (d : DraftView) (topic : ℕ) → fault_of d ≡ None → HavePartitions d.topics → topic < length (plan_of d).counts → IsParted (map (parts_of_topic (plan_of d)) (topics_of (plan_of d))) topic
 have_parts d topic e h l =
     let p = plan_of d in
     let count = plan_count d topic e h l in
     let is = part_count p topic l in
     record {
-      source = l;
       within = omega (arith, length-map (topics_of p) (parts_of_topic p), topics_length p);
       some = omega (arith, is, count.some);
       most = omega (arith, is, count.most);

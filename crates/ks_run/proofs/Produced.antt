@@ -1,5 +1,5 @@
 -- One record that is produced after others.
-use Rattle.std.proofs.Common.{◌≡◌, ℕ, List, [], ◌∷◌, ◌++◌, refl, sym, ap, subst, ◌∙◌, append_assoc, append-nil}
+use Rattle.std.proofs.Common.{◌≡◌, ℕ, ◌<◌, List, [], ◌∷◌, ◌++◌, refl, sym, ap, subst, ◌∙◌, append_assoc, append-nil}
 use Rattle.ks_row.specs.declared.record.Rec.{Rec}
 use Rattle.ks_row.specs.declared.record.PartId.{PartId}
 use Rattle.ks_history.specs.declared.journal.Request.{Request}
@@ -8,10 +8,11 @@ use Rattle.ks_history.specs.declared.journal.Reply.{Reply}
 use Rattle.ks_history.specs.declared.journal.Entry.{Entry}
 use Rattle.ks_history.specs.Machine.{Plan}
 use Rattle.ks_cluster.specs.Kept.{Kept, Answers}
-use Rattle.ks_job.specs.Items.{ItemView, RecordTo}
+use Rattle.ks_job.specs.Items.{ItemView, TopologyAt, RecordTo}
 use Rattle.ks_answer.specs.Jobs.{produces_by, produces}
 use Rattle.ks_settle.specs.Drained.{OnlyProduces}
-use Rattle.ks_run.specs.Producing.{placed, placed_all, Produces}
+use Rattle.ks_records.specs.Records.{AreRecords}
+use Rattle.ks_run.specs.Producing.{placed, placed_all, AreParted, IsParted, Produces}
 
 by_append : (request : Request) (xs ys : List (PartId × Rec)) → produces_by request (xs ++ ys) ≡ produces_by request xs ++ ys
 by_append (Produce p rec) xs ys = refl
@@ -77,3 +78,36 @@ producing_goes counts start old new topic rec rest all h p = record {
 
 pub producing_ends : {W : Type 0} (counts : List ℕ) (start now : Kept W) (all : List ItemView) → IsProducing counts start now [] all → Produces start now (placed_all counts all)
 producing_ends counts start now all h = subst (Produces start now) (sym (append-nil h.done) ∙ h.split) h.so_far
+
+-- ---- the items that are left, and their copies
+pub are_parted : (sources : ℕ) (counts : List ℕ) (is : List ItemView) → ((topic : ℕ) → topic < sources → IsParted counts topic) → AreRecords sources is → AreParted counts is
+are_parted sources counts [] parts h = tt
+are_parted sources counts (TopologyAt line d ∷ is) parts h = absurd h
+are_parted sources counts (RecordTo topic rec ∷ is) parts h = (parts topic h.0.topic, are_parted sources counts is parts h.1)
+
+pub copies_start : (counts : List ℕ) (made copies : List (PartId × Rec)) (given all rest : List ItemView) → copies ≡ made → made ≡ placed_all counts given → given ≡ all → rest ≡ all → copies ≡ placed_all counts rest
+copies_start counts made copies given all rest c m g r = c ∙ (m ∙ ap (placed_all counts) (g ∙ sym r))
+
+abbrev first_or : {A : Type 0} → A → List A → A
+first_or x [] = x
+first_or x (y ∷ ys) = y
+
+abbrev others : {A : Type 0} → List A → List A
+others [] = []
+others (x ∷ xs) = xs
+
+module _ (counts : List ℕ) (topic : ℕ) (rec : Rec) (left rest : List ItemView) (p : PartId) (kept : Rec) (copies : List (PartId × Rec)) (first : left ≡ RecordTo topic rec ∷ rest) (copied : (p, kept) ∷ copies ≡ placed_all counts left) where
+  both : (p, kept) ∷ copies ≡ placed counts topic rec ∷ placed_all counts rest
+  both = copied ∙ ap (placed_all counts) first
+
+  pub other_copies : copies ≡ placed_all counts rest
+  other_copies = ap others both
+
+  pub copy_is : (p, kept) ≡ placed counts topic rec
+  copy_is = ap (first_or (p, kept)) both
+
+pub producing_goes_on : {W : Type 0} (counts : List ℕ) (start old new : Kept W) (topic : ℕ) (rec : Rec) (left rest all : List ItemView) (p : PartId) (kept : Rec) (copies : List (PartId × Rec)) →
+    left ≡ RecordTo topic rec ∷ rest → (p, kept) ∷ copies ≡ placed_all counts left → IsProducing counts start old left all → Produces old new ((p, rec) ∷ []) → IsProducing counts start new rest all
+producing_goes_on counts start old new topic rec left rest all p kept copies first copied h now =
+    producing_goes counts start old new topic rec rest all (subst (λ is. IsProducing counts start old is all) first h)
+    (subst (λ q. Produces old new ((q, rec) ∷ [])) (ap (λ c. c.0) (copy_is counts topic rec left rest p kept copies first copied)) now)

@@ -32,7 +32,7 @@ use Rattle.ks_records.specs.Records.{records_of, HavePartitions, AreRecords, IsJ
 use Rattle.ks_records.proofs.Items.{job_items}
 use Rattle.ks_run.specs.declared.stop.Stop.TheVariants.{BadTopology, NotBuilt}
 use Rattle.ks_run.specs.Stops.{first_unbuilt, topology_stop, line_stop}
-use Rattle.ks_run.specs.Producing.{placed_all, Produces, HasPartsAt}
+use Rattle.ks_run.specs.Producing.{placed_all, Produces, IsParted}
 use Rattle.ks_settle.specs.Drained.{Extends}
 use Rattle.ks_run.specs.Texts.{settled_text}
 use Rattle.ks_run.specs.Settling.{IsReadJob, split, Answers}
@@ -65,11 +65,10 @@ answered hash d is setup journal ts text shown fine built records e history few 
 
 -- ---- the run of a job's tasks
 pub parts_ready : (hash : List ℕ → ℕ) (d : DraftView) (plan : Plan) (counts : List ℕ) → fault_of d ≡ None → HavePartitions d.topics → plan ≡ work_of (rules_of hash) (plan_of d) →
-    counts ≡ map (parts_of_topic (plan_of d)) (topics_of (plan_of d)) → (topic : ℕ) → topic < plan.sources → HasPartsAt plan.sources counts topic
+    counts ≡ map (parts_of_topic (plan_of d)) (topics_of (plan_of d)) → (topic : ℕ) → topic < plan.sources → IsParted counts topic
 parts_ready hash d plan counts fine have a b topic l =
     let sources : plan.sources ≡ length (plan_of d).counts = ap (λ q. q.sources) a in
-    subst (λ s. HasPartsAt s counts topic) (sym sources)
-    (subst (λ cs. HasPartsAt (length (plan_of d).counts) cs topic) (sym b) (have_parts d topic fine have (subst (λ s. topic < s) sources l)))
+    subst (λ cs. IsParted cs topic) (sym b) (have_parts d topic fine have (subst (λ s. topic < s) sources l))
 
 pub records_ready : (hash : List ℕ → ℕ) (d : DraftView) (plan : Plan) (is : List ItemView) → plan ≡ work_of (rules_of hash) (plan_of d) → AreRecords (length d.topics) is → AreRecords plan.sources is
 records_ready hash d plan is a h =

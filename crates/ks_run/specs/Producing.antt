@@ -1,5 +1,5 @@
 -- The records of a job as they are produced.
-use Rattle.std.specs.Prelude.{◌≡◌, ℕ, ◌<◌, ◌≤◌, List, ◌++◌, length, Option, Some, None, slice_index}
+use Rattle.std.specs.Prelude.{◌≡◌, ℕ, ◌<◌, ◌≤◌, List, [], ◌∷◌, ◌++◌, length, Option, Some, None, slice_index}
 use Rattle.ks_row.specs.declared.record.Rec.{Rec}
 use Rattle.ks_row.specs.declared.record.PartId.{PartId}
 use Rattle.ks_hash.specs.Partition.{part_of_key}
@@ -33,9 +33,14 @@ pub record Produces {W : Type 0} (old new : Kept W) (records : List (PartId × R
   pub produced : produces new.journal ≡ produces old.journal ++ records
   pub alone : OnlyProduces old.journal → OnlyProduces new.journal
 
--- a topic is one of the sources and has 1 to 64 partitions
-pub record HasPartsAt (sources : ℕ) (counts : List ℕ) (topic : ℕ) : Type 0 where
-  pub source : topic < sources
+-- a topic has 1 to 64 partitions
+pub record IsParted (counts : List ℕ) (topic : ℕ) : Type 0 where
   pub within : topic < length counts
   pub some : 1 ≤ slice_index counts topic
   pub most : slice_index counts topic ≤ 64
+
+-- all items are records to such topics
+abbrev pub AreParted : List ℕ → List ItemView → Type 0
+AreParted counts [] = Unit {0}
+AreParted counts (TopologyAt line d ∷ is) = ⊥
+AreParted counts (RecordTo topic rec ∷ is) = IsParted counts topic × AreParted counts is

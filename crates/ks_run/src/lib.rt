@@ -2,6 +2,7 @@
 #![tactic(auto)]
 
 mod outcome;
+mod placing;
 mod printing;
 mod producing;
 mod reading;
@@ -9,6 +10,7 @@ mod refusals;
 mod runs;
 mod settings;
 mod settling;
+mod sharing;
 mod stop;
 mod writing;
 

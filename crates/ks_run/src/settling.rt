@@ -1,17 +1,14 @@
 //! Runs a job's tasks over its records, until nothing is left to take.
-ghost use Rattle.std.specs.Prelude.{◌≡◌, ◌<◌, ◌^◌, ℕ, List, IfOk, None, Some, length, option_map};
-ghost use Rattle.ks_plan.specs.Drafts.{DraftView, draft_view};
+ghost use Rattle.std.specs.Prelude.{◌≡◌, ◌<◌, ◌^◌, IfOk, None, Some, length, option_map};
+ghost use Rattle.ks_plan.specs.Drafts.{draft_view};
 ghost use Rattle.ks_topo.specs.Topologies.{draft_of, plan_in};
 ghost use Rattle.ks_history.specs.History.{IsHistory};
 ghost use Rattle.ks_history.specs.Count.{records_in};
 ghost use Rattle.ks_cluster.specs.Kept.{setup_of};
-ghost use Rattle.ks_job.specs.Items.{TopologyAt, item_view, item_views};
-ghost use Rattle.ks_job.specs.Reader.{whole};
+ghost use Rattle.ks_job.specs.Items.{item_views};
 ghost use Rattle.ks_records.specs.Records.{HavePartitions, AreRecords, records_of};
 ghost use Rattle.ks_work.specs.Work.{work_of};
 ghost use Rattle.ks_task.specs.Built.{IsBuilt, rules_of};
-ghost use Rattle.ks_run.specs.Stops.{stop_of};
-ghost use Rattle.ks_run.specs.Journals.{IsJournal};
 ghost use Rattle.ks_run.specs.Texts.{settled_text};
 ghost use Rattle.ks_run.specs.Settling.{IsReadJob, split, Answers, AnswersOf};
 
@@ -74,7 +71,7 @@ fn settle<H: Hash128 + Send + Sync, R: Threads + Sync, W: Work + Send + Sync>(
     let kept = Vec::from_slice(alloc, counts.as_slice())?;
     let tasks = Vec::from_slice(alloc, topology.tasks())?;
     let mut cluster = Cluster::new(alloc, work, kept, tasks)?;
-    produce_all(alloc, &mut cluster, counts.as_slice(), records)?;
+    produce_all(rt, alloc, &mut cluster, counts.as_slice(), records)?;
     drain::<H, R, W>(rt, alloc, topology, &mut cluster)?;
     let tables = tables(rt, alloc, topology, &cluster)?;
     end_run(rt, alloc, cluster, tables)

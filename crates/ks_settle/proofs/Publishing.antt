@@ -19,7 +19,8 @@ use Rattle.ks_history.specs.History.{at, IsHistory}
 use Rattle.ks_follow.specs.Views.{WorkView}
 use Rattle.ks_cluster.specs.Kept.{Kept, setup_of, state_of}
 use Rattle.ks_answer.specs.Jobs.{produces}
-use Rattle.ks_commit.specs.Committed.{Committed, EachEnds, IsReady}
+use Rattle.ks_row.specs.declared.record.TaskId.{TaskId}
+use Rattle.ks_commit.specs.Committed.{tasks_in, Committed, EachEnds, IsReady}
 use Rattle.ks_commit.specs.declared.publisher.Publisher.{Publisher}
 use Rattle.ks_history.specs.Reads.{end_of}
 use Rattle.ks_commit.specs.Sending.{produce_none, IsLonger, is_produce}
@@ -122,36 +123,36 @@ told_task : (draft : DraftView) (v : _) (o : Option (List (ℕ × ℕ))) → (to
 told_task draft v None = refl
 told_task draft v (Some ends) = refl
 
-pub one_more_told : (draft : DraftView) (fs : List WorkView) (es : List (List (ℕ × ℕ))) (i : ℕ) (all ts : List Task) (o w : Task) → AreToldTo draft fs es i all ts → i < length ts → o ≡ get_or ts i o → IsToldTask draft fs es o w → AreToldTo draft fs es (i + 1) all (set ts i w)
-one_more_told draft fs es i all ts o w t lt at told = record {
-  names = set_id ts i w o lt (ap (λ (v : _). v.task) told.view ∙ told_task draft (task_view o) (ends_for (task_view o).task fs es) ∙ ap (λ (x : Task). (task_view x).task) at) ∙ t.names;
+pub one_more_told : (draft : DraftView) (worked : List TaskId) (es : List (List (ℕ × ℕ))) (i : ℕ) (all ts : List Task) (o w : Task) → AreToldTo draft worked es i all ts → i < length ts → o ≡ get_or ts i o → IsToldTask draft worked es o w → AreToldTo draft worked es (i + 1) all (set ts i w)
+one_more_told draft worked es i all ts o w t lt at told = record {
+  names = set_id ts i w o lt (ap (λ (v : _). v.task) told.view ∙ told_task draft (task_view o) (ends_for (task_view o).task worked es) ∙ ap (λ (x : Task). (task_view x).task) at) ∙ t.names;
   count = length-set ts i w ∙ t.count;
   told = λ k d high. by k d high (k == i) refl;
   rest = λ k d low. get_or-set_other ts i k w d (λ e. omega (arith, e, low)) ∙ t.rest k d (omega (arith, low));
 }
   where
-    by : (k : ℕ) (d : Task) → k < i + 1 → (b : Bool) → (k == i) ≡ b → IsToldTask draft fs es (get_or all k d) (get_or (set ts i w) k d)
+    by : (k : ℕ) (d : Task) → k < i + 1 → (b : Bool) → (k == i) ≡ b → IsToldTask draft worked es (get_or all k d) (get_or (set ts i w) k d)
     by k d high true e =
         let is : k ≡ i = eqb-true k i e in
         let inside : k < length ts = omega (arith, is, lt) in
         let here : get_or (set ts i w) k d ≡ w = ap (λ j. get_or (set ts i w) j d) is ∙ get_or-set_same ts i w d lt in
         let own : get_or all k d ≡ o = sym (t.rest k d (omega (arith, is))) ∙ same_default ts k d o inside ∙ ap (λ j. get_or ts j o) is ∙ sym at in
-        subst (λ x. IsToldTask draft fs es x (get_or (set ts i w) k d)) (sym own) (subst (IsToldTask draft fs es o) (sym here) told)
+        subst (λ x. IsToldTask draft worked es x (get_or (set ts i w) k d)) (sym own) (subst (IsToldTask draft worked es o) (sym here) told)
     by k d high false e =
         let ne : (k ≡ i → ⊥) = eqb-false k i e in
-        subst (IsToldTask draft fs es (get_or all k d)) (sym (get_or-set_other ts i k w d ne)) (t.told k d (omega (arith, ne, high)))
+        subst (IsToldTask draft worked es (get_or all k d)) (sym (get_or-set_other ts i k w d ne)) (t.told k d (omega (arith, ne, high)))
 
-pub none_told : (draft : DraftView) (fs : List WorkView) (es : List (List (ℕ × ℕ))) (ts : List Task) → AreToldTo draft fs es 0 ts ts
-none_told draft fs es ts = record { names = refl; count = refl; told = λ k d high. absurd (omega (arith, high)); rest = λ k d low. refl }
+pub none_told : (draft : DraftView) (worked : List TaskId) (es : List (List (ℕ × ℕ))) (ts : List Task) → AreToldTo draft worked es 0 ts ts
+none_told draft worked es ts = record { names = refl; count = refl; told = λ k d high. absurd (omega (arith, high)); rest = λ k d low. refl }
 
-pub all_told : (draft : DraftView) (fs : List WorkView) (es : List (List (ℕ × ℕ))) (all ts : List Task) → AreToldTo draft fs es (length ts) all ts → AreToldBy draft fs es all ts
-all_told draft fs es all ts t = record { names = t.names; count = t.count; told = λ k d high. t.told k d (omega (arith, high, t.count)) }
+pub all_told : (draft : DraftView) (worked : List TaskId) (es : List (List (ℕ × ℕ))) (all ts : List Task) → AreToldTo draft worked es (length ts) all ts → AreToldBy draft worked es all ts
+all_told draft worked es all ts t = record { names = t.names; count = t.count; told = λ k d high. t.told k d (omega (arith, high, t.count)) }
 
 rest_told : (draft : DraftView) (setup : Setup) (journal new : List Entry) (topic : ℕ) (fs : List WorkView) (es : List (List (ℕ × ℕ))) (old now : List Task) → IsNetwork setup.plan →
-    ((sub : ℕ) → setup.plan.changelogs sub ≡ changelog_numbers (plan_of draft) sub) → ArePublished setup journal new topic fs es → All (IsFull draft setup journal topic fs) old → AreToldBy draft fs es old now → All (Rests draft setup new (topic + 1)) now
+    ((sub : ℕ) → setup.plan.changelogs sub ≡ changelog_numbers (plan_of draft) sub) → ArePublished setup journal new topic fs es → All (IsFull draft setup journal topic fs) old → AreToldBy draft (tasks_in fs) es old now → All (Rests draft setup new (topic + 1)) now
 rest_told draft setup journal new topic fs es old now net logs done full told k d lt =
     let was : IsFull draft setup journal topic fs (get_or old k d) = full k d (omega (arith, lt, told.count)) in
-    let one : IsToldTask draft fs es (get_or old k d) (get_or now k d) = told.told k d (omega (arith, lt, told.count)) in (
+    let one : IsToldTask draft (tasks_in fs) es (get_or old k d) (get_or now k d) = told.told k d (omega (arith, lt, told.count)) in (
       one.of,
       subst (IsDrainedTo setup new (topic + 1)) (sym one.view)
           (one_told draft setup journal new topic fs es (task_view (get_or old k d)) net logs done was.1 was.2),
@@ -160,7 +161,7 @@ rest_told draft setup journal new topic fs es old now net logs done full told k 
 -- ---- the cluster between two topics
 pub rests_on : {W : Type 0} (plan : W → Plan) (old new : Kept W) (publisher : Publisher) (draft : DraftView) (w topic : ℕ) (fs : List WorkView) (es : List (List (ℕ × ℕ))) (before after : List Task) → MayDrain (setup_of plan old) →
     ((sub : ℕ) → (setup_of plan old).plan.changelogs sub ≡ changelog_numbers (plan_of draft) sub) → AreReading draft (setup_of plan old) old.journal topic (length before) before fs → Committed plan old new w fs es →
-    IsHistory (setup_of plan new) new.journal → IsReady (setup_of plan new) (state_of plan new) publisher → AreToldBy draft fs es before after → AreResting plan new publisher draft (topic + 1) after × Extends old new
+    IsHistory (setup_of plan new) new.journal → IsReady (setup_of plan new) (state_of plan new) publisher → AreToldBy draft (tasks_in fs) es before after → AreResting plan new publisher draft (topic + 1) after × Extends old new
 rests_on plan old new publisher draft w topic fs es before after may logs r c hist ready told =
     let ext : Extends old new = extends_by old new c.more c.is c.quiet in
     let setup : setup_of plan new ≡ setup_of plan old = same_setup plan old new ext in

@@ -17,7 +17,7 @@ use Rattle.ks_follow.specs.Views.{Stands, WorkView, pending_work, committed_view
 use Rattle.ks_follow.specs.Commits.{commits_for, commit_by, NoCommit, OneCommit}
 use Rattle.ks_follow.proofs.Lasting.{longer_stands}
 use Rattle.ks_follow.proofs.Committing.{committed_stands}
-use Rattle.ks_commit.specs.Committed.{EachEnds}
+use Rattle.ks_commit.specs.Committed.{EachEnds, tasks_in}
 use Rattle.ks_commit.specs.Sending.{pendings_of}
 use Rattle.ks_task.specs.Views.{own_ends}
 use Rattle.ks_settle.specs.Drained.{work_for, IsToldBy, IsTold, ends_for, told_view, IsDrainedTo, IsFilledTo, ArePublished}
@@ -39,19 +39,19 @@ work_named t (g ∷ fs) f e = by (same_task t g.task) refl e (λ n. work_named t
     by true h n more = let is : g ≡ f = cc in ap (λ (x : WorkView). x.task) (sym is) ∙ sym ((same_task-is t g.task).0 h)
     by false h n more = more n
 
-no_ends : (t : TaskId) (fs : List WorkView) (es : List (List (ℕ × ℕ))) → work_for t fs ≡ None → ends_for t fs es ≡ None
+no_ends : (t : TaskId) (fs : List WorkView) (es : List (List (ℕ × ℕ))) → work_for t fs ≡ None → ends_for t (tasks_in fs) es ≡ None
 no_ends t [] es e = refl
 no_ends t (g ∷ fs) [] e = refl
 no_ends t (g ∷ fs) (x ∷ es) e = by (same_task t g.task) e (λ n. no_ends t fs es n)
   where
-    by : (b : Bool) → cond b (Some g) (work_for t fs) ≡ None → (work_for t fs ≡ None → ends_for t fs es ≡ None) → cond b (Some x) (ends_for t fs es) ≡ None
+    by : (b : Bool) → cond b (Some g) (work_for t fs) ≡ None → (work_for t fs ≡ None → ends_for t (tasks_in fs) es ≡ None) → cond b (Some x) (ends_for t (tasks_in fs) es) ≡ None
     by true n more = absurd (cc)
     by false n more = more n
 
 -- the ends of a work
 record HasEnds (setup : Setup) (s : State) (t : TaskId) (f : WorkView) (fs : List WorkView) (es : List (List (ℕ × ℕ))) : Type 0 where
   ends : List (ℕ × ℕ)
-  is : ends_for t fs es ≡ Some ends
+  is : ends_for t (tasks_in fs) es ≡ Some ends
   are : AreEnds setup s f ends
 
 some_ends : (setup : Setup) (s : State) (t : TaskId) (f : WorkView) (fs : List WorkView) (es : List (List (ℕ × ℕ))) → EachEnds setup s fs es → work_for t fs ≡ Some f → HasEnds setup s t f fs es
@@ -60,8 +60,8 @@ some_ends setup s t f (g ∷ fs) [] each e = absurd (true≢false (sym each))
 some_ends setup s t f (g ∷ fs) (x ∷ es) each e = by (same_task t g.task) refl e (λ n. some_ends setup s t f fs es each.1 n)
   where
     by : (b : Bool) → same_task t g.task ≡ b → cond b (Some g) (work_for t fs) ≡ Some f → (work_for t fs ≡ Some f → HasEnds setup s t f fs es) → HasEnds setup s t f (g ∷ fs) (x ∷ es)
-    by true h n more = record { ends = x; is = ap (λ b. cond b (Some x) (ends_for t fs es)) h; are = let is : g ≡ f = cc in subst (λ y. AreEnds setup s y x) is each.0 }
-    by false h n more = let m = more n in record { ends = m.ends; is = ap (λ b. cond b (Some x) (ends_for t fs es)) h ∙ m.is; are = m.are }
+    by true h n more = record { ends = x; is = ap (λ b. cond b (Some x) (ends_for t (tasks_in fs) es)) h; are = let is : g ≡ f = cc in subst (λ y. AreEnds setup s y x) is each.0 }
+    by false h n more = let m = more n in record { ends = m.ends; is = ap (λ b. cond b (Some x) (ends_for t (tasks_in fs) es)) h ∙ m.is; are = m.are }
 
 -- ---- the ends of a task's own changelogs tell the same
 own_same : (numbers : List ℕ) (old topic : ℕ) (ends : List (ℕ × ℕ)) → has_topic topic numbers ≡ true → offset_in old topic (own_ends numbers ends) ≡ offset_in old topic ends
@@ -86,13 +86,13 @@ own_are setup s f ends a = record {
 -- ---- one task
 pub one_told : (d : DraftView) (setup : Setup) (journal new : List Entry) (topic : ℕ) (fs : List WorkView) (es : List (List (ℕ × ℕ))) (v : TaskView) → IsNetwork setup.plan →
     ((sub : ℕ) → setup.plan.changelogs sub ≡ changelog_numbers (plan_of d) sub) → ArePublished setup journal new topic fs es → IsFilledTo setup journal topic v → IsTold setup.plan fs v →
-    IsDrainedTo setup new (topic + 1) (told_view d v (ends_for v.task fs es))
+    IsDrainedTo setup new (topic + 1) (told_view d v (ends_for v.task (tasks_in fs) es))
 one_told d setup journal new topic fs es v net logs done filled told = by (work_for v.task fs) refl told
   where
     hist : IsHistory setup (journal ++ done.more)
     hist = subst (IsHistory setup) done.is done.history
 
-    by : (f : Option WorkView) → work_for v.task fs ≡ f → IsToldBy setup.plan v f → IsDrainedTo setup new (topic + 1) (told_view d v (ends_for v.task fs es))
+    by : (f : Option WorkView) → work_for v.task fs ≡ f → IsToldBy setup.plan v f → IsDrainedTo setup new (topic + 1) (told_view d v (ends_for v.task (tasks_in fs) es))
     by None e clean =
         let none : NoCommit setup (at setup journal) done.more v.task = done.commits v.task ∙ ap (commit_by done.worker) (pending_is v.task fs ∙ ap (option_map pending_work) e) in
         let stands : Stands setup new v = subst (λ j. Stands setup j v) (sym done.is) (longer_stands setup journal done.more v net hist none filled.stands) in
@@ -111,6 +111,6 @@ one_told d setup journal new topic fs es v net logs done filled told = by (work_
         let there : Stands setup new (committed_view v (own_ends (changelog_numbers (plan_of d) v.task.sub) has.ends)) = subst (λ o. Stands setup new (committed_view v o)) same (subst (λ j. Stands setup j (committed_view v own)) (sym done.is) stands) in
         subst (λ o. IsDrainedTo setup new (topic + 1) (told_view d v o)) (sym has.is) (committed_on setup journal new topic v (own_ends (changelog_numbers (plan_of d) v.task.sub) has.ends) filled there done.same)
 
-pub told_some : (d : DraftView) (v w : TaskView) (t : TaskId) (fs : List WorkView) (es : List (List (ℕ × ℕ))) (own : List (ℕ × ℕ)) → w ≡ committed_view v (own_ends (changelog_numbers (plan_of d) v.task.sub) own) →
-    ends_for t fs es ≡ Some own → t ≡ v.task → w ≡ told_view d v (ends_for v.task fs es)
-told_some d v w t fs es own is ends named = is ∙ ap (told_view d v) (sym (ap (λ u. ends_for u fs es) (sym named) ∙ ends))
+pub told_some : (d : DraftView) (v w : TaskView) (t : TaskId) (worked : List TaskId) (es : List (List (ℕ × ℕ))) (own : List (ℕ × ℕ)) → w ≡ committed_view v (own_ends (changelog_numbers (plan_of d) v.task.sub) own) →
+    ends_for t worked es ≡ Some own → t ≡ v.task → w ≡ told_view d v (ends_for v.task worked es)
+told_some d v w t worked es own is ends named = is ∙ ap (told_view d v) (sym (ap (λ u. ends_for u worked es) (sym named) ∙ ends))

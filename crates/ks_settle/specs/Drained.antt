@@ -75,11 +75,11 @@ IsToldBy plan v (Some f) = IsFrozen plan v f
 abbrev pub IsTold : Plan → List WorkView → TaskView → Type 0
 IsTold plan fs v = IsToldBy plan v (work_for v.task fs)
 
--- the ends that were answered to a task's work
-abbrev pub ends_for : TaskId → List WorkView → List (List (ℕ × ℕ)) → Option (List (ℕ × ℕ))
+-- the ends that were answered to a task's work, where these tasks had works
+abbrev pub ends_for : TaskId → List TaskId → List (List (ℕ × ℕ)) → Option (List (ℕ × ℕ))
 ends_for t [] ends = None
-ends_for t (f ∷ fs) [] = None
-ends_for t (f ∷ fs) (e ∷ es) = if same_task t f.task then Some e else ends_for t fs es
+ends_for t (name ∷ names) [] = None
+ends_for t (name ∷ names) (e ∷ es) = if same_task t name then Some e else ends_for t names es
 
 abbrev pub told_view : DraftView → TaskView → Option (List (ℕ × ℕ)) → TaskView
 told_view d v None = v
@@ -168,21 +168,21 @@ pub record ArePublished (setup : Setup) (journal new : List Entry) (topic : ℕ)
   pub ends : EachEnds setup (at setup new) fs told
   pub same : SameEnds (at setup journal) (at setup new) topic
 
--- each task was told the ends that were answered to its work
-pub record IsToldTask (d : DraftView) (fs : List WorkView) (ends : List (List (ℕ × ℕ))) (old new : Task) : Type 0 where
+-- each task was told the ends that were answered to its work, where these had works
+pub record IsToldTask (d : DraftView) (worked : List TaskId) (ends : List (List (ℕ × ℕ))) (old new : Task) : Type 0 where
   pub of : IsTaskOf d new
-  pub view : task_view new ≡ told_view d (task_view old) (ends_for (task_view old).task fs ends)
+  pub view : task_view new ≡ told_view d (task_view old) (ends_for (task_view old).task worked ends)
 
-pub record AreToldBy (d : DraftView) (fs : List WorkView) (ends : List (List (ℕ × ℕ))) (old new : List Task) : Type 0 where
+pub record AreToldBy (d : DraftView) (worked : List TaskId) (ends : List (List (ℕ × ℕ))) (old new : List Task) : Type 0 where
   pub names : ids new ≡ ids old
   pub count : length new ≡ length old
-  pub told : (k : ℕ) (t : Task) → k < length old → IsToldTask d fs ends (slice_index_or old k t) (slice_index_or new k t)
+  pub told : (k : ℕ) (t : Task) → k < length old → IsToldTask d worked ends (slice_index_or old k t) (slice_index_or new k t)
 
 -- the first of the tasks were
-pub record AreToldTo (d : DraftView) (fs : List WorkView) (ends : List (List (ℕ × ℕ))) (i : ℕ) (old new : List Task) : Type 0 where
+pub record AreToldTo (d : DraftView) (worked : List TaskId) (ends : List (List (ℕ × ℕ))) (i : ℕ) (old new : List Task) : Type 0 where
   pub names : ids new ≡ ids old
   pub count : length new ≡ length old
-  pub told : (k : ℕ) (t : Task) → k < i → IsToldTask d fs ends (slice_index_or old k t) (slice_index_or new k t)
+  pub told : (k : ℕ) (t : Task) → k < i → IsToldTask d worked ends (slice_index_or old k t) (slice_index_or new k t)
   pub rest : (k : ℕ) (t : Task) → i ≤ k → slice_index_or new k t ≡ slice_index_or old k t
 
 -- ---- the cluster between two topics

@@ -1,29 +1,28 @@
 //! A cluster is brought to rest, topic by topic.
-ghost use Rattle.std.specs.Prelude.{◌≡◌, ◌+◌, ◌≤◌, ℕ, true, map, length, [], IfOk, OnOk, option_map};
+ghost use Rattle.std.specs.Prelude.{◌≡◌, ◌+◌, ℕ, length, [], IfOk, OnOk, option_map};
 ghost use Rattle.std.specs.List.{All};
 ghost use Rattle.ks_topo.specs.Topologies.{draft_of, plan_in};
 ghost use Rattle.ks_plan.specs.Infos.{changelog_numbers};
 ghost use Rattle.ks_plan.specs.Layout.{tasks as all_tasks};
 ghost use Rattle.ks_history.specs.Settled.{IsSettled};
 ghost use Rattle.ks_work.specs.Work.{work_of, setup_of as topology_setup};
-ghost use Rattle.ks_cluster.specs.Kept.{Kept, setup_of, state_of};
+ghost use Rattle.ks_cluster.specs.Kept.{setup_of, state_of};
 ghost use Rattle.ks_commit.specs.Alone.{IsIdle};
-ghost use Rattle.ks_commit.specs.Committed.{works_of, IsReady};
+ghost use Rattle.ks_commit.specs.Committed.{works_of, tasks_in as worked_in, IsReady};
 ghost use Rattle.ks_commit.specs.Work.{work_view};
 ghost use Rattle.ks_task.specs.Built.{IsBuilt, rules_of};
-ghost use Rattle.ks_task.specs.Tasks.{task_view, IsTaskOf};
 ghost use Rattle.std.specs.Thread.{IsSync};
 ghost use Rattle.ks_plan.specs.contracts.draft.Op as op;
 ghost use Rattle.ks_plan.specs.contracts.node.Node as node;
 ghost use Rattle.ks_topo.specs.contracts.built.Topology as built;
-ghost use Rattle.ks_follow.specs.Views.{fresh_view};
-ghost use Rattle.ks_settle.specs.Drained.{MayDrain, with_work, IsRead, Rests, tasks_in, AreTried, AreReading, AreResting, AreFresh, Extends, OnlyProduces, ids};
+ghost use Rattle.ks_settle.specs.Drained.{MayDrain, with_work, IsRead, Rests, tasks_in, AreTried, AreReading, AreResting, AreFresh, Extends, OnlyProduces};
 
 use crate::reading::read_task;
 use crate::telling::tell;
 use ks_cluster::{Cluster, Work};
 use ks_commit::{Frozen, Publisher, commit};
 use ks_hash::Hash128;
+use ks_row::TaskId;
 use ks_task::{Task, TaskWork};
 use ks_topo::{Op, Topology};
 use std::alloc::{AllocError, Global};
@@ -65,9 +64,8 @@ pub fn share_topology()
 }
 
 // Lets all of these go, side by side.
-fn drop_all<R: Threads + Sync, T: Send + Drop>(rt: &R, all: Vec<T>) -> Result<(), AllocError> {
-    drop(thread::map_vec(rt, all, &|one: T| -> () { drop(one) })?);
-    Ok(())
+fn let_go<R: Threads + Sync, T: Send + Drop>(rt: &R, all: Vec<T>) {
+    drop(thread::map_vec(rt, all, &|one: T| drop(one)));
 }
 
 fn keep(works: &mut Vec<Frozen>, work: Option<Frozen>) -> Result<(), AllocError>
@@ -168,28 +166,41 @@ fn read_tasks<H: Hash128 + Sync, R: Threads + Sync, V: Work + Sync, W: Work + Sy
     Ok(works)
 }
 
+// The tasks of these works.
+fn workers(alloc: Global, works: &[Frozen]) -> Result<Vec<TaskId>, AllocError>
+    ensures { IfOk result (λ v. v.items ≡ worked_in (works_of works.now)) }
+{
+    let mut worked = Vec::with_capacity(alloc, works.len())?;
+    for work in works {
+        worked.push(work.task)?;
+    }
+    Ok(worked)
+}
+
 // Commits the works in one transaction, with all its markers, and tells the tasks.
-fn publish<W: Work>(
+fn publish<R: Threads + Sync, W: Work>(
+    rt: &R,
     alloc: Global,
     topology: &Topology,
     cluster: &mut Cluster<W>,
     publisher: &mut Publisher,
     tasks: &mut Vec<Task>,
-    works: &[Frozen],
+    works: Vec<Frozen>,
     topic: u16,
 ) -> Result<(), AllocError>
     requires may { MayDrain (setup_of W.plan cluster.old) }
     requires logs { (sub : ℕ) → (W.plan cluster.old.work).changelogs sub ≡ changelog_numbers (plan_in topology.now) sub }
     requires ready { IsReady (setup_of W.plan cluster.old) (state_of W.plan cluster.old) publisher.old }
-    requires reading { AreReading (draft_of topology.now) (setup_of W.plan cluster.old) cluster.old.journal topic (length tasks.old.items) tasks.old.items (works_of works.now) }
+    requires reading { AreReading (draft_of topology.now) (setup_of W.plan cluster.old) cluster.old.journal topic (length tasks.old.items) tasks.old.items (works_of works.items) }
     ensures { OnOk result (AreResting W.plan cluster.new publisher.new (draft_of topology.now) (topic + 1) tasks.new.items × Extends cluster.old cluster.new) }
 {
     if works.is_empty() {
         return Ok(());
     }
-    let ends = commit(alloc, cluster, publisher, works)?;
+    let worked = workers(alloc, works.as_slice())?;
+    let ends = commit(rt, alloc, cluster, publisher, works)?;
     let _journal = cluster.journal();
-    tell(topology, tasks, works, ends.as_slice());
+    tell(topology, tasks, worked.as_slice(), ends.as_slice());
     Ok(())
 }
 
@@ -211,16 +222,7 @@ fn drain_topic<H: Hash128 + Sync, R: Threads + Sync, V: Work + Sync, W: Work + S
     ensures { OnOk result (AreResting W.plan cluster.new publisher.new (draft_of topology.now) (topic + 1) tasks.new.items × Extends cluster.old cluster.new) }
 {
     let works = read_tasks::<H, R, V, W>(rt, alloc, topology, work, cluster, tasks, topic)?;
-    publish(
-        alloc,
-        topology,
-        cluster,
-        publisher,
-        tasks,
-        works.as_slice(),
-        topic,
-    )?;
-    drop_all(rt, works)
+    publish(rt, alloc, topology, cluster, publisher, tasks, works, topic)
 }
 
 fn fresh_tasks(alloc: Global, topology: &Topology) -> Result<Vec<Task>, AllocError>
@@ -305,5 +307,6 @@ pub fn drain<H: Hash128 + Sync, R: Threads + Sync, W: Work + Sync>(
         &mut publisher,
         &mut tasks,
     )?;
-    drop_all(rt, tasks)
+    let_go(rt, tasks);
+    Ok(())
 }

@@ -1,5 +1,5 @@
 //! Two lists of rows in order of key bytes, put together.
-ghost use Rattle.std.specs.Prelude.{◌≡◌, ◌+◌, ◌<◌, ◌∷◌, [], ◌++◌, IfOk, IfSome, MatchOption};
+ghost use Rattle.std.specs.Prelude.{◌≡◌, ◌+◌, ◌<◌, ◌∷◌, [], IfOk, IfSome, MatchOption};
 ghost use Rattle.std.specs.VecDeque.{deque_len};
 ghost use Rattle.ks_settle.specs.Rows.{first_of, merged_rows};
 

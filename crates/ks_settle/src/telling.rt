@@ -2,30 +2,28 @@
 ghost use Rattle.std.specs.Prelude.{◌≡◌, option_map};
 ghost use Rattle.std.specs.List.{All};
 ghost use Rattle.ks_topo.specs.Topologies.{draft_of};
-ghost use Rattle.ks_commit.specs.Committed.{works_of};
 ghost use Rattle.ks_task.specs.Tasks.{IsTaskOf};
 ghost use Rattle.ks_settle.specs.Drained.{ends_for, IsToldTask, AreToldBy};
 
-use ks_commit::Frozen;
 use ks_row::{Seq, TaskId};
 use ks_task::Task;
 use ks_topo::Topology;
 
-// The ends that were answered to a task's work.
+// The ends that were answered to a task's work, where these tasks had works.
 fn ends_of<'a>(
-    works: &[Frozen],
+    worked: &[TaskId],
     ends: &'a [Seq<(u16, u64)>],
     task: TaskId,
 ) -> Option<&'a [(u16, u64)]>
-    ensures { option_map (λ e. e.now) result ≡ ends_for task (works_of works.now) ends.now }
+    ensures { option_map (λ e. e.now) result ≡ ends_for task worked.now ends.now }
 {
-    let mut rest = works;
+    let mut rest = worked;
     let mut left = ends;
-    while let [work, more @ ..] = rest {
+    while let [name, more @ ..] = rest {
         let [first, others @ ..] = left else {
             return None;
         };
-        if task.is(work.task) {
+        if task.is(*name) {
             return Some(first.as_slice());
         }
         rest = more;
@@ -34,21 +32,21 @@ fn ends_of<'a>(
     None
 }
 
-fn tell_task(topology: &Topology, task: &mut Task, works: &[Frozen], ends: &[Seq<(u16, u64)>])
+fn tell_task(topology: &Topology, task: &mut Task, worked: &[TaskId], ends: &[Seq<(u16, u64)>])
     requires { IsTaskOf (draft_of topology.now) task.old }
-    ensures { IsToldTask (draft_of topology.now) (works_of works.now) ends.now task.old task.new }
+    ensures { IsToldTask (draft_of topology.now) worked.now ends.now task.old task.new }
 {
-    if let Some(own) = ends_of(works, ends, task.id()) {
+    if let Some(own) = ends_of(worked, ends, task.id()) {
         task.committed(own);
     }
 }
 
-/// Each task that had work is told the ends of its changelogs; the others stay as they are.
-pub fn tell(topology: &Topology, tasks: &mut Vec<Task>, works: &[Frozen], ends: &[Seq<(u16, u64)>])
+/// Each of the tasks that had work is told the ends of its changelogs; the others stay as they are.
+pub fn tell(topology: &Topology, tasks: &mut Vec<Task>, worked: &[TaskId], ends: &[Seq<(u16, u64)>])
     requires { All (IsTaskOf (draft_of topology.now)) tasks.old.items }
-    ensures { AreToldBy (draft_of topology.now) (works_of works.now) ends.now tasks.old.items tasks.new.items }
+    ensures { AreToldBy (draft_of topology.now) worked.now ends.now tasks.old.items tasks.new.items }
 {
     for i in 0..tasks.len() {
-        tell_task(topology, &mut tasks[i], works, ends);
+        tell_task(topology, &mut tasks[i], worked, ends);
     }
 }

@@ -34,7 +34,8 @@ field_itself : (f : Field) → same_field f f ≡ true
 field_itself (Int z) = ap is_eq (tied_itself int_cmp_total z)
 field_itself (Text t) = ap is_eq (tied_itself nat_list_cmp_total t)
 
-row_itself : (r : Row) → same_row r r ≡ true
+-- a row is the same as itself
+pub row_itself : (r : Row) → same_row r r ≡ true
 row_itself [] = refl
 row_itself (m ∷ ms) = and_from _ _ (and_from _ _ (ap is_eq (tied_itself nat_list_cmp_total m.0)) (field_itself m.1)) (row_itself ms)
 
@@ -49,7 +50,8 @@ stored_itself : (w : Stored) → same_stored w w ≡ true
 stored_itself (OfRow row) = row_itself row
 stored_itself (OfAgg c a) = and_from _ _ (bool_itself c) (agg_itself a)
 
-option_itself : (w : Option Stored) → same_option same_stored w w ≡ true
+-- a value is the same as itself
+pub option_itself : (w : Option Stored) → same_option same_stored w w ≡ true
 option_itself None = refl
 option_itself (Some w) = stored_itself w
 

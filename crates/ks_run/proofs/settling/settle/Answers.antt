@@ -17,14 +17,14 @@ new-requires g c =
     setup_made hash d _ setup c.nodes-nodes.ensures.well_formed
 
 pub produce_all-requires-clause-parts : goal.produce_all-requires-clause-parts
-produce_all-requires-clause-parts g c =
+produce_all-requires-clause-parts g c κs within =
     let d = draft_of c.args.topology.now in
     let counts = c.in_ok-counts.ensures ∙ (ap (map (λ (i : TopicInfo). i.parts)) c.topics.ensures ∙ shown_counts d) in
     parts_ready g.H.Hash128.hash_of d (g.W.Work.plan c.in_ok-cluster.cluster.work) c.as_slice-2.result.now c.nodes-nodes.ensures.well_formed c.requires.partitions
     (ap (λ k. g.W.Work.plan k.work) c.in_ok-cluster.ensures ∙ c.requires.work) (c.as_slice-2.ensures.value ∙ counts)
 
 pub produce_all-requires-clause-records : goal.produce_all-requires-clause-records
-produce_all-requires-clause-records g c =
+produce_all-requires-clause-records g c κs within =
     records_ready g.H.Hash128.hash_of (draft_of c.args.topology.now) (g.W.Work.plan c.in_ok-cluster.cluster.work) (item_views c.args.records.items)
     (ap (λ k. g.W.Work.plan k.work) c.in_ok-cluster.ensures ∙ c.requires.work) c.requires.records
 

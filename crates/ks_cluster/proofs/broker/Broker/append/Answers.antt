@@ -6,7 +6,7 @@ use Rattle.ks_cluster.proofs.broker.Broker.append.Goals as goal
 
 pub returns-clause-ok : goal.returns-clause-ok
 returns-clause-ok c =
-    appended_moves c.args.self.now _ c.args.w c.args.epoch c.args.number c.args.task c.args.part c.args.recs.now c.index-p.result.now c.index_mut-p.result.now c.set_tasks.new.p c.in_ok-tasks.tasks.items
+    appended_moves c.args.self.now _ c.args.w c.args.epoch c.args.number c.args.task c.args.part c.args.recs.items c.index-p.result.now c.index_mut-p.result.now c.set_tasks.new.p c.in_ok-tasks.tasks.items
     c.count-count.result c.end-first.result c.requires.worker c.index-p.ensures c.index_mut-p.ensures.value
     (c.count-count.ensures ∙ ap (count_sent c.args.w c.args.epoch) c.part-slots.ensures)
     c.in_default.ensures c.in_ok-tasks.ensures c.set_tasks.ensures (c.end-first.ensures ∙ ap length c.part-slots.ensures)

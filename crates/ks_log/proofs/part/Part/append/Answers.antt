@@ -12,7 +12,7 @@ overflow_sub-room c =
 pub show_more-self-inside-requires-clause-known : goal.show_more-self-inside-requires-clause-known
 show_more-self-inside-requires-clause-known c =
     let few = known_few c.self.inside.slots.items c.self.inside.shown.items c.self.invariant.shown_is in
-    let grown = ap length (c.as_slice-slots.ensures.value ∙ c.in_ok-append.ensures.items) ∙ length-append c.self.inside.slots.items c.args.more.items in
+    let grown = ap length (c.as_slice-slots.ensures.value ∙ c.in_ok-put_behind.ensures.ok) ∙ length-append c.self.inside.slots.items c.args.more.items in
     omega (arith, few, grown, ap length c.in_ok-reserve.ensures.items)
 
 pub show_more-self-inside-requires-clause-marks : goal.show_more-self-inside-requires-clause-marks
@@ -23,13 +23,13 @@ show_more-self-inside-requires-clause-marks c =
     let few = known_few slots shown c.self.invariant.shown_is in
     ap (drop c.self.inside.passed) (c.as_slice-marks.ensures.value ∙ (search rules))
     ∙ passed_more slots more c.self.inside.marks.items c.in_ok-found.found.items c.self.inside.passed (length shown) c.self.invariant.within few (c.in_ok-found.ensures ∙ ap marks_in c.as_slice.ensures.value) c.self.invariant.passed_is
-    ∙ ap₂ (λ n l. marks_in (drop n l)) (sym (ap length c.in_ok-reserve.ensures.items)) (sym (c.as_slice-slots.ensures.value ∙ c.in_ok-append.ensures.items))
+    ∙ ap₂ (λ n l. marks_in (drop n l)) (sym (ap length c.in_ok-reserve.ensures.items)) (sym (c.as_slice-slots.ensures.value ∙ c.in_ok-put_behind.ensures.ok))
 
 pub invariant_of-self-2 : goal.invariant_of-self-2
 invariant_of-self-2 c =
-    indexed_more c.self.inside.slots.items c.append.new.self.items c.args.more.items c.self.inside.shown.items c.show_more-self-inside.new.shown.items c.self.inside.marks.items c.append-2.new.self.items c.in_ok-found.found.items
+    indexed_more c.self.inside.slots.items c.put_behind.new.slots.items c.args.more.items c.self.inside.shown.items c.show_more-self-inside.new.shown.items c.self.inside.marks.items c.append.new.self.items c.in_ok-found.found.items
     c.self.inside.passed c.show_more-self-inside.result c.self.inside.counts.items c.in_ok-counts.counts.items
-    c.self.invariant c.in_ok-append.ensures.items
+    c.self.invariant c.in_ok-put_behind.ensures.ok
     (c.show_more-self-inside.ensures.shown ∙ ap₂ (λ a b. a ++ shown_in (drop (length a) b)) c.in_ok-reserve.ensures.items c.as_slice-slots.ensures.value)
     (search rules) (c.in_ok-found.ensures ∙ ap marks_in c.as_slice.ensures.value)
     (ap (drop c.show_more-self-inside.result) (sym c.as_slice-marks.ensures.value) ∙ c.show_more-self-inside.ensures.marks ∙ ap (λ l. marks_in (drop (length c.show_more-self-inside.new.shown.items) l)) c.as_slice-slots.ensures.value)

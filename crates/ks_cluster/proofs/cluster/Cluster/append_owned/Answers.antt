@@ -1,0 +1,18 @@
+use Rattle.std.proofs.Common.{refl, sym, subst}
+use Rattle.ks_history.specs.declared.journal.Request.TheVariants.{Append}
+use Rattle.ks_history.specs.History.{Meets}
+use Rattle.ks_cluster.specs.Kept.{setup_of, state_of}
+use Rattle.ks_cluster.specs.Replies.{number_or}
+use Rattle.ks_cluster.proofs.Entries.{moved_kept, answered}
+use Rattle.ks_cluster.proofs.cluster.Cluster.append_owned.Goals as goal
+
+pub invariant_of-self-2 : goal.invariant_of-self-2
+invariant_of-self-2 g c =
+    let plan = g.W.Work.plan in
+    let meets = subst (λ v. Meets (setup_of plan v) (state_of plan v) (Append c.args.w c.args.epoch c.args.number c.args.task c.args.part c.args.recs.items)) (sym c.self.view_is) c.requires.meets in
+    rw (c.push_reserved.ensures.items, c.reserve.ensures.items, c.numbered.ensures, c.of.ensures, c.requires.same)
+    (moved_kept (plan c.self.inside.work) c.self.inside.counts.items c.self.inside.journal.items c.self.inside.broker c.append.new.self (Append c.args.w c.args.epoch c.args.number c.args.task c.args.part c.args.recs.items) (number_or c.in_ok-outcome.outcome) c.self.invariant meets tt (c.in_ok-outcome.ensures.ok))
+
+pub returns-clause-ok : goal.returns-clause-ok
+returns-clause-ok g c =
+    answered g.W.Work.plan c.self.inside.work c.self.inside.counts.items c.self.inside.journal.items c.push_reserved.new.self.items c.self.inside.broker c.append.new.self _ (Append c.args.w c.args.epoch c.args.number c.args.task c.args.part c.args.recs.items) (number_or c.in_ok-outcome.outcome) c.self.view_is (rw (c.push_reserved.ensures.items, c.reserve.ensures.items, c.numbered.ensures, c.of.ensures, c.requires.same) refl) c.self.invariant (c.in_ok-outcome.ensures.ok)
