@@ -2,11 +2,9 @@
 #![tactic(auto)]
 
 ghost use Rattle.std.specs.Prelude.{◌≡◌, ◌++◌, map, Option, Some, None, option_copied, option_map, IfOk, OnOk};
-ghost use Rattle.std.specs.Ordering.{eq_by_cmp, int_cmp};
-ghost use Rattle.ks_expr.specs.Eval.{same_bytes};
 ghost use Rattle.ks_query.specs.Aggregates.{stream_add, amount_in, table_apply, agg_row, table_parts, int_of, plus, minus, or_nothing, with_members, moved, share_under, same_share, deltas_of};
 
-use ks_row::{Change, Field, Key, Name, Row, key_of_field};
+use ks_row::{Change, Field, Key, Name, Row, equal_bytes, equal_numbers, key_of_field};
 use ks_wire::{Agg, Delta};
 use std::alloc::{AllocError, Global};
 
@@ -114,24 +112,15 @@ fn share_under(
     Ok(Some((group, amount_of(field, row))))
 }
 
-fn same_key(a: &Key, b: &Key) -> bool
-    ensures { result ≡ same_bytes a.now b.now }
-{
-    a.as_str() == b.as_str()
-}
-
-fn same_amount(a: i64, b: i64) -> bool
-    ensures { result ≡ eq_by_cmp int_cmp a b }
-{
-    a == b
-}
-
 fn is_same_share(old: &Option<(Key, i64)>, new: &Option<(Key, i64)>) -> bool
     ensures { result ≡ same_share old.now new.now }
 {
     match (old, new) {
         (None, None) => true,
-        (Some(before), Some(now)) => same_key(&before.0, &now.0) && same_amount(before.1, now.1),
+        (Some(before), Some(now)) => {
+            equal_bytes(before.0.as_str().as_bytes(), now.0.as_str().as_bytes())
+                && equal_numbers(before.1, now.1)
+        }
         _ => false,
     }
 }

@@ -4,7 +4,7 @@ use Rattle.ks_row.specs.declared.record.TaskId.{TaskId}
 use Rattle.ks_history.specs.declared.journal.Entry.{Entry}
 use Rattle.ks_history.specs.declared.journal.Request.{Request}
 use Rattle.ks_history.specs.declared.journal.Reply.{Reply}
-use Rattle.ks_history.specs.Machine.{Plan}
+use Rattle.ks_history.specs.Machine.{TaskPlan}
 use Rattle.ks_history.specs.State.{State, Setup}
 use Rattle.ks_history.specs.Step.{reply_to, after}
 use Rattle.ks_history.specs.History.{at, Meets, CommitsFaithfully, IsHistory}
@@ -13,7 +13,7 @@ use Rattle.ks_cluster.specs.declared.broker.Broker.{Broker}
 use Rattle.ks_history.specs.Count.{records_in}
 use Rattle.ks_log.specs.Written.{total}
 use Rattle.ks_cluster.specs.Moves.{IsAt, Moves, IsNew}
-use Rattle.ks_cluster.specs.Kept.{Kept, setup_of, state_of, setup_at, Answers, IsKept}
+use Rattle.ks_cluster.specs.View.{ClusterView, setup_of, state_of, setup_at, AddsEntry, BrokerFollows}
 use Rattle.ks_cluster.proofs.Steps.{new_at}
 
 -- a broker that moved has the tasks that it had
@@ -21,12 +21,12 @@ moved_tasks : (setup : Setup) (s : State) (old new : Broker) (request : Request)
     → old.group.tasks.items ≡ new.group.tasks.items
 moved_tasks setup s old new request reply same k m = sym same ∙ sym (m.step setup s k).1.group_is.tasks_is
 
-pub moved_kept : (plan : Plan) (counts : List ℕ) (journal : List Entry) (old new : Broker) (request : Request) (reply : Reply)
-    → IsKept plan counts journal old
+pub moved_kept : (plan : TaskPlan) (counts : List ℕ) (journal : List Entry) (old new : Broker) (request : Request) (reply : Reply)
+    → BrokerFollows plan counts journal old
     → Meets (setup_at plan counts old) (at (setup_at plan counts old) journal) request
     → CommitsFaithfully (setup_at plan counts old) (at (setup_at plan counts old) journal) request
     → Moves old new request reply
-    → IsKept plan counts (journal ++ record { request = request; reply = reply } ∷ []) new
+    → BrokerFollows plan counts (journal ++ record { request = request; reply = reply } ∷ []) new
 moved_kept plan counts journal old new request reply k meets faithful m =
     let setup : Setup = setup_at plan counts old in
     let entry : Entry = record { request = request; reply = reply } in
@@ -44,20 +44,20 @@ moved_kept plan counts journal old new request reply k meets faithful m =
           (omega (arith, records_in-more setup journal entry, k.wrote, m.wrote setup (at setup journal) k.stands));
     }
 
-pub answered : {W : Type 0} (plan : W → Plan) (work : W) (counts : List ℕ) (journal journal' : List Entry) (old new : Broker) (value : Kept W) (request : Request) (reply : Reply)
+pub answered : {W : Type 0} (plan : W → TaskPlan) (work : W) (counts : List ℕ) (journal journal' : List Entry) (old new : Broker) (value : ClusterView W) (request : Request) (reply : Reply)
     → record { work = work; counts = counts; tasks = old.group.tasks.items; journal = journal } ≡ value
     → journal' ≡ journal ++ record { request = request; reply = reply } ∷ []
-    → IsKept (plan work) counts journal old → Moves old new request reply
-    → Answers plan value (record { work = work; counts = counts; tasks = new.group.tasks.items; journal = journal' }) request reply
+    → BrokerFollows (plan work) counts journal old → Moves old new request reply
+    → AddsEntry plan value (record { work = work; counts = counts; tasks = new.group.tasks.items; journal = journal' }) request reply
 answered {W} plan work counts journal journal' old new value request reply view is k m =
     let setup : Setup = setup_at (plan work) counts old in
-    subst (λ (v : Kept W). Answers plan v (record { work = work; counts = counts; tasks = new.group.tasks.items; journal = journal' }) request reply) view (record {
+    subst (λ (v : ClusterView W). AddsEntry plan v (record { work = work; counts = counts; tasks = new.group.tasks.items; journal = journal' }) request reply) view (record {
       step = (m.step setup (at setup journal) k.stands).0;
       journal = ap (λ (ts : List TaskId). record { work = work; counts = counts; tasks = ts; journal = journal' }) (sym (moved_tasks setup (at setup journal) old new request reply refl k.stands m))
           ∙ ap (λ (j : List Entry). record { work = work; counts = counts; tasks = old.group.tasks.items; journal = j }) is;
     })
 
-pub new_kept : (plan : Plan) (counts : List ℕ) (tasks : List TaskId) (b : Broker) → IsNew tasks b → IsKept plan counts [] b
+pub new_kept : (plan : TaskPlan) (counts : List ℕ) (tasks : List TaskId) (b : Broker) → IsNew tasks b → BrokerFollows plan counts [] b
 new_kept plan counts tasks b new = record {
   history = record { legal = tt; faithful = tt };
   stands = new_at (setup_at plan counts b) b (subst (λ (ts : List TaskId). IsNew ts b) (sym new.tasks_is) new);
@@ -65,9 +65,9 @@ new_kept plan counts tasks b new = record {
 }
 
 -- what a caller learns of the state and the setup
-pub answered_state : {W : Type 0} (plan : W → Plan) (old new : Kept W) (request : Request) (reply : Reply) → Answers plan old new request reply → state_of plan new ≡ after (setup_of plan old) (state_of plan old) request
+pub answered_state : {W : Type 0} (plan : W → TaskPlan) (old new : ClusterView W) (request : Request) (reply : Reply) → AddsEntry plan old new request reply → state_of plan new ≡ after (setup_of plan old) (state_of plan old) request
 answered_state plan old new request reply a =
     ap (state_of plan) a.journal ∙ at-more (setup_of plan old) old.journal (record { request = request; reply = reply })
 
-pub answered_setup : {W : Type 0} (plan : W → Plan) (old new : Kept W) (request : Request) (reply : Reply) → Answers plan old new request reply → setup_of plan new ≡ setup_of plan old
+pub answered_setup : {W : Type 0} (plan : W → TaskPlan) (old new : ClusterView W) (request : Request) (reply : Reply) → AddsEntry plan old new request reply → setup_of plan new ≡ setup_of plan old
 answered_setup plan old new request reply a = ap (setup_of plan) a.journal

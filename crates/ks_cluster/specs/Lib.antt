@@ -1,4 +1,4 @@
 pub mod Producers
 pub mod Replies
 pub mod Moves
-pub mod Kept
+pub mod View

@@ -9,7 +9,7 @@ ghost use Rattle.ks_history.specs.History.{Meets, CommitsFaithfully, IsHistory};
 ghost use Rattle.ks_history.specs.Reads.{MayFetch, fetched, committed_refusal, committed_offsets, ends_of, decided_records, pending_producers};
 ghost use Rattle.ks_cluster.specs.Replies.{done_or, number_or, truth_or};
 ghost use Rattle.ks_history.specs.Count.{records_in};
-ghost use Rattle.ks_cluster.specs.Kept.{Kept, setup_of, setup_from, state_of, Answers, Refuses};
+ghost use Rattle.ks_cluster.specs.View.{ClusterView, setup_of, setup_from, state_of, AddsEntry, Refuses};
 
 use crate::broker::Broker;
 use crate::producers::{new_pending, pending_count};
@@ -39,13 +39,13 @@ pub struct Cluster<W: Work> {
 }
 
 impl<W: Work> Model for Cluster<W> {
-    ghost use Rattle.ks_cluster.specs.Kept.{Kept, IsKept};
+    ghost use Rattle.ks_cluster.specs.View.{ClusterView, BrokerFollows};
 
-    ghost Value = { Kept W };
+    ghost Value = { ClusterView W };
 
     ghost view = { λ c. record { work = c.work; counts = c.counts.items; tasks = c.broker.group.tasks.items; journal = c.journal.items } };
 
-    ghost invariant = { λ c. IsKept (W.plan c.work) c.counts.items c.journal.items c.broker };
+    ghost invariant = { λ c. BrokerFollows (W.plan c.work) c.counts.items c.journal.items c.broker };
 }
 
 impl<W: Work> Cluster<W> {
@@ -71,28 +71,13 @@ impl<W: Work> Cluster<W> {
     /// Puts a copy of a record into a partition of an input topic, and answers its offset.
     pub fn produce(&mut self, alloc: Global, part: PartId, rec: &Rec) -> Result<u64, AllocError>
         requires { Meets (setup_of W.plan self.old) (state_of W.plan self.old) (Produce part rec.now) }
-        ensures ok { IfOk result (λ n. Answers W.plan self.old self.new (Produce part rec.now) (Number n)) }
+        ensures ok { IfOk result (λ n. AddsEntry W.plan self.old self.new (Produce part rec.now) (Number n)) }
         ensures err { OnErr result (self.new ≡ self.old) }
     {
-        self.produce_owned(alloc, part, copy(rec)?, copy(rec)?)
-    }
-
-    /// Puts a record itself into a partition of an input topic, and answers its offset; the journal keeps the copy of it that is
-    /// handed over. After want of memory both are gone.
-    pub fn produce_owned(
-        &mut self,
-        alloc: Global,
-        part: PartId,
-        rec: Rec,
-        kept: Rec,
-    ) -> Result<u64, AllocError>
-        requires meets { Meets (setup_of W.plan self.old) (state_of W.plan self.old) (Produce part rec) }
-        requires same { kept ≡ rec }
-        ensures ok { IfOk result (λ n. Answers W.plan self.old self.new (Produce part rec) (Number n)) }
-        ensures err { OnErr result (self.new ≡ self.old) }
-    {
+        let own = copy(rec)?;
+        let kept = copy(rec)?;
         self.journal.reserve(1)?;
-        let offset = self.broker.produce(alloc, part, rec)?;
+        let offset = self.broker.produce(alloc, part, own)?;
         self.journal.push_reserved(Entry {
             request: Request::Produce { part, rec: kept },
             reply: Reply::Number(offset),
@@ -103,7 +88,7 @@ impl<W: Work> Cluster<W> {
     /// Begins a new epoch of a producer, whose undecided transaction is aborted, and answers the epoch.
     pub fn init(&mut self, alloc: Global, w: u8) -> Result<u64, AllocError>
         requires { Meets (setup_of W.plan self.old) (state_of W.plan self.old) (Init w) }
-        ensures ok { IfOk result (λ n. Answers W.plan self.old self.new (Init w) (Number n)) }
+        ensures ok { IfOk result (λ n. AddsEntry W.plan self.old self.new (Init w) (Number n)) }
         ensures err { OnErr result (self.new ≡ self.old) }
     {
         self.journal.reserve(1)?;
@@ -125,7 +110,7 @@ impl<W: Work> Cluster<W> {
         part: PartId,
     ) -> Result<Result<(), Refused>, AllocError>
         requires { Meets (setup_of W.plan self.old) (state_of W.plan self.old) (Add w epoch part) }
-        ensures ok { IfOk result (λ r. Answers W.plan self.old self.new (Add w epoch part) (done_or r)) }
+        ensures ok { IfOk result (λ r. AddsEntry W.plan self.old self.new (Add w epoch part) (done_or r)) }
         ensures err { OnErr result (self.new ≡ self.old) }
     {
         self.journal.reserve(1)?;
@@ -150,36 +135,15 @@ impl<W: Work> Cluster<W> {
         recs: &[Rec],
     ) -> Result<Result<u64, Refused>, AllocError>
         requires { Meets (setup_of W.plan self.old) (state_of W.plan self.old) (Append w epoch number task part recs.now) }
-        ensures ok { IfOk result (λ r. Answers W.plan self.old self.new (Append w epoch number task part recs.now) (number_or r)) }
+        ensures ok { IfOk result (λ r. AddsEntry W.plan self.old self.new (Append w epoch number task part recs.now) (number_or r)) }
         ensures err { OnErr result (self.new ≡ self.old) }
     {
         let own = copies(alloc, recs)?;
         let kept = copies(alloc, recs)?;
-        self.append_owned(alloc, w, epoch, number, task, part, own, kept)
-    }
-
-    /// Appends records of a task themselves, and answers as `append` does; the journal keeps the copies of them that are handed
-    /// over. After want of memory both are gone.
-    pub fn append_owned(
-        &mut self,
-        alloc: Global,
-        w: u8,
-        epoch: u64,
-        number: u64,
-        task: TaskId,
-        part: PartId,
-        recs: Vec<Rec>,
-        kept: Vec<Rec>,
-    ) -> Result<Result<u64, Refused>, AllocError>
-        requires meets { Meets (setup_of W.plan self.old) (state_of W.plan self.old) (Append w epoch number task part recs.items) }
-        requires same { kept.items ≡ recs.items }
-        ensures ok { IfOk result (λ r. Answers W.plan self.old self.new (Append w epoch number task part recs.items) (number_or r)) }
-        ensures err { OnErr result (self.new ≡ self.old) }
-    {
         self.journal.reserve(1)?;
         let outcome = self
             .broker
-            .append(alloc, w, epoch, number, task, part, recs)?;
+            .append(alloc, w, epoch, number, task, part, own)?;
         self.journal.push_reserved(Entry {
             request: Request::Append {
                 w,
@@ -209,7 +173,7 @@ impl<W: Work> Cluster<W> {
         late: u64,
     ) -> Result<Result<(), Refused>, AllocError>
         requires { Meets (setup_of W.plan self.old) (state_of W.plan self.old) (SendOffsets w epoch generation task offsets.now order.now late) }
-        ensures ok { IfOk result (λ r. Answers W.plan self.old self.new (SendOffsets w epoch generation task offsets.now order.now late) (done_or r)) }
+        ensures ok { IfOk result (λ r. AddsEntry W.plan self.old self.new (SendOffsets w epoch generation task offsets.now order.now late) (done_or r)) }
         ensures err { OnErr result (self.new ≡ self.old) }
     {
         let new = new_pending(alloc, task, offsets, order, late)?;
@@ -242,7 +206,7 @@ impl<W: Work> Cluster<W> {
     ) -> Result<Result<(), Refused>, AllocError>
         requires meets { Meets (setup_of W.plan self.old) (state_of W.plan self.old) (Decide w epoch commit) }
         requires faithful { CommitsFaithfully (setup_of W.plan self.old) (state_of W.plan self.old) (Decide w epoch commit) }
-        ensures ok { IfOk result (λ r. Answers W.plan self.old self.new (Decide w epoch commit) (done_or r)) }
+        ensures ok { IfOk result (λ r. AddsEntry W.plan self.old self.new (Decide w epoch commit) (done_or r)) }
         ensures err { OnErr result (self.new ≡ self.old) }
     {
         self.journal.reserve(1)?;
@@ -257,7 +221,7 @@ impl<W: Work> Cluster<W> {
     /// Writes the first waiting marker of a producer, and answers its partition and decision; None where none waits.
     pub fn mark_next(&mut self, alloc: Global, w: u8) -> Result<Option<(PartId, bool)>, AllocError>
         requires { Meets (setup_of W.plan self.old) (state_of W.plan self.old) (MarkNext w) }
-        ensures ok { IfOk result (λ m. Answers W.plan self.old self.new (MarkNext w) (Marked m)) }
+        ensures ok { IfOk result (λ m. AddsEntry W.plan self.old self.new (MarkNext w) (Marked m)) }
         ensures err { OnErr result (self.new ≡ self.old) }
     {
         self.journal.reserve(1)?;
@@ -272,7 +236,7 @@ impl<W: Work> Cluster<W> {
     /// Takes a worker into the group, and answers the new generation, which has no assignment.
     pub fn join(&mut self, alloc: Global, w: u8) -> Result<u64, AllocError>
         requires { Meets (setup_of W.plan self.old) (state_of W.plan self.old) (Join w) }
-        ensures ok { IfOk result (λ n. Answers W.plan self.old self.new (Join w) (Number n)) }
+        ensures ok { IfOk result (λ n. AddsEntry W.plan self.old self.new (Join w) (Number n)) }
         ensures err { OnErr result (self.new ≡ self.old) }
     {
         self.journal.reserve(1)?;
@@ -294,7 +258,7 @@ impl<W: Work> Cluster<W> {
         a: &Assignment,
     ) -> Result<Result<bool, Refused>, AllocError>
         requires { Meets (setup_of W.plan self.old) (state_of W.plan self.old) (Assign w generation a.now) }
-        ensures ok { IfOk result (λ r. Answers W.plan self.old self.new (Assign w generation a.now) (truth_or r)) }
+        ensures ok { IfOk result (λ r. AddsEntry W.plan self.old self.new (Assign w generation a.now) (truth_or r)) }
         ensures err { OnErr result (self.new ≡ self.old) }
     {
         let kept = copy_assignment(alloc, a)?;
@@ -316,7 +280,7 @@ impl<W: Work> Cluster<W> {
     /// undecided.
     pub fn expire(&mut self, alloc: Global, w: u8) -> Result<bool, AllocError>
         requires { Meets (setup_of W.plan self.old) (state_of W.plan self.old) (Expire w) }
-        ensures ok { IfOk result (λ b. Answers W.plan self.old self.new (Expire w) (Truth b)) }
+        ensures ok { IfOk result (λ b. AddsEntry W.plan self.old self.new (Expire w) (Truth b)) }
         ensures err { OnErr result (self.new ≡ self.old) }
     {
         self.journal.reserve(1)?;
@@ -331,7 +295,7 @@ impl<W: Work> Cluster<W> {
     /// Replaces the positions that a worker holds.
     pub fn hold(&mut self, alloc: Global, w: u8, held: &[(TaskId, u64)]) -> Result<(), AllocError>
         requires { Meets (setup_of W.plan self.old) (state_of W.plan self.old) (Hold w held.now) }
-        ensures ok { OnOk result (Answers W.plan self.old self.new (Hold w held.now) Done) }
+        ensures ok { OnOk result (AddsEntry W.plan self.old self.new (Hold w held.now) Done) }
         ensures err { OnErr result (self.new ≡ self.old) }
     {
         let kept = copy_held(alloc, held)?;
@@ -357,7 +321,7 @@ impl<W: Work> Cluster<W> {
         generation: u64,
     ) -> Result<Result<u64, Refused>, AllocError>
         requires { Meets (setup_of W.plan self.old) (state_of W.plan self.old) (Probe w generation) }
-        ensures ok { IfOk result (λ r. Answers W.plan self.old self.new (Probe w generation) (number_or r)) }
+        ensures ok { IfOk result (λ r. AddsEntry W.plan self.old self.new (Probe w generation) (number_or r)) }
         ensures err { OnErr result (self.new ≡ self.old) }
     {
         self.journal.reserve(1)?;
@@ -372,7 +336,7 @@ impl<W: Work> Cluster<W> {
     /// Parks a task at an instance.
     pub fn park(&mut self, alloc: Global, instance: u8, task: TaskId) -> Result<(), AllocError>
         requires { Meets (setup_of W.plan self.old) (state_of W.plan self.old) (Park instance task) }
-        ensures ok { OnOk result (Answers W.plan self.old self.new (Park instance task) Done) }
+        ensures ok { OnOk result (AddsEntry W.plan self.old self.new (Park instance task) Done) }
         ensures err { OnErr result (self.new ≡ self.old) }
     {
         self.journal.reserve(1)?;
@@ -387,7 +351,7 @@ impl<W: Work> Cluster<W> {
     /// Takes a parked task from an instance: false where it isn't parked there.
     pub fn unpark(&mut self, alloc: Global, instance: u8, task: TaskId) -> Result<bool, AllocError>
         requires { Meets (setup_of W.plan self.old) (state_of W.plan self.old) (Unpark instance task) }
-        ensures ok { IfOk result (λ b. Answers W.plan self.old self.new (Unpark instance task) (Truth b)) }
+        ensures ok { IfOk result (λ b. AddsEntry W.plan self.old self.new (Unpark instance task) (Truth b)) }
         ensures err { OnErr result (self.new ≡ self.old) }
     {
         self.journal.reserve(1)?;

@@ -1,11 +1,11 @@
 //! What the tasks of a cluster do.
 ghost use Rattle.std.specs.Prelude.{◌≡◌, ℕ};
-ghost use Rattle.ks_history.specs.Machine.{Plan, IsApart};
+ghost use Rattle.ks_history.specs.Machine.{TaskPlan, IsNetwork};
 
 /// The work of a cluster's tasks: which topics they read and write, and, as a meaning alone, what they make of a record.
 pub trait Work: Drop {
     /// The topics of each subtopology, and what its tasks make of a record.
-    ghost plan: { Self → Plan };
+    ghost plan: { Self → TaskPlan };
 
     /// The number of input topics, which have the first numbers.
     fn sources(&self) -> u16
@@ -19,6 +19,7 @@ pub trait Work: Drop {
     fn changelogs(&self, sub: u8) -> &[u16]
         ensures { result.now ≡ (plan self.now).changelogs sub };
 
-    /// Each changelog partition is written by one task, and is read by none.
-    ghost apart: { (work : Self) → IsApart (plan work) };
+    /// A law: the tasks are a network. A topic is read by one subtopology; a changelog is no topic of the job, is read by no task,
+    /// belongs to one subtopology and gets no record from another task; and it tells each change of its store.
+    ghost network: { (work : Self) → IsNetwork (plan work) };
 }

@@ -14,8 +14,8 @@ use Rattle.ks_history.specs.State.{State, Setup, offset_in}
 use Rattle.ks_history.specs.Faithful.{waiting_at, markers_of}
 use Rattle.ks_history.specs.Reads.{end_of}
 use Rattle.ks_history.proofs.Names.{same_part-is}
-use Rattle.ks_replay.proofs.Slots.{Waiting}
-use Rattle.ks_follow.specs.Views.{WorkView, recs_at, names_part, is_empty, are_outputs, IsPast, AreEnds}
+use Rattle.ks_law_exactly_once.proofs.Slots.{Waiting}
+use Rattle.ks_law_restore.specs.Views.{WorkView, recs_at, names_part, is_empty, are_outputs, IsPast, AreEnds}
 use Rattle.ks_commit.specs.Committed.{EachMay, own_in, own_of_each, ends_at, ends_of_each, EachEnds}
 
 -- each decided record stands before the end

@@ -20,8 +20,8 @@ use Rattle.ks_history.specs.Partition.{count_sent, sent_slots}
 use Rattle.ks_history.specs.State.{State, Setup, start, with_number, grown, without_number}
 use Rattle.ks_history.specs.Step.{refusal, effect, state_by, after, closed, can_expire, renewed, markers_for, fenced, without_part, out_of_sequence, or_else}
 use Rattle.ks_history.specs.History.{state_after, Each, Meets, IsStep}
-use Rattle.ks_replay.specs.Law.{OfHistories}
-use Rattle.ks_replay.proofs.Refusals.{both_none, not_fenced}
+use Rattle.ks_law_exactly_once.specs.Law.{OfHistories}
+use Rattle.ks_law_exactly_once.proofs.Refusals.{both_none, not_fenced}
 use Rattle.ks_commit.specs.Alone.{HasSeventeen, IsOfPast}
 use Rattle.ks_commit.proofs.Slots.{count_append}
 use Rattle.ks_commit.proofs.Gaining.{beside_it}

@@ -6,8 +6,8 @@ use Rattle.ks_row.specs.declared.record.Rec.{Rec}
 use Rattle.ks_row.specs.declared.record.PartId.{PartId}
 use Rattle.ks_row.specs.declared.record.TaskId.{TaskId}
 use Rattle.ks_row.specs.Parts.{same_part, same_task}
-use Rattle.ks_map.specs.Bytes.{empty_store}
-use Rattle.ks_network.specs.Run.{Outcome, sent_to}
+use Rattle.ks_def_maps.specs.Bytes.{empty_store}
+use Rattle.ks_def_runs.specs.Run.{Outcome, sent_to}
 use Rattle.ks_history.specs.declared.transaction.Pending.{Pending}
 use Rattle.ks_history.specs.declared.transaction.Transaction.{Transaction}
 use Rattle.ks_history.specs.declared.transaction.Producer.{Producer}
@@ -17,11 +17,11 @@ use Rattle.ks_history.specs.State.{State, Setup, has_task, are_once, pending_of,
 use Rattle.ks_history.specs.Step.{tx_of, no_tx, pending_at}
 use Rattle.ks_history.specs.Faithful.{decided, waiting_at, markers_of, marker_among, folds, taken, outcome, capped, pending_offsets, IsFaithfulTask, IsFaithful}
 use Rattle.ks_history.proofs.Names.{same_task-is, same_task-refl}
-use Rattle.ks_replay.proofs.Slots.{Waiting, decided-append, recs-append, stable-append, readable_decided, open_none}
-use Rattle.ks_replay.proofs.Sound.{Sound}
-use Rattle.ks_replay.proofs.Commits.{pending_is}
-use Rattle.ks_replay.proofs.Quiet.{tx_is}
-use Rattle.ks_follow.specs.Views.{WorkView, pending_work, recs_at}
+use Rattle.ks_law_exactly_once.proofs.Slots.{Waiting, decided-append, recs-append, stable-append, readable_decided, open_none}
+use Rattle.ks_law_exactly_once.proofs.Sound.{Sound}
+use Rattle.ks_law_exactly_once.proofs.Commits.{pending_is}
+use Rattle.ks_law_exactly_once.proofs.Quiet.{tx_is}
+use Rattle.ks_law_restore.specs.Views.{WorkView, pending_work, recs_at}
 use Rattle.ks_commit.specs.Alone.{IsIdle}
 use Rattle.ks_commit.specs.Sending.{put_for, puts_task, last_pending, Gains, adds_of, puts_in, puts_of, pendings_of}
 use Rattle.ks_commit.specs.Committed.{MayCommit, EachMay, tasks_in, AreApart}

@@ -15,17 +15,17 @@ use Rattle.ks_history.specs.declared.transaction.Pending.{Pending}
 use Rattle.ks_history.specs.declared.transaction.Producer.{Producer}
 use Rattle.ks_history.specs.declared.transaction.Transaction.{Transaction}
 use Rattle.ks_history.specs.Partition.{count_sent}
-use Rattle.ks_history.specs.Machine.{Plan, IsNetwork}
+use Rattle.ks_history.specs.Machine.{TaskPlan, IsNetwork}
 use Rattle.ks_history.specs.State.{State, Setup, IsPart, has_part, has_task, pending_of, offset_in, committed_with}
 use Rattle.ks_history.specs.Step.{refusal, effect, fenced, none_undecided, tx_of, no_tx, pending_at, owner}
 use Rattle.ks_history.specs.Faithful.{IsFaithful}
 use Rattle.ks_history.specs.History.{IsHistory, CommitsFaithfully}
 use Rattle.ks_history.proofs.Names.{same_task-refl}
-use Rattle.ks_replay.proofs.Quiet.{tx_is}
-use Rattle.ks_replay.proofs.Replays.{whole}
-use Rattle.ks_cluster.specs.Kept.{Kept, setup_of, state_of, Answers}
-use Rattle.ks_follow.specs.Views.{WorkView, names_part, pending_work}
-use Rattle.ks_follow.specs.Commits.{commit_by}
+use Rattle.ks_law_exactly_once.proofs.Quiet.{tx_is}
+use Rattle.ks_law_exactly_once.proofs.Replays.{whole}
+use Rattle.ks_cluster.specs.View.{ClusterView, setup_of, state_of, AddsEntry}
+use Rattle.ks_law_restore.specs.Views.{WorkView, names_part, pending_work}
+use Rattle.ks_law_restore.specs.Commits.{commit_by}
 use Rattle.ks_commit.specs.declared.publisher.Publisher.{Publisher}
 use Rattle.ks_commit.specs.Alone.{IsIdle}
 use Rattle.ks_commit.specs.Sending.{put_count, Sends, Marked, adds_in, puts_in, adds_of, puts_of, pendings_of}
@@ -93,7 +93,7 @@ placed_at setup (x ∷ xs) zero own parts each lt is same = subst (All (IsPart s
 placed_at setup (x ∷ xs) (suc i) own parts each lt is same = placed_at setup xs i own parts each.1 (omega (arith, lt)) is same
 
 -- ---- the decision
-module _ {W : Type 0} (plan : W → Plan) (old sent : Kept W) (p q : Publisher) (fs : List WorkView) (net : IsNetwork (plan old.work)) (history : IsHistory (setup_of plan old) old.journal) (ready : IsReady (setup_of plan old) (state_of plan old) p)
+module _ {W : Type 0} (plan : W → TaskPlan) (old sent : ClusterView W) (p q : Publisher) (fs : List WorkView) (net : IsNetwork (plan old.work)) (history : IsHistory (setup_of plan old) old.journal) (ready : IsReady (setup_of plan old) (state_of plan old) p)
     (apart : AreApart fs) (may : EachMay (setup_of plan old) (state_of plan old) fs) (same : IsSame p q) (sends : Sends plan old sent p.worker (adds_of fs) (puts_of fs) (pendings_of fs)) where
   pub commits_faithfully : CommitsFaithfully (setup_of plan sent) (state_of plan sent) (Decide q.worker q.epoch true)
   commits_faithfully free =
@@ -119,7 +119,7 @@ module _ {W : Type 0} (plan : W → Plan) (old sent : Kept W) (p q : Publisher) 
       (not_fenced ((state_of plan sent).producer q.worker) q.epoch sending.epoch)
       (can_decide ((state_of plan sent).producer q.worker) (is_open some).0 (ap (λ w. ((state_of plan sent).producer w).undecided) same.0 ∙ (is_open some).1))
 
-  module _ (decided new : Kept W) (reply : Reply) (some : fs ≢ []) (sending : IsSending (setup_of plan sent) (state_of plan sent) q) (free : refusal (setup_of plan sent) (state_of plan sent) (Decide q.worker q.epoch true) ≡ None) (decides : Answers plan sent decided (Decide q.worker q.epoch true) reply) (marked : Marked plan decided new q.worker)
+  module _ (decided new : ClusterView W) (reply : Reply) (some : fs ≢ []) (sending : IsSending (setup_of plan sent) (state_of plan sent) q) (free : refusal (setup_of plan sent) (state_of plan sent) (Decide q.worker q.epoch true) ≡ None) (decides : AddsEntry plan sent decided (Decide q.worker q.epoch true) reply) (marked : Marked plan decided new q.worker)
       (done : ((state_of plan new).producer q.worker).waiting ≡ []) (after : IsHistory (setup_of plan new) new.journal) where
     abbrev tx : Transaction
     tx = (is_open some).0

@@ -13,8 +13,8 @@ use Rattle.ks_history.specs.Partition.{recs, open_from, sent_slots}
 use Rattle.ks_history.specs.State.{State, with_number, insert_part, has_part, has_task, pending_of, with_pending}
 use Rattle.ks_history.specs.Step.{effect, tx_of, pending_at}
 use Rattle.ks_history.proofs.Names.{same_part-is, same_task-is}
-use Rattle.ks_replay.proofs.Slots.{recs-append}
-use Rattle.ks_replay.proofs.Quiet.{tx_pending}
+use Rattle.ks_law_exactly_once.proofs.Slots.{recs-append}
+use Rattle.ks_law_exactly_once.proofs.Quiet.{tx_pending}
 use Rattle.ks_commit.specs.Sending.{Put, are_sent, put_for, put_count, puts_task, last_pending, Gains}
 use Rattle.ks_commit.proofs.Slots.{sent_next, sent_both, slots_sent, slots_length, open_append, open_sent}
 

@@ -6,7 +6,6 @@ pub mod Faith
 pub mod Marking
 pub mod Entries
 pub mod Turns
-pub mod Doubles
 pub mod Puts
 pub mod Written
 pub mod Starts

@@ -11,8 +11,8 @@ use Rattle.ks_history.specs.declared.transaction.Producer.{Producer}
 use Rattle.ks_history.specs.Partition.{count_sent}
 use Rattle.ks_history.specs.State.{State, with_number, grown, has_part}
 use Rattle.ks_history.specs.Step.{effect, closed, markers_for}
-use Rattle.ks_replay.proofs.Commits.{closed_waiting}
-use Rattle.ks_replay.proofs.Refusals.{closed_undecided}
+use Rattle.ks_law_exactly_once.proofs.Commits.{closed_waiting}
+use Rattle.ks_law_exactly_once.proofs.Refusals.{closed_undecided}
 use Rattle.ks_commit.specs.Sending.{Marks, marks_part}
 use Rattle.ks_commit.proofs.Slots.{count_append}
 use Rattle.ks_commit.proofs.Gaining.{at_it, beside_it}

@@ -13,19 +13,22 @@ use Rattle.ks_history.specs.declared.journal.Reply.{Reply}
 use Rattle.ks_history.specs.declared.transaction.Pending.{Pending}
 use Rattle.ks_history.specs.declared.transaction.Producer.{Producer}
 use Rattle.ks_history.specs.Partition.{count_sent}
-use Rattle.ks_history.specs.Machine.{Plan, has_topic, part_of}
+use Rattle.ks_history.specs.Machine.{TaskPlan, has_topic, part_of}
 use Rattle.ks_history.specs.State.{State, Setup, has_part, has_task}
 use Rattle.ks_history.specs.Step.{refusal, fenced, markers_waiting, without_part, out_of_sequence, old_generation, not_assigned, unstable_beside, or_else, tx_of}
 use Rattle.ks_history.specs.History.{are_offsets, names_topic}
 use Rattle.ks_history.specs.Reads.{end_of}
 use Rattle.ks_history.proofs.Names.{same_part-is, same_part-refl}
-use Rattle.ks_cluster.specs.Kept.{Kept, setup_of, state_of, Answers}
-use Rattle.ks_follow.specs.Views.{WorkView, pending_work}
+use Rattle.ks_cluster.specs.View.{ClusterView, setup_of, state_of, AddsEntry}
+use Rattle.ks_law_restore.specs.Views.{WorkView, pending_work}
 use Rattle.ks_commit.specs.declared.publisher.Publisher.{Publisher}
 use Rattle.ks_commit.specs.Alone.{number_in, IsNumbered}
 use Rattle.ks_commit.specs.Numbers.{without, renumber}
 use Rattle.ks_commit.specs.Sending.{Put, are_sent, put_count, Gains, Sends, adds_in, puts_in, adds_of, puts_of, pendings_of}
-use Rattle.ks_commit.specs.Committed.{IsSending, IsOfCluster}
+use Rattle.ks_commit.specs.declared.work.Frozen.{Frozen}
+use Rattle.ks_commit.specs.Work.{work_view}
+use Rattle.ks_commit.specs.Committed.{works_of, IsSending, IsOfCluster}
+use Rattle.ks_commit.proofs.Turns.{works_of-append}
 use Rattle.ks_commit.proofs.Slots.{sent_count, count_append, count_few}
 use Rattle.ks_commit.proofs.Gaining.{add_gains, append_gains, offsets_gains}
 use Rattle.ks_commit.proofs.Free.{none_then, not_fenced, none_wait, has_its_part, in_sequence, now_generation, is_assigned, stable_beside}
@@ -59,7 +62,7 @@ numbers_rise s new w e p t rs before now pairs made old is rises new_is counts q
     by false h = omega (arith, number_without q p pairs h, old q)
 
 -- ---- a publisher that goes on
-module _ {W : Type 0} (plan : W → Plan) (old new : Kept W) (p : Publisher) (sending : IsSending (setup_of plan old) (state_of plan old) p) where
+module _ {W : Type 0} (plan : W → TaskPlan) (old new : ClusterView W) (p : Publisher) (sending : IsSending (setup_of plan old) (state_of plan old) p) where
   pub sending_more : (adds : List PartId) (puts : List Put) (ps : List Pending) → Sends plan old new p.worker adds puts ps → (q : Publisher) → q.worker ≡ p.worker → q.epoch ≡ p.epoch → q.generation ≡ p.generation
       → IsNumbered (state_of plan new) p.worker p.epoch q.numbers.items → IsSending (setup_of plan new) (state_of plan new) q
   sending_more adds puts ps s q w e g numbers = record {
@@ -83,7 +86,7 @@ module _ {W : Type 0} (plan : W → Plan) (old new : Kept W) (p : Publisher) (se
       none_then (fenced ((state_of plan old).producer p.worker) p.epoch) (markers_waiting ((state_of plan old).producer p.worker))
       (not_fenced ((state_of plan old).producer p.worker) p.epoch sending.epoch) (none_wait ((state_of plan old).producer p.worker) sending.waiting)
 
-  pub add_sends : (part : PartId) (reply : Reply) → Answers plan old new (Add p.worker p.epoch part) reply → Sends plan old new p.worker (part ∷ []) [] []
+  pub add_sends : (part : PartId) (reply : Reply) → AddsEntry plan old new (Add p.worker p.epoch part) reply → Sends plan old new p.worker (part ∷ []) [] []
   add_sends part reply a =
       sends_one plan old new p.worker (part ∷ []) [] [] (Add p.worker p.epoch part) reply a (add_free part) refl (λ t. refl) (add_gains (state_of plan old) p.worker p.epoch part)
 
@@ -97,7 +100,7 @@ module _ {W : Type 0} (plan : W → Plan) (old new : Kept W) (p : Publisher) (se
       (none_then (not_assigned s p.worker t) (or_else (markers_waiting x) last) (is_assigned s p.worker t (sending.owns t has))
       (none_then (markers_waiting x) last (none_wait x sending.waiting) (stable_beside s p.worker t sending.others))))
 
-  pub offsets_sends : (t : TaskId) (offsets order : List (ℕ × ℕ)) (late : ℕ) (reply : Reply) → has_task t (setup_of plan old).tasks ≡ true → Answers plan old new (SendOffsets p.worker p.epoch p.generation t offsets order late) reply
+  pub offsets_sends : (t : TaskId) (offsets order : List (ℕ × ℕ)) (late : ℕ) (reply : Reply) → has_task t (setup_of plan old).tasks ≡ true → AddsEntry plan old new (SendOffsets p.worker p.epoch p.generation t offsets order late) reply
       → Sends plan old new p.worker [] [] (record { task = t; offsets = offsets; order = order; late = late } ∷ [])
   offsets_sends t offsets order late reply has a =
       sends_one plan old new p.worker [] [] (record { task = t; offsets = offsets; order = order; late = late } ∷ []) (SendOffsets p.worker p.epoch p.generation t offsets order late) reply a (offsets_free t offsets order late has)
@@ -108,8 +111,8 @@ or_there : (a : Bool) → a || (true || false) ≡ true
 or_there true = refl
 or_there false = refl
 
-module _ {W : Type 0} (plan : W → Plan) (old mid : Kept W) (p : Publisher) (t : TaskId) (part : PartId) (rs : List Rec) (before : ℕ) (first : Reply) (sending : IsSending (setup_of plan old) (state_of plan old) p) (is : before ≡ number_in part p.numbers.items)
-    (a : Answers plan old mid (Add p.worker p.epoch part) first) where
+module _ {W : Type 0} (plan : W → TaskPlan) (old mid : ClusterView W) (p : Publisher) (t : TaskId) (part : PartId) (rs : List Rec) (before : ℕ) (first : Reply) (sending : IsSending (setup_of plan old) (state_of plan old) p) (is : before ≡ number_in part p.numbers.items)
+    (a : AddsEntry plan old mid (Add p.worker p.epoch part) first) where
   one : Sends plan old mid p.worker (part ∷ []) [] []
   one = add_sends plan old mid p sending part first a
 
@@ -129,17 +132,17 @@ module _ {W : Type 0} (plan : W → Plan) (old mid : Kept W) (p : Publisher) (t 
       none_then (fenced x p.epoch) (or_else (without_part x part) (out_of_sequence (s.partition part) p.worker p.epoch before)) (not_fenced x p.epoch epoch_is)
       (none_then (without_part x part) (out_of_sequence (s.partition part) p.worker p.epoch before) (has_its_part x part there) (in_sequence (s.partition part) p.worker p.epoch before number_is))
 
-  pub put_sends : (new : Kept W) (second : Reply) → Answers plan mid new (Append p.worker p.epoch before t part rs) second → Sends plan old new p.worker (part ∷ []) ((t, part, rs) ∷ []) []
+  pub put_sends : (new : ClusterView W) (second : Reply) → AddsEntry plan mid new (Append p.worker p.epoch before t part rs) second → Sends plan old new p.worker (part ∷ []) ((t, part, rs) ∷ []) []
   put_sends new second b =
       sends_both plan old mid new p.worker (part ∷ []) [] [] ((t, part, rs) ∷ []) [] [] one
       (sends_one plan mid new p.worker [] ((t, part, rs) ∷ []) [] (Append p.worker p.epoch before t part rs) second b append_free
       refl (λ t. refl) (append_gains (state_of plan mid) p.worker p.epoch before t part rs (sym epoch_is)))
 
-pub put_counts : {W : Type 0} (plan : W → Plan) (old new : Kept W) (p : Publisher) (adds : List PartId) (puts : List Put) → IsSending (setup_of plan old) (state_of plan old) p → Sends plan old new p.worker adds puts [] → (q : PartId) →
+pub put_counts : {W : Type 0} (plan : W → TaskPlan) (old new : ClusterView W) (p : Publisher) (adds : List PartId) (puts : List Put) → IsSending (setup_of plan old) (state_of plan old) p → Sends plan old new p.worker adds puts [] → (q : PartId) →
     count_sent p.worker p.epoch ((state_of plan new).partition q) ≡ count_sent p.worker p.epoch ((state_of plan old).partition q) + put_count q puts
 put_counts plan old new p adds puts sending s q = gains_count (state_of plan old) (state_of plan new) p.worker adds puts [] s.gains p.epoch sending.epoch q
 
-pub put_fits : {W : Type 0} (plan : W → Plan) (old new : Kept W) (p : Publisher) (t : TaskId) (part : PartId) (rs : List Rec) (before : ℕ) → IsSending (setup_of plan old) (state_of plan old) p → before ≡ number_in part p.numbers.items
+pub put_fits : {W : Type 0} (plan : W → TaskPlan) (old new : ClusterView W) (p : Publisher) (t : TaskId) (part : PartId) (rs : List Rec) (before : ℕ) → IsSending (setup_of plan old) (state_of plan old) p → before ≡ number_in part p.numbers.items
     → Sends plan old new p.worker (part ∷ []) ((t, part, rs) ∷ []) [] → before + length rs ≤ end_of (state_of plan new) part
 put_fits plan old new p t part rs before sending is s =
     let counts : count_sent p.worker p.epoch ((state_of plan new).partition part) ≡ count_sent p.worker p.epoch ((state_of plan old).partition part) + (length rs + 0) =
@@ -155,7 +158,7 @@ puts_in-append : (t : TaskId) (xs ys : List (PartId × List Rec)) → puts_in t 
 puts_in-append t [] ys = refl
 puts_in-append t (x ∷ xs) ys = ap (λ l. (t, x.0, x.1) ∷ l) (puts_in-append t xs ys)
 
-pub outs_more : {W : Type 0} (plan : W → Plan) (old mid new : Kept W) (w : ℕ) (t : TaskId) (outs : List (PartId × List Rec)) (x : PartId × List Rec)
+pub outs_more : {W : Type 0} (plan : W → TaskPlan) (old mid new : ClusterView W) (w : ℕ) (t : TaskId) (outs : List (PartId × List Rec)) (x : PartId × List Rec)
     → Sends plan old mid w (adds_in outs) (puts_in t outs) [] → Sends plan mid new w (x.0 ∷ []) ((t, x.0, x.1) ∷ []) [] → Sends plan old new w (adds_in (outs ++ x ∷ [])) (puts_in t (outs ++ x ∷ [])) []
 outs_more plan old mid new w t outs x a b =
     subst (λ (l : List PartId). Sends plan old new w l (puts_in t (outs ++ x ∷ [])) []) (sym (adds_in-append outs (x ∷ [])))
@@ -175,11 +178,11 @@ pendings_of-append : (xs ys : List WorkView) → pendings_of (xs ++ ys) ≡ pend
 pendings_of-append [] ys = refl
 pendings_of-append (x ∷ xs) ys = ap (λ l. pending_work x ∷ l) (pendings_of-append xs ys)
 
-pub works_more : {W : Type 0} (plan : W → Plan) (old mid new : Kept W) (w : ℕ) (fs : List WorkView) (f : WorkView)
+works_added : {W : Type 0} (plan : W → TaskPlan) (old mid new : ClusterView W) (w : ℕ) (fs : List WorkView) (f : WorkView)
     → Sends plan old mid w (adds_of fs) (puts_of fs) (pendings_of fs)
     → Sends plan mid new w (adds_in f.outputs) (puts_in f.task f.outputs) (pending_work f ∷ [])
     → Sends plan old new w (adds_of (fs ++ f ∷ [])) (puts_of (fs ++ f ∷ [])) (pendings_of (fs ++ f ∷ []))
-works_more plan old mid new w fs f a b =
+works_added plan old mid new w fs f a b =
     let adds : adds_of fs ++ adds_in f.outputs ≡ adds_of (fs ++ f ∷ []) = sym (adds_of-append fs (f ∷ []) ∙ ap (λ l. adds_of fs ++ l) (append-nil (adds_in f.outputs))) in
     let puts : puts_of fs ++ puts_in f.task f.outputs ≡ puts_of (fs ++ f ∷ []) = sym (puts_of-append fs (f ∷ []) ∙ ap (λ l. puts_of fs ++ l) (append-nil (puts_in f.task f.outputs))) in
     let ps : pendings_of fs ++ pending_work f ∷ [] ≡ pendings_of (fs ++ f ∷ []) = sym (pendings_of-append fs (f ∷ [])) in
@@ -187,6 +190,13 @@ works_more plan old mid new w fs f a b =
     (subst (λ (l : List Put). Sends plan old new w (adds_of fs ++ adds_in f.outputs) l (pendings_of (fs ++ f ∷ []))) puts
     (subst (λ (l : List Pending). Sends plan old new w (adds_of fs ++ adds_in f.outputs) (puts_of fs ++ puts_in f.task f.outputs) l) ps
     (sends_both plan old mid new w (adds_of fs) (adds_in f.outputs) (puts_of fs) (puts_in f.task f.outputs) (pendings_of fs) (pending_work f ∷ []) a b)))
+
+pub works_more : {W : Type 0} (plan : W → TaskPlan) (old mid new : ClusterView W) (w : ℕ) (fs : List Frozen) (f : Frozen)
+    → Sends plan old mid w (adds_of (works_of fs)) (puts_of (works_of fs)) (pendings_of (works_of fs))
+    → Sends plan mid new w (adds_in f.outputs) (puts_in f.task f.outputs) (pending_work (work_view f) ∷ [])
+    → Sends plan old new w (adds_of (works_of (fs ++ f ∷ []))) (puts_of (works_of (fs ++ f ∷ []))) (pendings_of (works_of (fs ++ f ∷ [])))
+works_more plan old mid new w fs f a b =
+    subst (λ (ws : List WorkView). Sends plan old new w (adds_of ws) (puts_of ws) (pendings_of ws)) (sym (works_of-append fs (f ∷ []))) (works_added plan old mid new w (works_of fs) (work_view f) a b)
 
 le_of : (a b : ℕ) → nat_le a b ≡ true → a ≤ b
 le_of a b h = ⊎_elim (λ (t : (leb a b ≡ true) × (a ≤ b)). t.1) (λ (t : (leb a b ≡ false) × (b < a)). absurd (true≢false (sym h ∙ t.0))) (leb_tells a b)
@@ -208,7 +218,7 @@ offsets_later setup s new t (pair ∷ pairs) grows h = by (names_topic pair.0 pa
 gains_longer : (s new : State) (w : ℕ) (adds : List PartId) (puts : List Put) (ps : List Pending) → Gains s new w adds puts ps → (q : PartId) → length (s.partition q) ≤ length (new.partition q)
 gains_longer s new w adds puts ps g q = omega (arith, ap length (g.partition q), length-append (s.partition q) (g.slots q))
 
-pub of_cluster_later : {W : Type 0} (plan : W → Plan) (old new : Kept W) (w : ℕ) (adds : List PartId) (puts : List Put) (ps : List Pending) (f : WorkView) → Sends plan old new w adds puts ps → IsOfCluster (setup_of plan old) (state_of plan old) f
+pub of_cluster_later : {W : Type 0} (plan : W → TaskPlan) (old new : ClusterView W) (w : ℕ) (adds : List PartId) (puts : List Put) (ps : List Pending) (f : WorkView) → Sends plan old new w adds puts ps → IsOfCluster (setup_of plan old) (state_of plan old) f
     → IsOfCluster (setup_of plan new) (state_of plan new) f
 of_cluster_later plan old new w adds puts ps f s is =
     subst (λ (setup : Setup). IsOfCluster setup (state_of plan new) f) (sym (later_setup plan old new s.more s.is)) (record {
@@ -217,7 +227,7 @@ of_cluster_later plan old new w adds puts ps f s is =
       parts = is.parts;
     })
 
-pub work_sends : {W : Type 0} (plan : W → Plan) (old mid new : Kept W) (w : ℕ) (t : TaskId) (outs : List (PartId × List Rec)) (p : Pending) → Sends plan old mid w (adds_in outs) (puts_in t outs) [] → Sends plan mid new w [] [] (p ∷ [])
+pub work_sends : {W : Type 0} (plan : W → TaskPlan) (old mid new : ClusterView W) (w : ℕ) (t : TaskId) (outs : List (PartId × List Rec)) (p : Pending) → Sends plan old mid w (adds_in outs) (puts_in t outs) [] → Sends plan mid new w [] [] (p ∷ [])
     → Sends plan old new w (adds_in outs) (puts_in t outs) (p ∷ [])
 work_sends plan old mid new w t outs p a b =
     subst (λ (l : List PartId). Sends plan old new w l (puts_in t outs) (p ∷ [])) (append-nil (adds_in outs))

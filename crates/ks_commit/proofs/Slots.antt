@@ -12,11 +12,11 @@ use Rattle.ks_history.specs.Partition.{Logged, next_mark, by_mark, stable, is_co
 use Rattle.ks_history.specs.State.{State, Setup}
 use Rattle.ks_history.specs.Faithful.{marker_among}
 use Rattle.ks_history.proofs.Names.{same_task-is}
-use Rattle.ks_replay.proofs.Slots.{Waiting, keep_append, next_mark-append, next_mark-sent, decision_none, Open-map, not_mine}
-use Rattle.ks_replay.proofs.Sound.{Open, IsOfTx, Owned, Sound}
+use Rattle.ks_law_exactly_once.proofs.Slots.{Waiting, keep_append, next_mark-append, next_mark-sent, decision_none, Open-map, not_mine}
+use Rattle.ks_law_exactly_once.proofs.Sound.{Open, IsOfTx, Owned, Sound}
 use Rattle.ks_history.specs.History.{at}
-use Rattle.ks_replay.specs.Law.{OfHistories}
-use Rattle.ks_replay.proofs.Replays.{whole}
+use Rattle.ks_law_exactly_once.specs.Law.{OfHistories}
+use Rattle.ks_law_exactly_once.proofs.Replays.{whole}
 use Rattle.ks_commit.specs.Alone.{IsIdle, IsStable}
 use Rattle.ks_commit.specs.Sending.{are_sent}
 

@@ -13,14 +13,14 @@ use Rattle.ks_history.specs.declared.journal.Reply.{Reply}
 use Rattle.ks_history.specs.declared.journal.Reply.TheVariants.{Number}
 use Rattle.ks_history.specs.declared.transaction.Producer.{Producer}
 use Rattle.ks_history.specs.Partition.{count_sent}
-use Rattle.ks_history.specs.Machine.{Plan, IsNetwork}
+use Rattle.ks_history.specs.Machine.{TaskPlan, IsNetwork}
 use Rattle.ks_history.specs.State.{State, Setup, has_task, has_number, insert_number, are_once}
 use Rattle.ks_history.specs.Step.{refusal, effect, renewed, old_generation, is_place, place_in, owner, places_of, lesser, badly_placed, bad_assignment}
 use Rattle.ks_history.specs.History.{are_places, IsHistory}
 use Rattle.ks_history.proofs.Names.{same_task-is, same_task-refl}
-use Rattle.ks_replay.proofs.Refusals.{closed_undecided, closed_waiting}
-use Rattle.ks_replay.proofs.Quiet.{aborted_waiting}
-use Rattle.ks_cluster.specs.Kept.{Kept, setup_of, state_of, Answers}
+use Rattle.ks_law_exactly_once.proofs.Refusals.{closed_undecided, closed_waiting}
+use Rattle.ks_law_exactly_once.proofs.Quiet.{aborted_waiting}
+use Rattle.ks_cluster.specs.View.{ClusterView, setup_of, state_of, AddsEntry}
 use Rattle.ks_commit.specs.Alone.{IsIdle, IsAlone}
 use Rattle.ks_commit.specs.Everything.{at_worker, everything}
 use Rattle.ks_commit.specs.Sending.{IsLonger}
@@ -107,9 +107,9 @@ init_idle s w idle v = by (v == w)
     by false = idle v
 
 -- ---- the three calls
-module _ {W : Type 0} (plan : W → Plan) (old first second new : Kept W) (w epoch generation : ℕ) (a : Assignment) (reply : Reply)
+module _ {W : Type 0} (plan : W → TaskPlan) (old first second new : ClusterView W) (w epoch generation : ℕ) (a : Assignment) (reply : Reply)
     (few : w ≤ 16) (idle : IsIdle (state_of plan old)) (net : IsNetwork (plan old.work)) (history : IsHistory (setup_of plan old) old.journal) (once : are_once old.tasks ≡ true) (all : a ≡ everything w old.tasks)
-    (init : Answers plan old first (Init w) (Number epoch)) (join : Answers plan first second (Join w) (Number generation)) (free : refusal (setup_of plan second) (state_of plan second) (Assign w generation a) ≡ None) (assign : Answers plan second new (Assign w generation a) reply) where
+    (init : AddsEntry plan old first (Init w) (Number epoch)) (join : AddsEntry plan first second (Join w) (Number generation)) (free : refusal (setup_of plan second) (state_of plan second) (Assign w generation a) ≡ None) (assign : AddsEntry plan second new (Assign w generation a) reply) where
   one : state_of plan first ≡ effect (state_of plan old) (Init w)
   one = new_state plan old first (Init w) (Number epoch) init refl
 
@@ -163,7 +163,7 @@ module _ {W : Type 0} (plan : W → Plan) (old first second new : Kept W) (w epo
   }
 
 -- what the last call asks
-pub assign_meets : {W : Type 0} (plan : W → Plan) (old first second : Kept W) (w epoch generation : ℕ) (a : Assignment) → w ≤ 16 → a ≡ everything w old.tasks → Answers plan old first (Init w) (Number epoch) → Answers plan first second (Join w) (Number generation)
+pub assign_meets : {W : Type 0} (plan : W → TaskPlan) (old first second : ClusterView W) (w epoch generation : ℕ) (a : Assignment) → w ≤ 16 → a ≡ everything w old.tasks → AddsEntry plan old first (Init w) (Number epoch) → AddsEntry plan first second (Join w) (Number generation)
     → (w ≤ 16) × (are_places (setup_of plan second) a.active ≡ true) × (are_places (setup_of plan second) a.standby ≡ true) × (are_places (setup_of plan second) a.warmup ≡ true)
 assign_meets plan old first second w epoch generation a few all init join =
     let same : (setup_of plan second).tasks ≡ old.tasks = ap (λ (setup : Setup). setup.tasks) (later_setup plan first second (record { request = Join w; reply = Number generation } ∷ []) join.journal ∙ later_setup plan old first (record { request = Init w; reply = Number epoch } ∷ []) init.journal) in (
@@ -174,7 +174,7 @@ assign_meets plan old first second w epoch generation a few all init join =
     )
 
 -- what the last call asks is granted
-pub assign_free : {W : Type 0} (plan : W → Plan) (old first second : Kept W) (w epoch generation : ℕ) (a : Assignment) → are_once old.tasks ≡ true → a ≡ everything w old.tasks → Answers plan old first (Init w) (Number epoch) → Answers plan first second (Join w) (Number generation)
+pub assign_free : {W : Type 0} (plan : W → TaskPlan) (old first second : ClusterView W) (w epoch generation : ℕ) (a : Assignment) → are_once old.tasks ≡ true → a ≡ everything w old.tasks → AddsEntry plan old first (Init w) (Number epoch) → AddsEntry plan first second (Join w) (Number generation)
     → refusal (setup_of plan second) (state_of plan second) (Assign w generation a) ≡ None
 assign_free plan old first second w epoch generation a once all init join =
     let one : state_of plan first ≡ effect (state_of plan old) (Init w) = new_state plan old first (Init w) (Number epoch) init refl in

@@ -1,11 +1,12 @@
 -- A loop that takes the items of a list one after another.
-use Rattle.std.proofs.Common.{◌≡◌, List, [], ◌∷◌, ◌++◌, length, sym, ap, subst, ◌∙◌, arith, append-nil, append_assoc}
+use Rattle.std.proofs.Common.{◌≡◌, List, [], ◌∷◌, ◌++◌, length, refl, sym, ap, subst, ◌∙◌, arith, append-nil, append_assoc}
 use Rattle.std.specs.List.{All}
 use Rattle.std.proofs.Math.Seq.{get_or-append_seam}
 use Rattle.std.proofs.lemmas.List.{length-append}
 use Rattle.ks_history.specs.State.{State, Setup}
-use Rattle.ks_follow.specs.Views.{WorkView}
-use Rattle.ks_commit.specs.Committed.{IsOfCluster, EachOf}
+use Rattle.ks_commit.specs.declared.work.Frozen.{Frozen}
+use Rattle.ks_commit.specs.Work.{work_view}
+use Rattle.ks_commit.specs.Committed.{works_of, IsOfCluster, EachOf}
 
 -- one more is taken
 pub one_taken : {A : Type 0} (taken left all more : List A) (x : A) → taken ++ left ≡ all → left ≡ x ∷ more → (taken ++ x ∷ []) ++ more ≡ all
@@ -23,5 +24,10 @@ next_has P taken left all more x each whole next =
     subst P (get_or-append_seam taken x more x) (subst (All P) (sym is) each (length taken) x (omega (arith, length-append taken (x ∷ more))))
 
 -- the next work, and those after it
-pub next_of : (setup : Setup) (s : State) (left more : List WorkView) (x : WorkView) → EachOf setup s left → left ≡ x ∷ more → IsOfCluster setup s x × EachOf setup s more
-next_of setup s left more x each next = subst (EachOf setup s) next each
+pub next_of : (setup : Setup) (s : State) (left more : List Frozen) (x : Frozen) → EachOf setup s (works_of left) → left ≡ x ∷ more → IsOfCluster setup s (work_view x) × EachOf setup s (works_of more)
+next_of setup s left more x each next = subst (λ (fs : List Frozen). EachOf setup s (works_of fs)) next each
+
+-- one work more
+pub works_of-append : (fs gs : List Frozen) → works_of (fs ++ gs) ≡ works_of fs ++ works_of gs
+works_of-append [] gs = refl
+works_of-append (f ∷ fs) gs = ap (λ ws. work_view f ∷ ws) (works_of-append fs gs)

@@ -8,10 +8,10 @@ use Rattle.ks_history.specs.declared.journal.Request.TheVariants.{MarkNext}
 use Rattle.ks_history.specs.declared.journal.Reply.{Reply}
 use Rattle.ks_history.specs.declared.journal.Reply.TheVariants.{Mark as Told}
 use Rattle.ks_history.specs.declared.transaction.Producer.{Producer}
-use Rattle.ks_history.specs.Machine.{Plan}
+use Rattle.ks_history.specs.Machine.{TaskPlan}
 use Rattle.ks_history.specs.State.{State, with_number, grown}
 use Rattle.ks_history.specs.Step.{effect, answer}
-use Rattle.ks_cluster.specs.Kept.{Kept, state_of, Answers}
+use Rattle.ks_cluster.specs.View.{ClusterView, state_of, AddsEntry}
 use Rattle.ks_commit.specs.Sending.{Marks, Marked}
 use Rattle.ks_commit.proofs.Gaining.{at_it}
 use Rattle.ks_commit.proofs.Marking.{mark_marks, marks_nothing}
@@ -51,12 +51,12 @@ mark_moves s new w m is told = by (s.producer w).waiting refl is told
           done = λ (no : is_some m ≡ false). absurd (let bad : true ≡ false = sym (ap is_some some) ∙ no in cc);
         })
 
-pub record MarkStep {W : Type 0} (plan : W → Plan) (old new : Kept W) (w : ℕ) (m : Option (PartId × Bool)) : Type 0 where
+pub record MarkStep {W : Type 0} (plan : W → TaskPlan) (old new : ClusterView W) (w : ℕ) (m : Option (PartId × Bool)) : Type 0 where
   pub marked : Marked plan old new w
   pub fewer : length ((state_of plan new).producer w).waiting + cond (is_some m) 1 0 ≡ length ((state_of plan old).producer w).waiting
   pub done : is_some m ≡ false → ((state_of plan new).producer w).waiting ≡ []
 
-pub mark_step : {W : Type 0} (plan : W → Plan) (old new : Kept W) (w : ℕ) (m : Option (PartId × Bool)) → Answers plan old new (MarkNext w) (Told m) → MarkStep plan old new w m
+pub mark_step : {W : Type 0} (plan : W → TaskPlan) (old new : ClusterView W) (w : ℕ) (m : Option (PartId × Bool)) → AddsEntry plan old new (MarkNext w) (Told m) → MarkStep plan old new w m
 mark_step plan old new w m a =
     let moves : Moves (state_of plan old) (state_of plan new) w m = mark_moves (state_of plan old) (state_of plan new) w m (new_state plan old new (MarkNext w) (Told m) a refl) a.step in
     record {

@@ -5,14 +5,14 @@ use Rattle.ks_row.specs.declared.record.Rec.{Rec}
 use Rattle.ks_row.specs.declared.record.PartId.{PartId}
 use Rattle.ks_row.specs.declared.record.TaskId.{TaskId}
 use Rattle.ks_history.specs.declared.journal.Entry.{Entry}
-use Rattle.ks_history.specs.Machine.{Plan}
+use Rattle.ks_history.specs.Machine.{TaskPlan}
 use Rattle.ks_history.specs.State.{State, Setup, IsPart, has_task, are_once, pending_of, committed_with}
 use Rattle.ks_history.specs.Step.{owner}
 use Rattle.ks_history.specs.History.{are_offsets}
 use Rattle.ks_history.specs.Reads.{end_of}
-use Rattle.ks_follow.specs.Views.{WorkView, IsWork, names_part, AreEnds}
-use Rattle.ks_follow.specs.Commits.{commits_for, commit_by}
-use Rattle.ks_cluster.specs.Kept.{Kept, setup_of, state_of}
+use Rattle.ks_law_restore.specs.Views.{WorkView, IsWork, names_part, AreEnds}
+use Rattle.ks_law_restore.specs.Commits.{commits_for, commit_by}
+use Rattle.ks_cluster.specs.View.{ClusterView, setup_of, state_of}
 use Rattle.ks_commit.specs.declared.work.Frozen.{Frozen}
 use Rattle.ks_commit.specs.declared.publisher.Publisher.{Publisher}
 use Rattle.ks_commit.specs.Work.{work_view}
@@ -105,7 +105,7 @@ ends_of_each s [] = []
 ends_of_each s (own ∷ all) = ends_at s own ∷ ends_of_each s all
 
 -- one transaction committed these works
-pub record Committed {W : Type 0} (plan : W → Plan) (old new : Kept W) (w : ℕ) (fs : List WorkView) (told : List (List (ℕ × ℕ))) : Type 0 where
+pub record Committed {W : Type 0} (plan : W → TaskPlan) (old new : ClusterView W) (w : ℕ) (fs : List WorkView) (told : List (List (ℕ × ℕ))) : Type 0 where
   pub more : List Entry
   pub is : IsLonger old new more
   pub quiet : produce_none more ≡ true
@@ -116,7 +116,7 @@ pub record Committed {W : Type 0} (plan : W → Plan) (old new : Kept W) (w : �
   pub ends : EachEnds (setup_of plan old) (state_of plan new) fs told
 
 -- a worker has joined a cluster and has every task: nothing is produced, committed or put anywhere
-pub record Started {W : Type 0} (plan : W → Plan) (old new : Kept W) : Type 0 where
+pub record Started {W : Type 0} (plan : W → TaskPlan) (old new : ClusterView W) : Type 0 where
   pub more : List Entry
   pub is : IsLonger old new more
   pub quiet : produce_none more ≡ true

@@ -12,12 +12,12 @@ use Rattle.ks_history.specs.declared.journal.Request.TheVariants.{Produce}
 use Rattle.ks_history.specs.declared.journal.Entry.{Entry}
 use Rattle.ks_history.specs.declared.transaction.Pending.{Pending}
 use Rattle.ks_history.specs.Partition.{recs, open_from, count_sent}
-use Rattle.ks_history.specs.Machine.{Plan}
+use Rattle.ks_history.specs.Machine.{TaskPlan}
 use Rattle.ks_history.specs.State.{State, has_part, has_task, pending_of}
 use Rattle.ks_history.specs.Step.{tx_of, pending_at, owner}
-use Rattle.ks_follow.specs.Views.{WorkView, pending_work}
-use Rattle.ks_follow.specs.Commits.{commits_for}
-use Rattle.ks_cluster.specs.Kept.{Kept, setup_of, state_of}
+use Rattle.ks_law_restore.specs.Views.{WorkView, pending_work}
+use Rattle.ks_law_restore.specs.Commits.{commits_for}
+use Rattle.ks_cluster.specs.View.{ClusterView, setup_of, state_of}
 
 -- all of these slots are records of this producer and epoch
 abbrev pub are_sent : ℕ → ℕ → List Slot → Bool
@@ -78,14 +78,14 @@ produce_none [] = true
 produce_none (entry ∷ entries) = if is_produce entry.request then false else produce_none entries
 
 -- the journal is longer, and all else of the cluster is the same
-abbrev pub IsLonger : {W : Type 0} → Kept W → Kept W → List Entry → Type 0
+abbrev pub IsLonger : {W : Type 0} → ClusterView W → ClusterView W → List Entry → Type 0
 IsLonger old new more = new ≡ record old { journal = old.journal ++ more }
 
-abbrev pub Longer : {W : Type 0} → Kept W → Kept W → Type 0
+abbrev pub Longer : {W : Type 0} → ClusterView W → ClusterView W → Type 0
 Longer old new = (more : List Entry) × IsLonger old new more
 
 -- the cluster gained this, and neither is anything produced nor committed
-pub record Sends {W : Type 0} (plan : W → Plan) (old new : Kept W) (w : ℕ) (adds : List PartId) (puts : List Put) (ps : List Pending) : Type 0 where
+pub record Sends {W : Type 0} (plan : W → TaskPlan) (old new : ClusterView W) (w : ℕ) (adds : List PartId) (puts : List Put) (ps : List Pending) : Type 0 where
   pub more : List Entry
   pub is : IsLonger old new more
   pub quiet : produce_none more ≡ true
@@ -130,7 +130,7 @@ pub record Marks (s new : State) (w : ℕ) : Type 0 where
   pub partition : (q : PartId) → marks_part q (s.producer w).waiting ≡ false → new.partition q ≡ s.partition q
   pub waiting : (q : PartId) → marks_part q (s.producer w).waiting ≡ false → marks_part q (new.producer w).waiting ≡ false
 
-pub record Marked {W : Type 0} (plan : W → Plan) (old new : Kept W) (w : ℕ) : Type 0 where
+pub record Marked {W : Type 0} (plan : W → TaskPlan) (old new : ClusterView W) (w : ℕ) : Type 0 where
   pub more : List Entry
   pub is : IsLonger old new more
   pub quiet : produce_none more ≡ true

@@ -1,5 +1,5 @@
 -- A task's work, as its laws speak of it.
-use Rattle.ks_follow.specs.Views.{WorkView}
+use Rattle.ks_law_restore.specs.Views.{WorkView}
 use Rattle.ks_commit.specs.declared.work.Frozen.{Frozen}
 
 abbrev pub work_view : Frozen → WorkView

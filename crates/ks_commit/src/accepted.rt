@@ -4,7 +4,7 @@ ghost use Rattle.ks_history.specs.declared.journal.Request.TheVariants.{Add, App
 ghost use Rattle.ks_history.specs.declared.journal.Reply.TheVariants.{Done, Number, Truth};
 ghost use Rattle.ks_history.specs.Step.{refusal};
 ghost use Rattle.ks_history.specs.History.{Meets, CommitsFaithfully};
-ghost use Rattle.ks_cluster.specs.Kept.{setup_of, state_of, Answers};
+ghost use Rattle.ks_cluster.specs.View.{setup_of, state_of, AddsEntry};
 
 use ks_cluster::{Cluster, Work};
 use ks_row::{Assignment, PartId, Rec, TaskId};
@@ -20,7 +20,7 @@ pub fn add<W: Work>(
 ) -> Result<(), AllocError>
     requires meets { Meets (setup_of W.plan cluster.old) (state_of W.plan cluster.old) (Add w epoch part) }
     requires free { refusal (setup_of W.plan cluster.old) (state_of W.plan cluster.old) (Add w epoch part) ≡ None }
-    ensures ok { OnOk result (Answers W.plan cluster.old cluster.new (Add w epoch part) Done) }
+    ensures ok { OnOk result (AddsEntry W.plan cluster.old cluster.new (Add w epoch part) Done) }
     ensures err { OnErr result (cluster.new ≡ cluster.old) }
 {
     match cluster.add(alloc, w, epoch, part)? {
@@ -29,7 +29,7 @@ pub fn add<W: Work>(
     }
 }
 
-/// Appends records of a task, with the same records for the journal, and answers the first offset.
+/// Appends records of a task, and answers the first offset.
 pub fn append<W: Work>(
     alloc: Global,
     cluster: &mut Cluster<W>,
@@ -38,16 +38,14 @@ pub fn append<W: Work>(
     number: u64,
     task: TaskId,
     part: PartId,
-    recs: Vec<Rec>,
-    kept: Vec<Rec>,
+    recs: &[Rec],
 ) -> Result<u64, AllocError>
-    requires meets { Meets (setup_of W.plan cluster.old) (state_of W.plan cluster.old) (Append w epoch number task part recs.items) }
-    requires free { refusal (setup_of W.plan cluster.old) (state_of W.plan cluster.old) (Append w epoch number task part recs.items) ≡ None }
-    requires same { kept.items ≡ recs.items }
-    ensures ok { IfOk result (λ n. Answers W.plan cluster.old cluster.new (Append w epoch number task part recs.items) (Number n)) }
+    requires meets { Meets (setup_of W.plan cluster.old) (state_of W.plan cluster.old) (Append w epoch number task part recs.now) }
+    requires free { refusal (setup_of W.plan cluster.old) (state_of W.plan cluster.old) (Append w epoch number task part recs.now) ≡ None }
+    ensures ok { IfOk result (λ n. AddsEntry W.plan cluster.old cluster.new (Append w epoch number task part recs.now) (Number n)) }
     ensures err { OnErr result (cluster.new ≡ cluster.old) }
 {
-    match cluster.append_owned(alloc, w, epoch, number, task, part, recs, kept)? {
+    match cluster.append(alloc, w, epoch, number, task, part, recs)? {
         Ok(offset) => Ok(offset),
         Err(_) => unreachable!(),
     }
@@ -67,7 +65,7 @@ pub fn send_offsets<W: Work>(
 ) -> Result<(), AllocError>
     requires meets { Meets (setup_of W.plan cluster.old) (state_of W.plan cluster.old) (SendOffsets w epoch generation task offsets.now order.now late) }
     requires free { refusal (setup_of W.plan cluster.old) (state_of W.plan cluster.old) (SendOffsets w epoch generation task offsets.now order.now late) ≡ None }
-    ensures ok { OnOk result (Answers W.plan cluster.old cluster.new (SendOffsets w epoch generation task offsets.now order.now late) Done) }
+    ensures ok { OnOk result (AddsEntry W.plan cluster.old cluster.new (SendOffsets w epoch generation task offsets.now order.now late) Done) }
     ensures err { OnErr result (cluster.new ≡ cluster.old) }
 {
     match cluster.send_offsets(alloc, w, epoch, generation, task, offsets, order, late)? {
@@ -86,7 +84,7 @@ pub fn decide<W: Work>(
     requires meets { Meets (setup_of W.plan cluster.old) (state_of W.plan cluster.old) (Decide w epoch true) }
     requires faithful { CommitsFaithfully (setup_of W.plan cluster.old) (state_of W.plan cluster.old) (Decide w epoch true) }
     requires free { refusal (setup_of W.plan cluster.old) (state_of W.plan cluster.old) (Decide w epoch true) ≡ None }
-    ensures ok { OnOk result (Answers W.plan cluster.old cluster.new (Decide w epoch true) Done) }
+    ensures ok { OnOk result (AddsEntry W.plan cluster.old cluster.new (Decide w epoch true) Done) }
     ensures err { OnErr result (cluster.new ≡ cluster.old) }
 {
     match cluster.decide(alloc, w, epoch, true)? {
@@ -105,7 +103,7 @@ pub fn assign<W: Work>(
 ) -> Result<bool, AllocError>
     requires meets { Meets (setup_of W.plan cluster.old) (state_of W.plan cluster.old) (Assign w generation a.now) }
     requires free { refusal (setup_of W.plan cluster.old) (state_of W.plan cluster.old) (Assign w generation a.now) ≡ None }
-    ensures ok { IfOk result (λ b. Answers W.plan cluster.old cluster.new (Assign w generation a.now) (Truth b)) }
+    ensures ok { IfOk result (λ b. AddsEntry W.plan cluster.old cluster.new (Assign w generation a.now) (Truth b)) }
     ensures err { OnErr result (cluster.new ≡ cluster.old) }
 {
     match cluster.assign(alloc, w, generation, a)? {

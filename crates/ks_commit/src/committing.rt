@@ -3,12 +3,11 @@ ghost use Rattle.std.specs.Prelude.{◌≡◌, ◌≢◌, ℕ, [], OnOk, IfOk, O
 ghost use Rattle.std.specs.List.{All};
 ghost use Rattle.ks_history.specs.Machine.{IsNetwork};
 ghost use Rattle.ks_history.specs.State.{IsPart};
-ghost use Rattle.ks_cluster.specs.Kept.{setup_of, state_of};
+ghost use Rattle.ks_cluster.specs.View.{setup_of, state_of};
 ghost use Rattle.ks_commit.specs.Sending.{Longer};
 ghost use Rattle.ks_commit.specs.Committed.{works_of, IsReady, IsSame, EachMay, EachPlaced, AreApart, Committed, own_in, own_of_each, ends_at, ends_of_each};
 
 use crate::accepted::decide;
-use crate::doubling::all_doubled;
 use crate::markers::write_markers;
 use crate::publisher::Publisher;
 use crate::sending::send_all;
@@ -16,7 +15,6 @@ use crate::work::Frozen;
 use ks_cluster::{Cluster, Work};
 use ks_row::{PartId, Seq};
 use std::alloc::{AllocError, Global};
-use std::thread::Threads;
 
 /// A task's own partitions among its outputs.
 fn own_parts(alloc: Global, work: &Frozen) -> Result<Seq<PartId>, AllocError>
@@ -79,10 +77,9 @@ fn all_ends<W: Work>(
 /// once, and the markers are written. Answers for each work the ends of its task's own partitions among its outputs, which are
 /// past its changelog records.
 ///
-/// The records go into the log themselves, and copies of them, which are made side by side, into the journal. After want of
-/// memory the works are gone, and the transaction may be undecided or decided.
-pub fn commit<R: Threads + Sync, W: Work>(
-    rt: &R,
+/// Log and journal share the payloads of the records. After want of memory the works are gone, and the transaction may be
+/// undecided or decided.
+pub fn commit<W: Work>(
     alloc: Global,
     cluster: &mut Cluster<W>,
     publisher: &mut Publisher,
@@ -100,8 +97,7 @@ pub fn commit<R: Threads + Sync, W: Work>(
 {
     let _before = cluster.journal();
     let own = all_own(alloc, works.as_slice())?;
-    let twice = all_doubled(rt, alloc, works)?;
-    send_all(alloc, cluster, publisher, twice)?;
+    send_all(alloc, cluster, publisher, works)?;
     decide(alloc, cluster, publisher.worker, publisher.epoch)?;
     write_markers(alloc, cluster, publisher.worker)?;
     let _after = cluster.journal();

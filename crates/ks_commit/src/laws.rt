@@ -1,5 +1,5 @@
 //! What holds between two transactions, and of every producer. Each law is the contract of a function that does nothing.
-ghost use Rattle.ks_replay.specs.Law.{OfHistories};
+ghost use Rattle.ks_law_exactly_once.specs.Law.{OfHistories};
 ghost use Rattle.ks_commit.specs.Alone.{IsStable, HasSeventeen, IsOfPast};
 
 /// Between two transactions the stable offset of each partition is its end.

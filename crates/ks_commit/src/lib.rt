@@ -3,7 +3,6 @@
 
 mod accepted;
 mod committing;
-mod doubling;
 pub mod laws;
 mod markers;
 mod numbers;

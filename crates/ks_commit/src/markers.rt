@@ -1,6 +1,6 @@
 //! The markers of a decided transaction.
 ghost use Rattle.std.specs.Prelude.{◌≡◌, ℕ, ◌≤◌, None, [], OnOk, OnErr};
-ghost use Rattle.ks_cluster.specs.Kept.{state_of};
+ghost use Rattle.ks_cluster.specs.View.{state_of};
 ghost use Rattle.ks_commit.specs.Sending.{Longer, Marked};
 
 use ks_cluster::{Cluster, Work};

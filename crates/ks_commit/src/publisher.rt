@@ -2,7 +2,7 @@
 ghost use Rattle.std.specs.Prelude.{◌≡◌, ℕ, ◌≤◌, true, IfOk, OnErr};
 ghost use Rattle.ks_history.specs.Machine.{IsNetwork};
 ghost use Rattle.ks_history.specs.State.{are_once};
-ghost use Rattle.ks_cluster.specs.Kept.{setup_of, state_of};
+ghost use Rattle.ks_cluster.specs.View.{setup_of, state_of};
 ghost use Rattle.ks_commit.specs.Alone.{IsIdle};
 ghost use Rattle.ks_commit.specs.Committed.{IsReady, Started};
 ghost use Rattle.ks_commit.specs.Sending.{Longer};

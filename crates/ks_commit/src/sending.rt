@@ -2,49 +2,45 @@
 ghost use Rattle.std.specs.Prelude.{◌≡◌, ℕ, true, List, [], ◌∷◌, OnOk, OnErr};
 ghost use Rattle.std.specs.List.{All};
 ghost use Rattle.ks_history.specs.State.{IsPart, has_task};
-ghost use Rattle.ks_cluster.specs.Kept.{setup_of, state_of};
-ghost use Rattle.ks_follow.specs.Views.{pending_work};
+ghost use Rattle.ks_cluster.specs.View.{setup_of, state_of};
+ghost use Rattle.ks_law_restore.specs.Views.{pending_work};
 ghost use Rattle.ks_commit.specs.Sending.{Longer, Sends, adds_in, puts_in, adds_of, puts_of, pendings_of};
-ghost use Rattle.ks_commit.specs.Committed.{IsSending, IsSame, IsOfCluster, EachOf};
+ghost use Rattle.ks_commit.specs.Work.{work_view};
+ghost use Rattle.ks_commit.specs.Committed.{works_of, IsSending, IsSame, IsOfCluster, EachOf};
 
 use crate::accepted::{add, append, send_offsets};
-use crate::doubling::{Doubled, Output};
 use crate::numbers::{number, renumbered};
 use crate::publisher::Publisher;
+use crate::work::Frozen;
 use ks_cluster::{Cluster, Work};
-use ks_row::{PartId, Rec, TaskId};
+use ks_row::{PartId, Rec, Seq, TaskId};
 use std::alloc::{AllocError, Global};
 
-/// Takes a partition into the transaction, and puts records of a task there, with the same records for the journal.
+/// Takes a partition into the transaction, and puts records of a task there.
 fn put<W: Work>(
     alloc: Global,
     cluster: &mut Cluster<W>,
     publisher: &mut Publisher,
     task: TaskId,
     part: PartId,
-    recs: Vec<Rec>,
-    kept: Vec<Rec>,
+    recs: &[Rec],
 ) -> Result<(), AllocError>
     requires sending { IsSending (setup_of W.plan cluster.old) (state_of W.plan cluster.old) publisher.old }
     requires part { IsPart (setup_of W.plan cluster.old) part }
     requires task { has_task task (setup_of W.plan cluster.old).tasks ≡ true }
-    requires twice { kept.items ≡ recs.items }
-    ensures sends { OnOk result (Sends W.plan cluster.old cluster.new publisher.old.worker (part ∷ []) ((task, part, recs.items) ∷ []) []) }
+    ensures sends { OnOk result (Sends W.plan cluster.old cluster.new publisher.old.worker (part ∷ []) ((task, part, recs.now) ∷ []) []) }
     ensures sending { OnOk result (IsSending (setup_of W.plan cluster.new) (state_of W.plan cluster.new) publisher.new) }
     ensures same { OnOk result (IsSame publisher.old publisher.new) }
     ensures err { OnErr result (Longer cluster.old cluster.new) }
 {
     let (worker, epoch) = (publisher.worker, publisher.epoch);
     let before = number(publisher.numbers.as_slice(), part);
-    let count = recs.len() as u64;
     add(alloc, cluster, worker, epoch, part)?;
-    append(
-        alloc, cluster, worker, epoch, before, task, part, recs, kept,
-    )?;
+    append(alloc, cluster, worker, epoch, before, task, part, recs)?;
     let ends = cluster.ends(alloc, &[part])?;
     // The new number fits, since it is at most the partition's end.
     let _end = ends[0];
-    let now = before + count;
+    let now = before + recs.len() as u64;
     let numbers = renumbered(alloc, publisher.numbers.as_slice(), part, now)?;
     publisher.numbers = numbers;
     Ok(())
@@ -56,7 +52,7 @@ fn put_all<W: Work>(
     cluster: &mut Cluster<W>,
     publisher: &mut Publisher,
     task: TaskId,
-    outputs: Vec<Output>,
+    outputs: Vec<(PartId, Seq<Rec>)>,
 ) -> Result<(), AllocError>
     requires sending { IsSending (setup_of W.plan cluster.old) (state_of W.plan cluster.old) publisher.old }
     requires parts { All (λ out. IsPart (setup_of W.plan cluster.old) out.0) outputs.items }
@@ -67,8 +63,7 @@ fn put_all<W: Work>(
     ensures err { OnErr result (Longer cluster.old cluster.new) }
 {
     for out in outputs {
-        let (part, recs, kept) = out.into_parts();
-        put(alloc, cluster, publisher, task, part, recs, kept)?;
+        put(alloc, cluster, publisher, task, out.0, out.1.as_slice())?;
     }
     Ok(())
 }
@@ -78,23 +73,23 @@ fn send<W: Work>(
     alloc: Global,
     cluster: &mut Cluster<W>,
     publisher: &mut Publisher,
-    work: Doubled,
+    work: Frozen,
 ) -> Result<(), AllocError>
     requires sending { IsSending (setup_of W.plan cluster.old) (state_of W.plan cluster.old) publisher.old }
-    requires work { IsOfCluster (setup_of W.plan cluster.old) (state_of W.plan cluster.old) work }
-    ensures sends { OnOk result (Sends W.plan cluster.old cluster.new publisher.old.worker (adds_in work.outputs) (puts_in work.task work.outputs) (pending_work work ∷ [])) }
+    requires work { IsOfCluster (setup_of W.plan cluster.old) (state_of W.plan cluster.old) (work_view work) }
+    ensures sends { OnOk result (Sends W.plan cluster.old cluster.new publisher.old.worker (adds_in work.outputs) (puts_in work.task work.outputs) (pending_work (work_view work) ∷ [])) }
     ensures sending { OnOk result (IsSending (setup_of W.plan cluster.new) (state_of W.plan cluster.new) publisher.new) }
     ensures same { OnOk result (IsSame publisher.old publisher.new) }
     ensures err { OnErr result (Longer cluster.old cluster.new) }
 {
-    let Doubled {
+    let Frozen {
         task,
         outputs,
         offsets,
         order,
         late,
     } = work;
-    put_all(alloc, cluster, publisher, task, outputs)?;
+    put_all(alloc, cluster, publisher, task, outputs.into_vec())?;
     send_offsets(
         alloc,
         cluster,
@@ -114,11 +109,11 @@ pub fn send_all<W: Work>(
     alloc: Global,
     cluster: &mut Cluster<W>,
     publisher: &mut Publisher,
-    works: Vec<Doubled>,
+    works: Vec<Frozen>,
 ) -> Result<(), AllocError>
     requires sending { IsSending (setup_of W.plan cluster.old) (state_of W.plan cluster.old) publisher.old }
-    requires works { EachOf (setup_of W.plan cluster.old) (state_of W.plan cluster.old) works.items }
-    ensures sends { OnOk result (Sends W.plan cluster.old cluster.new publisher.old.worker (adds_of works.items) (puts_of works.items) (pendings_of works.items)) }
+    requires works { EachOf (setup_of W.plan cluster.old) (state_of W.plan cluster.old) (works_of works.items) }
+    ensures sends { OnOk result (Sends W.plan cluster.old cluster.new publisher.old.worker (adds_of (works_of works.items)) (puts_of (works_of works.items)) (pendings_of (works_of works.items))) }
     ensures sending { OnOk result (IsSending (setup_of W.plan cluster.new) (state_of W.plan cluster.new) publisher.new) }
     ensures same { OnOk result (IsSame publisher.old publisher.new) }
     ensures err { OnErr result (Longer cluster.old cluster.new) }

@@ -2,3 +2,4 @@ pub mod Causes
 pub mod Counts
 pub mod Memory
 pub mod Script
+pub mod Steady

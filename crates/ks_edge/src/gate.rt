@@ -19,6 +19,8 @@ pub struct TurnView {
     pub dry: u32,
     /// How many markers wait to be written.
     pub waiting: u32,
+    /// Whether more input may still come while the workers run.
+    pub feeding: bool,
 }
 
 /// What a worker may be told to do.

@@ -2,16 +2,10 @@
 ghost use Rattle.std.specs.Prelude.{◌≡◌, Some, IfOk, option_copied};
 ghost use Rattle.std.specs.Int.{w64, int_wrapping_add, int_wrapping_sub, int_wrapping_mul};
 ghost use Rattle.ks_expr.specs.Values.{field_seen, found, number_in};
-ghost use Rattle.ks_expr.specs.Eval.{of_numbers, same_bytes, same_field, field_below, side_field};
+ghost use Rattle.ks_expr.specs.Eval.{of_numbers, same_field, field_below, side_field};
 
-use ks_row::{Field, Name, Row, Text};
+use ks_row::{Field, Name, Row, Text, equal_bytes};
 use std::alloc::AllocError;
-
-fn same_text(a: &Text, b: &Text) -> bool
-    ensures { result ≡ same_bytes a.now b.now }
-{
-    a.as_str() == b.as_str()
-}
 
 /// A field without its own memory.
 #[derive(Clone, Copy)]
@@ -74,7 +68,9 @@ impl<'a> Value<'a> {
     {
         match (self, other) {
             (Value::Int(a), Value::Int(b)) => a == b,
-            (Value::Text(a), Value::Text(b)) => same_text(a, b),
+            (Value::Text(a), Value::Text(b)) => {
+                equal_bytes(a.as_str().as_bytes(), b.as_str().as_bytes())
+            }
             _ => false,
         }
     }

@@ -4,7 +4,7 @@ use Rattle.ks_row.specs.Spelling.{spelling}
 use Rattle.ks_expr.specs.Eval.{Row}
 use Rattle.ks_query.specs.Streams.{Key}
 use Rattle.ks_wire.specs.Values.{SubscriptionValue}
-use Rattle.ks_machine.specs.Messages.{Subscription, value_of}
+use Rattle.ks_def_tasks.specs.Messages.{Subscription, value_of}
 use Rattle.ks_fk_left.specs.declared.Answer.{Answer}
 use Rattle.ks_fk_left.specs.declared.Answer.TheVariants.{Stale, Set}
 

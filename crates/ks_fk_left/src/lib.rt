@@ -6,13 +6,13 @@ ghost use Rattle.ks_row.specs.Spelling.{spelling};
 ghost use Rattle.ks_row.specs.FieldKeys.{field_key};
 ghost use Rattle.ks_expr.specs.Terms.{set_of};
 ghost use Rattle.ks_expr.specs.Eval.{same_bytes, joined};
-ghost use Rattle.ks_machine.specs.Messages.{same_option};
-ghost use Rattle.ks_machine.specs.Foreign.{subscriptions, is_direct, key_of_row, respond as responded, is_present, hash_of};
+ghost use Rattle.ks_def_tasks.specs.Messages.{same_option};
+ghost use Rattle.ks_def_tasks.specs.Foreign.{subscriptions, is_direct, key_of_row, respond as responded, is_present, hash_of};
 ghost use Rattle.ks_fk_left.specs.Asked.{row_hash, told, asked, set_by};
 
 use ks_expr::{JoinKind, Proj};
 use ks_hash::Hash128;
-use ks_row::{Change, Key, Name, Row, encode, key_of_field};
+use ks_row::{Change, Key, Name, Row, encode, equal_bytes, key_of_field};
 use ks_table_ops::join_rows;
 use ks_wire::{Response, Subscription};
 use std::alloc::{AllocError, Global};
@@ -50,18 +50,14 @@ fn foreign_key(alloc: Global, fk: &Name, row: Option<&Row>) -> Result<Option<Key
     }
 }
 
-fn same_bytes_of(a: &Key, b: &Key) -> bool
-    ensures { result ≡ same_bytes a.now b.now }
-{
-    a.as_str() == b.as_str()
-}
-
 fn is_same_key(old: &Option<Key>, new: &Option<Key>) -> bool
     ensures { result ≡ same_option same_bytes old.now new.now }
 {
     match (old, new) {
         (None, None) => true,
-        (Some(before), Some(now)) => same_bytes_of(before, now),
+        (Some(before), Some(now)) => {
+            equal_bytes(before.as_str().as_bytes(), now.as_str().as_bytes())
+        }
         _ => false,
     }
 }

@@ -19,15 +19,15 @@ use Rattle.ks_wire.specs.Spelling.{long_key, subscription_key}
 use Rattle.ks_wire.specs.Reading.{long_key_at, subscription_key_from, hash_from}
 use Rattle.ks_wire.proofs.Wired.{subscription_key_codec}
 use Rattle.ks_expr.specs.Eval.{same_bytes}
-use Rattle.ks_map.specs.FinMap as fin
-use Rattle.ks_map.specs.FinMap.{FinMap}
-use Rattle.ks_map.specs.Bytes.{by_bytes, Store}
+use Rattle.ks_def_maps.specs.FinMap as fin
+use Rattle.ks_def_maps.specs.FinMap.{FinMap}
+use Rattle.ks_def_maps.specs.Bytes.{by_bytes, Store}
 use Rattle.ks_query.specs.Streams.{Key, some_of, with_some}
 use Rattle.ks_plan.specs.declared.node.Topic.TheVariants.{HashChangelog}
 use Rattle.ks_plan.specs.Layout.{number_of}
-use Rattle.ks_machine.specs.Bytes.{with_pair, map_from, left_at}
-use Rattle.ks_machine.specs.Laws.{AreBytes}
-use Rattle.ks_machine.proofs.Same.{bytes-is}
+use Rattle.ks_def_tasks.specs.Bytes.{with_pair, map_from, left_at}
+use Rattle.ks_def_tasks.specs.Laws.{AreBytes}
+use Rattle.ks_def_tasks.proofs.Same.{bytes-is}
 use Rattle.ks_fk_right.specs.Kept.{kept_in, kept_under}
 use Rattle.ks_fk_right.specs.Decoded.{KeptIsDecoded}
 

@@ -1,13 +1,13 @@
 -- What the store of the right side keeps is the task machine's subscription store, read from the same bytes.
 use Rattle.std.specs.Prelude.{◌≡◌, ℕ, true}
 use Rattle.ks_row.specs.Texts.{IsKey}
-use Rattle.ks_map.specs.FinMap as fin
+use Rattle.ks_def_maps.specs.FinMap as fin
 use Rattle.ks_plan.specs.Plan.{Plan}
 use Rattle.ks_plan.specs.declared.node.Topic.TheVariants.{HashChangelog}
 use Rattle.ks_plan.specs.Layout.{number_of}
 use Rattle.ks_query.specs.Streams.{Key}
-use Rattle.ks_machine.specs.Bytes.{ByteStores, is_own, hashes_from}
-use Rattle.ks_machine.specs.Laws.{AreBytes}
+use Rattle.ks_def_tasks.specs.Bytes.{ByteStores, is_own, hashes_from}
+use Rattle.ks_def_tasks.specs.Laws.{AreBytes}
 use Rattle.ks_fk_right.specs.Kept.{kept_under}
 
 -- of a join's tasks, whose store has bytes as keys: what is kept under a key is what the machine has at it, in order

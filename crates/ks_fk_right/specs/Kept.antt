@@ -2,7 +2,7 @@
 -- (KIP-213: the subscription store, whose keys begin with the foreign key).
 use Rattle.std.specs.Prelude.{ℕ, List, Option, Some}
 use Rattle.ks_row.specs.Reading.{◌>>=◌}
-use Rattle.ks_map.specs.Bytes.{Store}
+use Rattle.ks_def_maps.specs.Bytes.{Store}
 use Rattle.ks_wire.specs.Spelling.{long_key}
 use Rattle.ks_wire.specs.Reading.{subscription_key_from, hash_from}
 use Rattle.ks_store.specs.Prefixes.{pairs_under}

@@ -2,12 +2,12 @@
 #![tactic(auto)]
 
 ghost use Rattle.std.specs.Prelude.{◌≡◌, ◌++◌, Some, None, IfOk, OnOk, OnErr, option_copied, option_map};
-ghost use Rattle.ks_map.specs.Bytes.{by_bytes};
-ghost use Rattle.ks_map.specs.Table.{write};
+ghost use Rattle.ks_def_maps.specs.Bytes.{by_bytes};
+ghost use Rattle.ks_def_maps.specs.Table.{write};
 ghost use Rattle.ks_wire.specs.Spelling.{subscription_key, hash_bytes, long_key};
 ghost use Rattle.ks_query.specs.Streams.{some_of};
-ghost use Rattle.ks_machine.specs.Messages.{subscription_of, instruction_of};
-ghost use Rattle.ks_machine.specs.Foreign.{subscribed, answer_to, answer_all};
+ghost use Rattle.ks_def_tasks.specs.Messages.{subscription_of, instruction_of};
+ghost use Rattle.ks_def_tasks.specs.Foreign.{subscribed, answer_to, answer_all};
 ghost use Rattle.ks_fk_right.specs.Kept.{kept_in, kept_under};
 ghost use Rattle.ks_fk_right.specs.Decoded.{KeptIsDecoded};
 
@@ -38,8 +38,12 @@ fn kept_hash(subscription: &Subscription) -> Option<u128>
     }
 }
 
-/// The answer to a subscription, with the right row of the moment: none to the instruction 0, nor to 3 without a right row.
-fn answer(subscription: &Subscription, right: Option<&Row>) -> Result<Option<Response>, AllocError>
+/// The answer to a subscription, with the right row of the moment (KIP-213): none to the instruction 0, nor to 3 without a right row. Its
+/// hash is that of the subscription.
+pub fn answer(
+    subscription: &Subscription,
+    right: Option<&Row>,
+) -> Result<Option<Response>, AllocError>
     ensures { IfOk result (λ r. r ≡ answer_to (subscription_of subscription.now) (option_copied right.entry)) }
 {
     match subscription.instruction() {
@@ -62,6 +66,41 @@ fn answer(subscription: &Subscription, right: Option<&Row>) -> Result<Option<Res
     }
 }
 
+// Keeps a hash at a place of the store.
+fn put_hash<S: KvStore>(
+    alloc: Global,
+    store: &mut S,
+    place: &[u8],
+    hash: u128,
+) -> Result<(), AllocError>
+    ensures kept { OnOk result (S.contents store.new
+        ≡ write by_bytes (S.contents store.old) place.now (Some (hash_bytes hash))) }
+    ensures err { OnErr result (S.contents store.new ≡ S.contents store.old) }
+{
+    let value = write_hash(alloc, hash)?;
+    store.put(place, value.as_slice())
+}
+
+// Keeps a hash at a place of the store; without one, deletes what is there.
+fn set_hash<S: KvStore>(
+    alloc: Global,
+    store: &mut S,
+    place: &[u8],
+    hash: Option<u128>,
+) -> Result<(), AllocError>
+    ensures kept { OnOk result (S.contents store.new
+        ≡ write by_bytes (S.contents store.old) place.now (option_map hash_bytes hash)) }
+    ensures err { OnErr result (S.contents store.new ≡ S.contents store.old) }
+{
+    match hash {
+        Some(hash) => put_hash(alloc, store, place, hash),
+        None => {
+            store.delete(place);
+            Ok(())
+        }
+    }
+}
+
 /// Takes a subscription to a foreign key: keeps its hash or deletes it, and answers with the right row of the moment; none where
 /// the instruction is 0, or 3 and there is no right row. After want of memory the store is as before.
 pub fn on_subscription<S: KvStore>(
@@ -77,13 +116,7 @@ pub fn on_subscription<S: KvStore>(
 {
     let response = answer(subscription, right)?;
     let key = write_subscription_key(alloc, foreign, subscription.left())?;
-    match kept_hash(subscription) {
-        Some(hash) => {
-            let value = write_hash(alloc, hash)?;
-            store.put(key.as_slice(), value.as_slice())?;
-        }
-        None => store.delete(key.as_slice()),
-    }
+    set_hash(alloc, store, key.as_slice(), kept_hash(subscription))?;
     Ok(response)
 }
 

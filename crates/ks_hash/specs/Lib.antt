@@ -1,3 +1,4 @@
 pub mod Murmur2
 pub mod Murmur3
 pub mod Partition
+pub mod Bounded

@@ -1,5 +1,6 @@
 //! Hashes of 128 bits: MurmurHash3.
-ghost use Rattle.std.specs.Prelude.{◌≡◌, ◌≤◌, ◌/◌, ℕ, List, length, slice_index};
+ghost use Rattle.ks_hash.specs.Bounded.{murmur3_below, zero_below};
+ghost use Rattle.std.specs.Prelude.{◌≡◌, ◌<◌, ◌≤◌, ◌^◌, ◌/◌, ℕ, List, length, slice_index};
 ghost use Rattle.std.specs.Int.{w64, from_le_bytes};
 ghost use Rattle.ks_hash.specs.Murmur3.{word1, word2, half1, half2, fmix, with_block, after_blocks, with_tail, finished, murmur3_of};
 
@@ -145,6 +146,9 @@ pub trait Hash128 {
 
     fn hash(bytes: &[u8]) -> u128
         ensures { result ≡ hash_of bytes.now };
+
+    /// A law: a hash has 128 bits.
+    ghost bounded: { (bytes : List ℕ) → hash_of bytes < 2 ^ 128 };
 }
 
 /// MurmurHash3 for 64-bit machines, with the seed 0.
@@ -152,6 +156,8 @@ pub struct Murmur3;
 
 impl Hash128 for Murmur3 {
     ghost hash_of = { murmur3_of };
+
+    ghost bounded = { murmur3_below };
 
     fn hash(bytes: &[u8]) -> u128 {
         let (h1, h2) = mix_blocks(bytes);
@@ -165,6 +171,8 @@ pub struct Constant;
 
 impl Hash128 for Constant {
     ghost hash_of = { λ _. 0 };
+
+    ghost bounded = { zero_below };
 
     fn hash(_bytes: &[u8]) -> u128 {
         0

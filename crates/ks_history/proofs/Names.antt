@@ -5,8 +5,8 @@ use Rattle.std.proofs.lemmas.Bool.{and_parts, and_from, eqb-true, eq-eqb}
 use Rattle.ks_row.specs.declared.record.PartId.{PartId}
 use Rattle.ks_row.specs.declared.record.TaskId.{TaskId}
 use Rattle.ks_row.specs.Parts.{same_part, same_task}
-use Rattle.ks_network.specs.Run.{HasNames}
-use Rattle.ks_history.specs.Machine.{Plan, network}
+use Rattle.ks_def_runs.specs.Run.{HasNames}
+use Rattle.ks_history.specs.Machine.{TaskPlan, network}
 
 pub same_task-is : (t u : TaskId) → same_task t u ≡ true → t ≡ u
 same_task-is t u h =
@@ -24,7 +24,7 @@ same_part-is p q h =
 pub same_part-refl : (p : PartId) → same_part p p ≡ true
 same_part-refl p = and_from (p.topic == p.topic) (p.part == p.part) (eq-eqb p.topic p.topic refl) (eq-eqb p.part p.part refl)
 
-pub has_names : (plan : Plan) → HasNames (network plan)
+pub has_names : (plan : TaskPlan) → HasNames (network plan)
 has_names plan = record {
   tasks = λ a b. (same_task-is a b, λ e. subst (λ c. same_task a c ≡ true) e (same_task-refl a));
   places = λ a b. (same_part-is a b, λ e. subst (λ c. same_part a c ≡ true) e (same_part-refl a));

@@ -2,13 +2,13 @@
 -- stores that are committed (exactly once: KIP-98 and KIP-447).
 use Rattle.std.specs.Prelude.{◌≡◌, ℕ, ◌+◌, ◌==◌, ◌≤◌, ◌&&◌, Bool, true, if◌then◌else◌, min, ◌^◌, ◌-◌, Option, Some, None, List, [], ◌∷◌, length, map, cond}
 use Rattle.std.specs.List.Sorted.{IsPermutation}
-use Rattle.ks_map.specs.Bytes.{Store, empty_store}
+use Rattle.ks_def_maps.specs.Bytes.{Store, empty_store}
 use Rattle.ks_row.specs.declared.record.Rec.{Rec}
 use Rattle.ks_row.specs.declared.record.PartId.{PartId}
 use Rattle.ks_row.specs.declared.record.TaskId.{TaskId}
 use Rattle.ks_row.specs.declared.assignment.Marker.{Marker}
 use Rattle.ks_row.specs.Parts.{same_part}
-use Rattle.ks_network.specs.Run.{Outcome, sent_to}
+use Rattle.ks_def_runs.specs.Run.{Outcome, sent_to}
 use Rattle.ks_history.specs.declared.transaction.Pending.{Pending}
 use Rattle.ks_history.specs.declared.transaction.Transaction.{Transaction}
 use Rattle.ks_history.specs.Partition.{Logged, stable, readable, decided_from, open_from, is_behind, recs, past_from, below}

@@ -3,7 +3,7 @@ use Rattle.std.specs.Prelude.{◌≡◌, ◌⊎◌, ℕ, ◌≤◌, true, List, 
 use Rattle.ks_row.specs.declared.record.Rec.{Rec}
 use Rattle.ks_row.specs.declared.record.PartId.{PartId}
 use Rattle.ks_row.specs.declared.record.TaskId.{TaskId}
-use Rattle.ks_network.specs.Run.{sent_to}
+use Rattle.ks_def_runs.specs.Run.{sent_to}
 use Rattle.ks_history.specs.declared.journal.Entry.{Entry}
 use Rattle.ks_history.specs.Partition.{stable, recs, below, past_last, with_offsets}
 use Rattle.ks_history.specs.Machine.{Stores, latest, network, part_of, has_topic}

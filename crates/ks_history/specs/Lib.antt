@@ -9,3 +9,4 @@ pub mod Settled
 pub mod Follows
 pub mod Replay
 pub mod Count
+pub mod Touched

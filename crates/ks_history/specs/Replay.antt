@@ -9,7 +9,7 @@ use Rattle.ks_history.specs.declared.journal.Request.{Request}
 use Rattle.ks_history.specs.declared.journal.Request.TheVariants.{Produce, Init, Add, Append, SendOffsets, Decide, MarkNext, Join, Expire, Hold, Probe, Assign, Park, Unpark}
 use Rattle.ks_history.specs.declared.journal.Entry.{Entry}
 use Rattle.ks_history.specs.declared.transaction.Pending.{Pending}
-use Rattle.ks_network.specs.Run.{RunState, Taken, channel, run}
+use Rattle.ks_def_runs.specs.Run.{RunState, Taken, channel, run}
 use Rattle.ks_history.specs.Machine.{Stores, network, batch}
 use Rattle.ks_history.specs.State.{State, Setup, start}
 use Rattle.ks_history.specs.Step.{refusal, after, pending_at}

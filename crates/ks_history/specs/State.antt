@@ -7,7 +7,7 @@ use Rattle.ks_row.specs.Parts.{same_part, same_task, part_lt, task_lt}
 use Rattle.ks_history.specs.declared.partition.Slot.{Slot}
 use Rattle.ks_history.specs.declared.transaction.Pending.{Pending}
 use Rattle.ks_history.specs.declared.transaction.Producer.{Producer}
-use Rattle.ks_history.specs.Machine.{Plan, part_of, has_topic}
+use Rattle.ks_history.specs.Machine.{TaskPlan, part_of, has_topic}
 
 pub record State : Type 0 where
   pub partition : PartId → List Slot
@@ -28,7 +28,7 @@ pub record State : Type 0 where
 
 -- what a cluster is made with
 pub record Setup : Type 0 where
-  pub plan : Plan
+  pub plan : TaskPlan
   -- the number of partitions of each topic
   pub counts : List ℕ
   pub tasks : List TaskId

@@ -7,6 +7,7 @@ ghost use Rattle.ks_history.specs.Step.{after, refusal};
 ghost use Rattle.ks_history.specs.Count.{records_by, records_in};
 ghost use Rattle.ks_history.specs.Partition.{stable};
 ghost use Rattle.ks_history.specs.History.{at, IsHistory, IsStep, IsFaithfulEntry, IsPrefix};
+ghost use Rattle.ks_history.specs.Touched.{TouchedByTheLast, UntouchedStays};
 
 /// A journal goes on by one entry.
 pub fn one_more()
@@ -29,4 +30,12 @@ pub fn stable_in()
 pub fn few()
     ensures epochs { (setup : Setup) (journal : List Entry) (w : ℕ) → ((at setup journal).producer w).epoch ≤ length journal }
     ensures generation { (setup : Setup) (journal : List Entry) → (at setup journal).generation ≤ length journal }
+{}
+
+/// How far a journal touches a worker's transaction: up to the last entry by which the worker began, filled or decided one; entries that
+/// touch nothing leave that as it was.
+#[tactic(auto, using(crate::proofs::Touching::touched_by_the_last, crate::proofs::Touching::untouched_stays))]
+pub fn touched_is_the_last()
+    ensures last { TouchedByTheLast }
+    ensures others { UntouchedStays }
 {}

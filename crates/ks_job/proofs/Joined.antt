@@ -4,7 +4,7 @@ use Rattle.std.specs.Prelude.{Option, Some, None, ◌==◌, Result, Ok, Err}
 use Rattle.std.specs.Cmp.Lexicographic.{pointwise}
 use Rattle.std.proofs.lemmas.Bool.Decides.{Decides-eqb}
 use Rattle.std.proofs.lemmas.Slice.Eq.{slice_eq-Decides}
-use Rattle.ks_line.specs.declared.fault.JobKind.{JobKind}
+use Rattle.ks_record_line.specs.declared.fault.JobKind.{JobKind}
 use Rattle.ks_job.specs.Items.{ItemView}
 use Rattle.ks_job.specs.Lines.{Spot, judged}
 use Rattle.ks_job.specs.Reader.{Reader, Reading, Faulty, Machine, is_line_end, longer, after, after_byte, after_line, with_item}
@@ -20,7 +20,7 @@ same_names xs ys r e t = (slice_eq-Decides (λ a b. slice_eq-Decides Decides-eqb
 abbrev pub behind : List ItemView → Machine → Machine
 behind before m = record { reader = m.reader; items = before ++ m.items }
 
-item_behind : (before items : List ItemView) (o : Option ItemView) → with_item (before ++ items) o ≡ before ++ with_item items o
+pub item_behind : (before items : List ItemView) (o : Option ItemView) → with_item (before ++ items) o ≡ before ++ with_item items o
 item_behind before items None = refl
 item_behind before items (Some i) = append_assoc before items (i ∷ [])
 
@@ -38,7 +38,7 @@ byte_behind (Reading s begun) before items x = byte_at (is_line_end x) s before 
 byte_behind (Faulty n f) before items x = refl
 
 -- a piece adds the same items, whatever stands before them
-after_behind : (before : List ItemView) (m : Machine) (xs : List ℕ) → after (behind before m) xs ≡ behind before (after m xs)
+pub after_behind : (before : List ItemView) (m : Machine) (xs : List ℕ) → after (behind before m) xs ≡ behind before (after m xs)
 after_behind before m [] = refl
 after_behind before m (x ∷ xs) = ap (λ (n : Machine). after n xs) (byte_behind m.reader before m.items x) ∙ after_behind before (after_byte m.reader m.items x) xs
 

@@ -2,4 +2,5 @@ pub mod Cuts
 pub mod Whole
 pub mod Ends
 pub mod Joined
+pub mod Fronts
 pub mod Crossed

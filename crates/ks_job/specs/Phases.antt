@@ -26,9 +26,9 @@ IsReading (Reading s begun) = Unit {0}
 IsReading (Faulty n k) = ⊥
 
 -- a fault exactly where the reader has stopped, and that fault
-abbrev pub Answers : Result ⊤ JobFault → Reader → Type 0
-Answers (Ok u) r = IsReading r
-Answers (Err f) r = r ≡ Faulty f.line f.kind
+abbrev pub TellsFault : Result ⊤ JobFault → Reader → Type 0
+TellsFault (Ok u) r = IsReading r
+TellsFault (Err f) r = r ≡ Faulty f.line f.kind
 
 abbrev pub IsFaulty : Reader → Type 0
 IsFaulty (Reading s begun) = ⊥

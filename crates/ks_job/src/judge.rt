@@ -1,13 +1,14 @@
 //! One line, judged.
 ghost use Rattle.std.specs.Prelude.{◌≡◌, ◌≤◌, ◌<◌, ◌+◌, IfOk, option_map, length};
 ghost use Rattle.serde_json.specs.View.{view};
-ghost use Rattle.ks_line.specs.Gives.{Gives};
+ghost use Rattle.ks_record_line.specs.Gives.{Gives};
 ghost use Rattle.ks_job.specs.Items.{item_view};
 ghost use Rattle.ks_job.specs.Lines.{spot, parsed, is_blank_byte, is_blank as blank, passes, too_long as length_fault, topology_line, record_line, value_line, data_line, judged};
 
 use crate::place::Place;
-use ks_line::{JobKind, ReadError, copy_names, read_input, read_topology, too_many};
+use ks_job_line::{copy_names, read_topology};
 use ks_plan::Draft;
+use ks_record_line::{JobKind, ReadError, read_input, too_many};
 use ks_row::{Name, Rec, Seq};
 use serde_json::Value;
 use std::alloc::{AllocError, Global};

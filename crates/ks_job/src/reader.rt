@@ -1,18 +1,18 @@
 //! A job, in whatever pieces its bytes come.
 ghost use Rattle.std.specs.Prelude.{◌≡◌, ◌≢◌, Some, None, OnErr, IsErr, ◌<◌, ◌≤◌, ◌++◌, ◌-◌, [], ◌∷◌, length, IfOk, IfSome, OnOk, slice_index, true, false, ℕ, List, option_map};
 ghost use Rattle.std.specs.List.{flat_map};
-ghost use Rattle.ks_line.specs.Gives.{Gives};
+ghost use Rattle.ks_record_line.specs.Gives.{Gives};
 ghost use Rattle.ks_job.specs.ByLines.{by_lines};
 ghost use Rattle.ks_job.specs.Cut.{cut_line, room, ended, kept};
-ghost use Rattle.ks_job.specs.Items.{item_view, item_views};
+ghost use Rattle.ks_job.specs.Items.{item_view, item_views, PushesFront};
 ghost use Rattle.ks_job.specs.Lines.{spot};
 ghost use Rattle.ks_job.specs.Reader.{is_line_end, after, closed, end_of, start, so_far};
-ghost use Rattle.ks_job.specs.Phases.{reader_of, machine, Fed, Answers, IsFaulty};
+ghost use Rattle.ks_job.specs.Phases.{reader_of, machine, Fed, TellsFault, IsFaulty};
 
 use crate::judge::{JobItem, judge_line, too_long};
 use crate::place::Place;
 use crate::wide::feed_by_threads;
-use ks_line::{JobKind, ReadError};
+use ks_record_line::{JobKind, ReadError};
 use memchr::memchr;
 use std::alloc::{AllocError, Global};
 use std::marker::Model;
@@ -110,7 +110,9 @@ fn feed_reading(
     piece: &[u8],
     items: &mut Vec<JobItem>,
 ) -> Result<Phase, AllocError>
-    ensures { IfOk result (λ p. machine p items.new.items ≡ after (machine (Phase.Reading place begun) items.old.items) piece.now) }
+    ensures fed { IfOk result (λ p. machine p items.new.items ≡ after (machine (Phase.Reading place begun) items.old.items) piece.now) }
+    ensures front { PushesFront items.old.items items.new.items
+        (after (machine (Phase.Reading place begun) items.old.items) piece.now).items }
 {
     let mut place = place;
     let mut begun = begun;
@@ -143,7 +145,9 @@ pub fn feed_phase(
     piece: &[u8],
     items: &mut Vec<JobItem>,
 ) -> Result<Phase, AllocError>
-    ensures { IfOk result (λ p. machine p items.new.items ≡ after (machine phase items.old.items) piece.now) }
+    ensures fed { IfOk result (λ p. machine p items.new.items ≡ after (machine phase items.old.items) piece.now) }
+    ensures front { PushesFront items.old.items items.new.items
+        (after (machine phase items.old.items) piece.now).items }
 {
     match phase {
         Phase::Reading { place, begun } => feed_reading(alloc, place, begun, piece, items),
@@ -169,7 +173,9 @@ fn close(alloc: Global, line: u64, place: Place) -> Phase
 
 #[tactic(auto, using(crate::proofs::Cuts::seen_push))]
 fn finish_phase(alloc: Global, phase: Phase, items: &mut Vec<JobItem>) -> Result<Phase, AllocError>
-    ensures { IfOk result (λ p. machine p items.new.items ≡ end_of (reader_of phase) (item_views items.old.items)) }
+    ensures ended { IfOk result (λ p. machine p items.new.items ≡ end_of (reader_of phase) (item_views items.old.items)) }
+    ensures front { PushesFront items.old.items items.new.items
+        (end_of (reader_of phase) (item_views items.old.items)).items }
 {
     match phase {
         Phase::Faulty(fault) => Ok(Phase::Faulty(fault)),
@@ -196,7 +202,7 @@ fn finish_phase(alloc: Global, phase: Phase, items: &mut Vec<JobItem>) -> Result
 }
 
 fn answer(phase: &Phase) -> Result<Result<(), JobFault>, AllocError>
-    ensures { IfOk result (λ r. Answers r (reader_of phase.now)) }
+    ensures { IfOk result (λ r. TellsFault r (reader_of phase.now)) }
 {
     match phase {
         Phase::Reading { .. } => Ok(Ok(())),
@@ -240,9 +246,12 @@ impl JobReader {
         }
     }
 
-    /// The end of the input: pushes the item of a last line that has no end.
+    /// The end of the input: pushes the item of a last line that has no end. `Err` only where memory ran out, at this call or at an
+    /// earlier one: that item was then pushed or not, and nothing else was.
     pub fn finish(self, items: &mut Vec<JobItem>) -> Result<Result<(), JobFault>, AllocError>
-        ensures ended { IfOk result (λ r. IfSome self (λ b. Answers r (end_of b (item_views items.old.items)).reader × (item_views items.new.items ≡ (end_of b (item_views items.old.items)).items))) }
+        ensures ended { IfOk result (λ r. IfSome self (λ b. TellsFault r (end_of b (item_views items.old.items)).reader × (item_views items.new.items ≡ (end_of b (item_views items.old.items)).items))) }
+        ensures front { IfSome self (λ b. PushesFront items.old.items items.new.items
+            (end_of b (item_views items.old.items)).items) }
         ensures sticky { self ≡ None → IsErr result × (items.new.items ≡ items.old.items) }
     {
         let JobReader { alloc, phase } = self;
@@ -257,7 +266,7 @@ impl JobReader {
     fn stand_at(&mut self, next: Phase) -> Result<Result<(), JobFault>, AllocError>
         requires { self.old ≡ None }
         ensures at { OnOk result (self.new ≡ Some (reader_of next)) }
-        ensures answer { IfOk result (λ r. Answers r (reader_of next)) }
+        ensures answer { IfOk result (λ r. TellsFault r (reader_of next)) }
         ensures err { OnErr result (self.new ≡ None) }
     {
         let verdict = answer(&next)?;
@@ -266,15 +275,18 @@ impl JobReader {
     }
 
     /// Takes the next piece, and pushes the items of the lines that are whole now. `Err` only where memory ran out, at this call or
-    /// at an earlier one: the reader then reads no more. A faulty line is the inner `Err`.
+    /// at an earlier one: the reader then reads no more, and of those items the first were pushed, maybe none or all. A faulty line
+    /// is the inner `Err`.
     pub fn feed(
         &mut self,
         piece: &[u8],
         items: &mut Vec<JobItem>,
     ) -> Result<Result<(), JobFault>, AllocError>
         ensures fed { OnOk result (Fed self.old self.new items.old.items items.new.items piece.now) }
-        ensures answer { IfOk result (λ r. IfSome self.new (λ s. Answers r s)) }
+        ensures answer { IfOk result (λ r. IfSome self.new (λ s. TellsFault r s)) }
         ensures err { OnErr result (self.new ≡ None) }
+        ensures front { IfSome self.old (λ r. PushesFront items.old.items items.new.items
+            (after (record { reader = r; items = item_views items.old.items }) piece.now).items) }
         ensures sticky { self.old ≡ None → IsErr result × (items.new.items ≡ items.old.items) }
     {
         let Some(phase) = self.phase.take() else {
@@ -292,8 +304,10 @@ impl JobReader {
         items: &mut Vec<JobItem>,
     ) -> Result<Result<(), JobFault>, AllocError>
         ensures fed { OnOk result (Fed self.old self.new items.old.items items.new.items piece.now) }
-        ensures answer { IfOk result (λ r. IfSome self.new (λ s. Answers r s)) }
+        ensures answer { IfOk result (λ r. IfSome self.new (λ s. TellsFault r s)) }
         ensures err { OnErr result (self.new ≡ None) }
+        ensures front { IfSome self.old (λ r. PushesFront items.old.items items.new.items
+            (after (record { reader = r; items = item_views items.old.items }) piece.now).items) }
         ensures sticky { self.old ≡ None → IsErr result × (items.new.items ≡ items.old.items) }
     {
         let Some(phase) = self.phase.take() else {

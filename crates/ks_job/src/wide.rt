@@ -3,6 +3,7 @@
 //! again from there.
 ghost use Rattle.std.specs.Prelude.{◌≡◌, ◌≤◌, ◌++◌, [], IfOk, IfSome, length, true};
 ghost use Rattle.std.specs.Thread.{IsSend, IsSync};
+ghost use Rattle.ks_job.specs.Items.{PushesFront};
 ghost use Rattle.ks_job.specs.Lines.{spot};
 ghost use Rattle.ks_job.specs.Reader.{Reading, after};
 ghost use Rattle.ks_job.specs.Phases.{reader_of, machine};
@@ -206,7 +207,9 @@ pub fn feed_by_threads<R: Threads + Sync>(
     piece: &[u8],
     items: &mut Vec<JobItem>,
 ) -> Result<Phase, AllocError>
-    ensures { IfOk result (λ p. machine p items.new.items ≡ after (machine phase items.old.items) piece.now) }
+    ensures fed { IfOk result (λ p. machine p items.new.items ≡ after (machine phase items.old.items) piece.now) }
+    ensures front { PushesFront items.old.items items.new.items
+        (after (machine phase items.old.items) piece.now).items }
 {
     let (front, back) = piece.split_at(past_line(piece, 0));
     let begun = feed_phase(alloc, phase, front, items)?;

@@ -9,8 +9,8 @@ use Rattle.ks_history.specs.declared.partition.Slot.TheVariants.{Plain, Sent, Ma
 use Rattle.ks_history.specs.Partition.{next_mark, by_mark, decision, stable, count_sent}
 use Rattle.ks_log.specs.declared.marks.Marked.{Marked}
 use Rattle.ks_log.specs.declared.counts.Counted.{Counted}
-use Rattle.ks_log.specs.Index.{marks_in, mark_among, shown_one, shown_in, counted, IsIndexed}
-use Rattle.ks_log.specs.Reading.{readable_pairs, at_or_past, record_at, shown_pairs, decided_one, decided_pairs}
+use Rattle.ks_log.specs.Index.{marks_in, mark_among, visible_one, visible_in, counted, IsIndexed}
+use Rattle.ks_log.specs.Reading.{readable_pairs, at_or_past, record_at, visible_pairs, decided_one, decided_pairs}
 use Rattle.ks_log.proofs.Counting.{count_sent-append}
 
 -- ---- markers
@@ -42,75 +42,75 @@ pub rest_is : {A : Type 0} (n : ℕ) (xs : List A) → take (length xs - n) (dro
 rest_is n xs = take_all (length xs - n) (drop n xs) (let h = length-drop n xs in omega (arith, h))
 
 -- ---- which slots readers get
-pub length-shown : (slots : List Slot) → length (shown_in slots) ≡ stable slots
-length-shown [] = refl
-length-shown (Plain rec ∷ slots) = ap suc (length-shown slots)
-length-shown (Sent w e number task rec ∷ slots) = by_next (next_mark w e slots) (length-shown slots)
+pub length-visible : (slots : List Slot) → length (visible_in slots) ≡ stable slots
+length-visible [] = refl
+length-visible (Plain rec ∷ slots) = ap suc (length-visible slots)
+length-visible (Sent w e number task rec ∷ slots) = by_next (next_mark w e slots) (length-visible slots)
   where
-    by_next : (m : Option Bool) → length (shown_in slots) ≡ stable slots → length (by_mark m [] (true ∷ shown_in slots) (false ∷ shown_in slots)) ≡ by_mark m 0 (suc (stable slots)) (suc (stable slots))
+    by_next : (m : Option Bool) → length (visible_in slots) ≡ stable slots → length (by_mark m [] (true ∷ visible_in slots) (false ∷ visible_in slots)) ≡ by_mark m 0 (suc (stable slots)) (suc (stable slots))
     by_next None h = refl
     by_next (Some true) h = ap suc h
     by_next (Some false) h = ap suc h
-length-shown (Mark w e commit ∷ slots) = ap suc (length-shown slots)
+length-visible (Mark w e commit ∷ slots) = ap suc (length-visible slots)
 
-shown_few : (slots : List Slot) → length (shown_in slots) ≤ length slots
-shown_few [] = omega arith
-shown_few (Plain rec ∷ slots) = let h = shown_few slots in omega (arith, h)
-shown_few (Sent w e number task rec ∷ slots) = by_next (next_mark w e slots) (shown_few slots)
+visible_few : (slots : List Slot) → length (visible_in slots) ≤ length slots
+visible_few [] = omega arith
+visible_few (Plain rec ∷ slots) = let h = visible_few slots in omega (arith, h)
+visible_few (Sent w e number task rec ∷ slots) = by_next (next_mark w e slots) (visible_few slots)
   where
-    by_next : (m : Option Bool) → length (shown_in slots) ≤ length slots → length (by_mark m [] (true ∷ shown_in slots) (false ∷ shown_in slots)) ≤ suc (length slots)
+    by_next : (m : Option Bool) → length (visible_in slots) ≤ length slots → length (by_mark m [] (true ∷ visible_in slots) (false ∷ visible_in slots)) ≤ suc (length slots)
     by_next None h = omega arith
     by_next (Some true) h = omega (arith, h)
     by_next (Some false) h = omega (arith, h)
-shown_few (Mark w e commit ∷ slots) = let h = shown_few slots in omega (arith, h)
+visible_few (Mark w e commit ∷ slots) = let h = visible_few slots in omega (arith, h)
 
 -- after more slots it goes on from where it was
-pub shown_in-append : (xs ys : List Slot) → shown_in (xs ++ ys) ≡ shown_in xs ++ shown_in (drop (length (shown_in xs)) (xs ++ ys))
-shown_in-append [] ys = refl
-shown_in-append (Plain rec ∷ xs) ys = ap (λ l. true ∷ l) (shown_in-append xs ys)
-shown_in-append (Sent w e number task rec ∷ xs) ys = by_next (next_mark w e xs) refl (shown_in-append xs ys)
+pub visible_in-append : (xs ys : List Slot) → visible_in (xs ++ ys) ≡ visible_in xs ++ visible_in (drop (length (visible_in xs)) (xs ++ ys))
+visible_in-append [] ys = refl
+visible_in-append (Plain rec ∷ xs) ys = ap (λ l. true ∷ l) (visible_in-append xs ys)
+visible_in-append (Sent w e number task rec ∷ xs) ys = by_next (next_mark w e xs) refl (visible_in-append xs ys)
   where
     whole : List Slot
     whole = Sent w e number task rec ∷ (xs ++ ys)
 
-    by_next : (m : Option Bool) → next_mark w e xs ≡ m → shown_in (xs ++ ys) ≡ shown_in xs ++ shown_in (drop (length (shown_in xs)) (xs ++ ys)) → shown_in whole
-        ≡ by_mark m [] (true ∷ shown_in xs) (false ∷ shown_in xs) ++ shown_in (drop (length (by_mark m [] (true ∷ shown_in xs) (false ∷ shown_in xs))) whole)
+    by_next : (m : Option Bool) → next_mark w e xs ≡ m → visible_in (xs ++ ys) ≡ visible_in xs ++ visible_in (drop (length (visible_in xs)) (xs ++ ys)) → visible_in whole
+        ≡ by_mark m [] (true ∷ visible_in xs) (false ∷ visible_in xs) ++ visible_in (drop (length (by_mark m [] (true ∷ visible_in xs) (false ∷ visible_in xs))) whole)
     by_next None is h = refl
-    by_next (Some true) is h = ap (λ o. by_mark o [] (true ∷ shown_in (xs ++ ys)) (false ∷ shown_in (xs ++ ys))) (next_mark-more w e xs ys true is) ∙ ap (λ l. true ∷ l) h
-    by_next (Some false) is h = ap (λ o. by_mark o [] (true ∷ shown_in (xs ++ ys)) (false ∷ shown_in (xs ++ ys))) (next_mark-more w e xs ys false is) ∙ ap (λ l. false ∷ l) h
-shown_in-append (Mark w e commit ∷ xs) ys = ap (λ l. false ∷ l) (shown_in-append xs ys)
+    by_next (Some true) is h = ap (λ o. by_mark o [] (true ∷ visible_in (xs ++ ys)) (false ∷ visible_in (xs ++ ys))) (next_mark-more w e xs ys true is) ∙ ap (λ l. true ∷ l) h
+    by_next (Some false) is h = ap (λ o. by_mark o [] (true ∷ visible_in (xs ++ ys)) (false ∷ visible_in (xs ++ ys))) (next_mark-more w e xs ys false is) ∙ ap (λ l. false ∷ l) h
+visible_in-append (Mark w e commit ∷ xs) ys = ap (λ l. false ∷ l) (visible_in-append xs ys)
 
-pub known_few : (slots : List Slot) (shown : List Bool) → shown ≡ shown_in slots → length shown ≤ length slots
-known_few slots shown is = subst (λ l. length l ≤ length slots) (sym is) (shown_few slots)
+pub known_few : (slots : List Slot) (visible : List Bool) → visible ≡ visible_in slots → length visible ≤ length slots
+known_few slots visible is = subst (λ l. length l ≤ length slots) (sym is) (visible_few slots)
 
 -- one slot on
-shown_next : (slot : Slot) (slots : List Slot) (marks : List Marked) (o : Option Bool) → marks ≡ marks_in (slot ∷ slots) → shown_one slot marks ≡ o
-    → shown_in (slot ∷ slots) ≡ elim o as (λ _. List Bool) [ None ↦ [] | Some is ↦ is ∷ shown_in slots ]
-shown_next (Plain rec) slots marks None m h = absurd (cc)
-shown_next (Plain rec) slots marks (Some true) m h = refl
-shown_next (Plain rec) slots marks (Some false) m h = absurd (cc)
-shown_next (Sent w e number task rec) slots marks o m h =
-    ap (λ o. by_mark o [] (true ∷ shown_in slots) (false ∷ shown_in slots)) (next_mark-among w e slots ∙ ap (mark_among w e) (sym m) ∙ h) ∙ by_mark-is o
+visible_next : (slot : Slot) (slots : List Slot) (marks : List Marked) (o : Option Bool) → marks ≡ marks_in (slot ∷ slots) → visible_one slot marks ≡ o
+    → visible_in (slot ∷ slots) ≡ elim o as (λ _. List Bool) [ None ↦ [] | Some is ↦ is ∷ visible_in slots ]
+visible_next (Plain rec) slots marks None m h = absurd (cc)
+visible_next (Plain rec) slots marks (Some true) m h = refl
+visible_next (Plain rec) slots marks (Some false) m h = absurd (cc)
+visible_next (Sent w e number task rec) slots marks o m h =
+    ap (λ o. by_mark o [] (true ∷ visible_in slots) (false ∷ visible_in slots)) (next_mark-among w e slots ∙ ap (mark_among w e) (sym m) ∙ h) ∙ by_mark-is o
   where
-    by_mark-is : (o : Option Bool) → by_mark o [] (true ∷ shown_in slots) (false ∷ shown_in slots) ≡ elim o as (λ _. List Bool) [ None ↦ [] | Some is ↦ is ∷ shown_in slots ]
+    by_mark-is : (o : Option Bool) → by_mark o [] (true ∷ visible_in slots) (false ∷ visible_in slots) ≡ elim o as (λ _. List Bool) [ None ↦ [] | Some is ↦ is ∷ visible_in slots ]
     by_mark-is None = refl
     by_mark-is (Some true) = refl
     by_mark-is (Some false) = refl
-shown_next (Mark w e commit) slots marks None m h = absurd (cc)
-shown_next (Mark w e commit) slots marks (Some true) m h = absurd (cc)
-shown_next (Mark w e commit) slots marks (Some false) m h = refl
+visible_next (Mark w e commit) slots marks None m h = absurd (cc)
+visible_next (Mark w e commit) slots marks (Some true) m h = absurd (cc)
+visible_next (Mark w e commit) slots marks (Some false) m h = refl
 
 -- an incomplete slot shows no more
-pub shown_stops : (slots : List Slot) (marks : List Marked) (i : ℕ) (d : Slot) → i < length slots → marks ≡ marks_in (drop i slots) → shown_one (get_or slots i d) marks ≡ None → shown_in (drop i slots) ≡ []
-shown_stops slots marks i d h m is =
+pub visible_stops : (slots : List Slot) (marks : List Marked) (i : ℕ) (d : Slot) → i < length slots → marks ≡ marks_in (drop i slots) → visible_one (get_or slots i d) marks ≡ None → visible_in (drop i slots) ≡ []
+visible_stops slots marks i d h m is =
     let here = drop_more slots i d h in
-    ap shown_in here ∙ shown_next (get_or slots i d) (drop (i + 1) slots) marks None (m ∙ ap marks_in here) is
+    ap visible_in here ∙ visible_next (get_or slots i d) (drop (i + 1) slots) marks None (m ∙ ap marks_in here) is
 
-pub shown_on : (slots : List Slot) (marks : List Marked) (i : ℕ) (d : Slot) (is : Bool) → i < length slots → marks ≡ marks_in (drop i slots) → shown_one (get_or slots i d) marks ≡ Some is
-    → shown_in (drop i slots) ≡ is ∷ shown_in (drop (i + 1) slots)
-shown_on slots marks i d is h m so =
+pub visible_on : (slots : List Slot) (marks : List Marked) (i : ℕ) (d : Slot) (is : Bool) → i < length slots → marks ≡ marks_in (drop i slots) → visible_one (get_or slots i d) marks ≡ Some is
+    → visible_in (drop i slots) ≡ is ∷ visible_in (drop (i + 1) slots)
+visible_on slots marks i d is h m so =
     let here = drop_more slots i d h in
-    ap shown_in here ∙ shown_next (get_or slots i d) (drop (i + 1) slots) marks (Some is) (m ∙ ap marks_in here) so
+    ap visible_in here ∙ visible_next (get_or slots i d) (drop (i + 1) slots) marks (Some is) (m ∙ ap marks_in here) so
 
 passed_next : (slot : Slot) (slots : List Slot) (marks : List Marked) → marks ≡ marks_in (slot ∷ slots)
     → (drop (length (marks_in (slot ∷ []))) marks ≡ marks_in slots) × (length (marks_in (slot ∷ [])) ≤ length marks)
@@ -134,13 +134,13 @@ passed_more slots more marks found passed n within known is m =
     drop-append-le passed marks found within ∙ ap₂ (λ a b. a ++ b) m is ∙ sym (marks_in-append (drop n slots) more) ∙ ap marks_in (sym (drop-append-le n slots more known))
 
 -- after more slots
-pub indexed_more : (slots slots' more : List Slot) (shown shown' : List Bool) (marks marks' found : List Marked) (passed passed' : ℕ) (counts counts' : List Counted)
-    → IsIndexed slots shown marks passed counts → slots' ≡ slots ++ more → shown' ≡ shown ++ shown_in (drop (length shown) slots')
-    → marks' ≡ marks ++ found → found ≡ marks_in more → drop passed' marks' ≡ marks_in (drop (length shown') slots') → passed' ≤ length marks'
+pub indexed_more : (slots slots' more : List Slot) (visible visible' : List Bool) (marks marks' found : List Marked) (passed passed' : ℕ) (counts counts' : List Counted)
+    → IsIndexed slots visible marks passed counts → slots' ≡ slots ++ more → visible' ≡ visible ++ visible_in (drop (length visible) slots')
+    → marks' ≡ marks ++ found → found ≡ marks_in more → drop passed' marks' ≡ marks_in (drop (length visible') slots') → passed' ≤ length marks'
     → ((w e : ℕ) → counted w e counts' ≡ counted w e counts + count_sent w e more)
-    → IsIndexed slots' shown' marks' passed' counts'
-indexed_more slots slots' more shown shown' marks marks' found passed passed' counts counts' k grown on with is follow within sums = record {
-  shown_is = on ∙ ap₂ (λ a b. a ++ shown_in (drop (length a) b)) k.shown_is grown ∙ sym (shown_in-append slots more) ∙ ap shown_in (sym grown);
+    → IsIndexed slots' visible' marks' passed' counts'
+indexed_more slots slots' more visible visible' marks marks' found passed passed' counts counts' k grown on with is follow within sums = record {
+  visible_is = on ∙ ap₂ (λ a b. a ++ visible_in (drop (length a) b)) k.visible_is grown ∙ sym (visible_in-append slots more) ∙ ap visible_in (sym grown);
   marks_are = with ∙ ap₂ (λ a b. a ++ b) k.marks_are is ∙ sym (marks_in-append slots more) ∙ ap marks_in (sym grown);
   passed_is = follow;
   within = within;
@@ -148,21 +148,21 @@ indexed_more slots slots' more shown shown' marks marks' found passed passed' co
 }
 
 -- ---- what readers get
-readable-shown : (at : ℕ) (slots : List Slot) → readable_pairs at slots ≡ shown_pairs at (shown_in slots) slots
-readable-shown at [] = refl
-readable-shown at (Plain rec ∷ slots) = ap (λ l. (at, rec) ∷ l) (readable-shown (at + 1) slots)
-readable-shown at (Sent w e number task rec ∷ slots) = by_next (next_mark w e slots) (readable-shown (at + 1) slots)
+readable-visible : (at : ℕ) (slots : List Slot) → readable_pairs at slots ≡ visible_pairs at (visible_in slots) slots
+readable-visible at [] = refl
+readable-visible at (Plain rec ∷ slots) = ap (λ l. (at, rec) ∷ l) (readable-visible (at + 1) slots)
+readable-visible at (Sent w e number task rec ∷ slots) = by_next (next_mark w e slots) (readable-visible (at + 1) slots)
   where
-    by_next : (m : Option Bool) → readable_pairs (at + 1) slots ≡ shown_pairs (at + 1) (shown_in slots) slots
-        → by_mark m [] ((at, rec) ∷ readable_pairs (at + 1) slots) (readable_pairs (at + 1) slots) ≡ shown_pairs at (by_mark m [] (true ∷ shown_in slots) (false ∷ shown_in slots)) (Sent w e number task rec ∷ slots)
+    by_next : (m : Option Bool) → readable_pairs (at + 1) slots ≡ visible_pairs (at + 1) (visible_in slots) slots
+        → by_mark m [] ((at, rec) ∷ readable_pairs (at + 1) slots) (readable_pairs (at + 1) slots) ≡ visible_pairs at (by_mark m [] (true ∷ visible_in slots) (false ∷ visible_in slots)) (Sent w e number task rec ∷ slots)
     by_next None h = refl
     by_next (Some true) h = ap (λ l. (at, rec) ∷ l) h
     by_next (Some false) h = h
-readable-shown at (Mark w e commit ∷ slots) = readable-shown (at + 1) slots
+readable-visible at (Mark w e commit ∷ slots) = readable-visible (at + 1) slots
 
-pub shown_pairs-nil : (at : ℕ) (shown : List Bool) → shown_pairs at shown [] ≡ []
-shown_pairs-nil at [] = refl
-shown_pairs-nil at (is ∷ shown) = refl
+pub visible_pairs-nil : (at : ℕ) (visible : List Bool) → visible_pairs at visible [] ≡ []
+visible_pairs-nil at [] = refl
+visible_pairs-nil at (is ∷ visible) = refl
 
 -- one slot on
 passed_one : (from at : ℕ) (is : Bool) (slot : Slot) (rest : List (ℕ × Rec)) (b : Bool) → nat_le from at ≡ b
@@ -176,30 +176,30 @@ passed_one from at true (Sent w e number task rec) rest false h = ap (λ b. cond
 passed_one from at true (Mark w e commit) rest true h = refl
 passed_one from at true (Mark w e commit) rest false h = refl
 
-all_past : (from at : ℕ) (shown : List Bool) (slots : List Slot) → from ≤ at → at_or_past from (shown_pairs at shown slots) ≡ shown_pairs at shown slots
+all_past : (from at : ℕ) (visible : List Bool) (slots : List Slot) → from ≤ at → at_or_past from (visible_pairs at visible slots) ≡ visible_pairs at visible slots
 all_past from at [] slots h = refl
-all_past from at (is ∷ shown) [] h = refl
-all_past from at (is ∷ shown) (slot ∷ slots) h =
-    passed_one from at is slot (shown_pairs (at + 1) shown slots) true (le-leb from at h)
-    ∙ ap (λ l. cond is (record_at at slot) [] ++ l) (all_past from (at + 1) shown slots (omega (arith, h)))
+all_past from at (is ∷ visible) [] h = refl
+all_past from at (is ∷ visible) (slot ∷ slots) h =
+    passed_one from at is slot (visible_pairs (at + 1) visible slots) true (le-leb from at h)
+    ∙ ap (λ l. cond is (record_at at slot) [] ++ l) (all_past from (at + 1) visible slots (omega (arith, h)))
 
 -- a read begins at its offset
-past_shown : (at k : ℕ) (shown : List Bool) (slots : List Slot) → at_or_past (at + k) (shown_pairs at shown slots) ≡ shown_pairs (at + k) (drop k shown) (drop k slots)
-past_shown at zero shown slots =
+past_visible : (at k : ℕ) (visible : List Bool) (slots : List Slot) → at_or_past (at + k) (visible_pairs at visible slots) ≡ visible_pairs (at + k) (drop k visible) (drop k slots)
+past_visible at zero visible slots =
     let same : at + zero ≡ at = omega arith in
-    ap (λ n. at_or_past n (shown_pairs at shown slots)) same ∙ all_past at at shown slots (omega arith) ∙ ap (λ n. shown_pairs n shown slots) (sym same)
-past_shown at (suc k) [] slots = refl
-past_shown at (suc k) (is ∷ shown) [] = sym (shown_pairs-nil (at + suc k) (drop k shown))
-past_shown at (suc k) (is ∷ shown) (slot ∷ slots) =
+    ap (λ n. at_or_past n (visible_pairs at visible slots)) same ∙ all_past at at visible slots (omega arith) ∙ ap (λ n. visible_pairs n visible slots) (sym same)
+past_visible at (suc k) [] slots = refl
+past_visible at (suc k) (is ∷ visible) [] = sym (visible_pairs-nil (at + suc k) (drop k visible))
+past_visible at (suc k) (is ∷ visible) (slot ∷ slots) =
     let same : at + suc k ≡ at + 1 + k = omega arith in
-    passed_one (at + suc k) at is slot (shown_pairs (at + 1) shown slots) false (lt-leb (at + suc k) at (omega arith))
-    ∙ ap (λ n. at_or_past n (shown_pairs (at + 1) shown slots)) same ∙ past_shown (at + 1) k shown slots ∙ ap (λ n. shown_pairs n (drop k shown) (drop k slots)) (sym same)
+    passed_one (at + suc k) at is slot (visible_pairs (at + 1) visible slots) false (lt-leb (at + suc k) at (omega arith))
+    ∙ ap (λ n. at_or_past n (visible_pairs (at + 1) visible slots)) same ∙ past_visible (at + 1) k visible slots ∙ ap (λ n. visible_pairs n (drop k visible) (drop k slots)) (sym same)
 
-pub read_from : (from : ℕ) (slots : List Slot) (shown : List Bool) → shown ≡ shown_in slots → shown_pairs from (drop from shown) (drop from slots) ≡ at_or_past from (readable_pairs 0 slots)
-read_from from slots shown is =
+pub read_from : (from : ℕ) (slots : List Slot) (visible : List Bool) → visible ≡ visible_in slots → visible_pairs from (drop from visible) (drop from slots) ≡ at_or_past from (readable_pairs 0 slots)
+read_from from slots visible is =
     let same : 0 + from ≡ from = omega arith in
-    ap (λ n. shown_pairs n (drop from shown) (drop from slots)) (sym same) ∙ sym (past_shown 0 from shown slots) ∙ ap (λ n. at_or_past n (shown_pairs 0 shown slots)) same
-    ∙ ap (λ l. at_or_past from (shown_pairs 0 l slots)) is ∙ ap (at_or_past from) (sym (readable-shown 0 slots))
+    ap (λ n. visible_pairs n (drop from visible) (drop from slots)) (sym same) ∙ sym (past_visible 0 from visible slots) ∙ ap (λ n. at_or_past n (visible_pairs 0 visible slots)) same
+    ∙ ap (λ l. at_or_past from (visible_pairs 0 l slots)) is ∙ ap (at_or_past from) (sym (readable-visible 0 slots))
 
 -- ---- decided records
 decided_next : (waiting : ℕ → ℕ → Option Bool) (at : ℕ) (slot : Slot) (slots : List Slot) (marks : List Marked) → marks ≡ marks_in (slot ∷ slots)

@@ -19,17 +19,17 @@ mark_among w e [] = None
 mark_among w e (mark ∷ marks) = if (w == mark.producer) && (e == mark.epoch) then Some mark.commit else mark_among w e marks
 
 -- whether readers get a slot that these markers follow; none where no marker completes it
-abbrev pub shown_one : Slot → List Marked → Option Bool
-shown_one (Plain rec) marks = Some true
-shown_one (Sent w e number task rec) marks = mark_among w e marks
-shown_one (Mark w e commit) marks = Some false
+abbrev pub visible_one : Slot → List Marked → Option Bool
+visible_one (Plain rec) marks = Some true
+visible_one (Sent w e number task rec) marks = mark_among w e marks
+visible_one (Mark w e commit) marks = Some false
 
 -- for each slot below the last stable offset, whether readers get it
-abbrev pub shown_in : List Slot → List Bool
-shown_in [] = []
-shown_in (Plain rec ∷ slots) = true ∷ shown_in slots
-shown_in (Sent w e number task rec ∷ slots) = by_mark (next_mark w e slots) [] (true ∷ shown_in slots) (false ∷ shown_in slots)
-shown_in (Mark w e commit ∷ slots) = false ∷ shown_in slots
+abbrev pub visible_in : List Slot → List Bool
+visible_in [] = []
+visible_in (Plain rec ∷ slots) = true ∷ visible_in slots
+visible_in (Sent w e number task rec ∷ slots) = by_mark (next_mark w e slots) [] (true ∷ visible_in slots) (false ∷ visible_in slots)
+visible_in (Mark w e commit ∷ slots) = false ∷ visible_in slots
 
 -- the kept count of a producer and epoch, 0 where none is kept
 abbrev pub counted : ℕ → ℕ → List Counted → ℕ
@@ -47,9 +47,9 @@ counted_one w e [] = record { producer = w; epoch = e; count = 1 } ∷ []
 counted_one w e (kept ∷ counts) = if (w == kept.producer) && (e == kept.epoch) then record kept { count = kept.count + 1 } ∷ counts else kept ∷ counted_one w e counts
 
 -- what is kept is that of the slots; so many markers stand below the last stable offset
-pub record IsIndexed (slots : List Slot) (shown : List Bool) (marks : List Marked) (passed : ℕ) (counts : List Counted) : Type 0 where
-  pub shown_is : shown ≡ shown_in slots
+pub record IsIndexed (slots : List Slot) (visible : List Bool) (marks : List Marked) (passed : ℕ) (counts : List Counted) : Type 0 where
+  pub visible_is : visible ≡ visible_in slots
   pub marks_are : marks ≡ marks_in slots
-  pub passed_is : drop passed marks ≡ marks_in (drop (length shown) slots)
+  pub passed_is : drop passed marks ≡ marks_in (drop (length visible) slots)
   pub within : passed ≤ length marks
   pub counts_are : (w e : ℕ) → counted w e counts ≡ count_sent w e slots

@@ -47,10 +47,10 @@ record_at at (Sent w e number task rec) = (at, rec) ∷ []
 record_at at (Mark w e commit) = []
 
 -- the records of the slots that readers get; the first slot has this offset
-abbrev pub shown_pairs : ℕ → List Bool → List Slot → List (ℕ × Rec)
-shown_pairs at [] slots = []
-shown_pairs at (is ∷ shown) [] = []
-shown_pairs at (is ∷ shown) (slot ∷ slots) = (if is then record_at at slot else []) ++ shown_pairs (at + 1) shown slots
+abbrev pub visible_pairs : ℕ → List Bool → List Slot → List (ℕ × Rec)
+visible_pairs at [] slots = []
+visible_pairs at (is ∷ visible) [] = []
+visible_pairs at (is ∷ visible) (slot ∷ slots) = (if is then record_at at slot else []) ++ visible_pairs (at + 1) visible slots
 
 -- the record of a slot that these markers follow, where it is decided
 abbrev pub decided_one : (ℕ → ℕ → Option Bool) → ℕ → Slot → List Marked → List (ℕ × Rec)

@@ -1,6 +1,6 @@
 //! The markers of a partition.
 ghost use Rattle.std.specs.Prelude.{◌≡◌, ◌∷◌, [], length, IfOk};
-ghost use Rattle.ks_log.specs.Index.{marks_in, mark_among, shown_one};
+ghost use Rattle.ks_log.specs.Index.{marks_in, mark_among, visible_one};
 
 use ks_history::Slot;
 use std::alloc::{AllocError, Global};
@@ -26,8 +26,8 @@ pub fn mark_in(marks: &[Marked], w: u8, epoch: u64) -> Option<bool>
 }
 
 /// Whether readers get a slot that these markers follow; none where no marker completes it.
-pub fn is_shown(slot: &Slot, marks: &[Marked]) -> Option<bool>
-    ensures { result ≡ shown_one slot.now marks.now }
+pub fn is_visible(slot: &Slot, marks: &[Marked]) -> Option<bool>
+    ensures { result ≡ visible_one slot.now marks.now }
 {
     match slot {
         Slot::Plain { rec: _ } => Some(true),

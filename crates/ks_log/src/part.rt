@@ -2,12 +2,12 @@
 ghost use Rattle.std.specs.Prelude.{◌≡◌, ◌≤◌, ◌++◌, ◌∷◌, [], length, drop, take, vec_capacity, IfOk, OnOk, OnErr};
 ghost use Rattle.ks_history.specs.declared.partition.Slot.TheVariants.{Plain};
 ghost use Rattle.ks_history.specs.Partition.{stable, count_sent};
-ghost use Rattle.ks_log.specs.Index.{shown_in, marks_in};
+ghost use Rattle.ks_log.specs.Index.{visible_in, marks_in};
 ghost use Rattle.ks_log.specs.Reading.{readable_pairs, decided_pairs, at_or_past, waiting_in};
 
 use crate::counts::{Counted, count_of, counts_with};
-use crate::marks::{Marked, is_shown, mark_count, marks_of};
-use crate::reading::{decided_in, shown_from};
+use crate::marks::{Marked, is_visible, mark_count, marks_of};
+use crate::reading::{decided_in, visible_from};
 use ks_history::{Producer, Slot};
 use ks_row::{PartId, Rec};
 use std::alloc::{AllocError, Global};
@@ -18,7 +18,7 @@ use std::marker::Model;
 pub struct Part {
     slots: Vec<Slot>,
     /// For each slot below the last stable offset, whether readers get it.
-    shown: Vec<bool>,
+    visible: Vec<bool>,
     marks: Vec<Marked>,
     /// How many markers stand below the last stable offset.
     passed: usize,
@@ -34,27 +34,27 @@ impl Model for Part {
 
     ghost view = { λ p. p.slots.items };
 
-    ghost invariant = { λ p. IsIndexed p.slots.items p.shown.items p.marks.items p.passed p.counts.items };
+    ghost invariant = { λ p. IsIndexed p.slots.items p.visible.items p.marks.items p.passed p.counts.items };
 }
 
 /// Tells of each slot on from those that are known whether readers get it, up to the first record that no marker
 /// completes, and answers how many markers are passed.
-fn show_more(slots: &[Slot], marks: &[Marked], passed: usize, shown: &mut Vec<bool>) -> usize
-    requires room { length slots.now ≤ vec_capacity shown.old }
-    requires known { length shown.old.items ≤ length slots.now }
+fn extend_visible(slots: &[Slot], marks: &[Marked], passed: usize, visible: &mut Vec<bool>) -> usize
+    requires room { length slots.now ≤ vec_capacity visible.old }
+    requires known { length visible.old.items ≤ length slots.now }
     requires within { passed ≤ length marks.now }
-    requires marks { drop passed marks.now ≡ marks_in (drop (length shown.old.items) slots.now) }
-    ensures shown { shown.new.items ≡ shown.old.items ++ shown_in (drop (length shown.old.items) slots.now) }
+    requires marks { drop passed marks.now ≡ marks_in (drop (length visible.old.items) slots.now) }
+    ensures visible { visible.new.items ≡ visible.old.items ++ visible_in (drop (length visible.old.items) slots.now) }
     ensures within { result ≤ length marks.now }
-    ensures marks { drop result marks.now ≡ marks_in (drop (length shown.new.items) slots.now) }
+    ensures marks { drop result marks.now ≡ marks_in (drop (length visible.new.items) slots.now) }
 {
     let mut passed = passed;
-    for i in shown.len()..slots.len() {
+    for i in visible.len()..slots.len() {
         let slot = &slots[i];
-        let Some(is) = is_shown(slot, &marks[passed..]) else {
+        let Some(is) = is_visible(slot, &marks[passed..]) else {
             return passed;
         };
-        shown.push_reserved(is);
+        visible.push_reserved(is);
         passed += mark_count(slot);
     }
     passed
@@ -81,7 +81,7 @@ impl Part {
     {
         Part {
             slots: Vec::new(alloc),
-            shown: Vec::new(alloc),
+            visible: Vec::new(alloc),
             marks: Vec::new(alloc),
             passed: 0,
             counts: Vec::new(alloc),
@@ -99,7 +99,7 @@ impl Part {
     pub fn stable(&self) -> u64
         ensures { result ≡ stable self.now }
     {
-        self.shown.len() as u64
+        self.visible.len() as u64
     }
 
     /// How many records of this producer and epoch there are, 0 for one that sent none.
@@ -121,7 +121,7 @@ impl Part {
         ensures { IfOk result (λ made. made.items ≡ take limit (at_or_past from (readable_pairs 0 self.now))) }
     {
         let slots = self.slots.as_slice();
-        let made = shown_from(alloc, slots, self.shown.as_slice(), from as usize, limit)?;
+        let made = visible_from(alloc, slots, self.visible.as_slice(), from as usize, limit)?;
         Ok(made)
     }
 
@@ -153,8 +153,8 @@ impl Part {
     {
         let mut found = marks_of(alloc, more.as_slice())?;
         let counts = counts_with(alloc, self.counts.as_slice(), more.as_slice())?;
-        let room = self.slots.len() - self.shown.len();
-        self.shown.reserve(room + more.len())?;
+        let room = self.slots.len() - self.visible.len();
+        self.visible.reserve(room + more.len())?;
         self.marks.reserve(found.len())?;
         put_behind(&mut self.slots, more)?;
         if self.marks.append(&mut found).is_err() {
@@ -163,7 +163,7 @@ impl Part {
         self.counts = counts;
         let slots = self.slots.as_slice();
         let marks = self.marks.as_slice();
-        self.passed = show_more(slots, marks, self.passed, &mut self.shown);
+        self.passed = extend_visible(slots, marks, self.passed, &mut self.visible);
         Ok(())
     }
 
@@ -175,12 +175,12 @@ impl Part {
         ensures err { OnErr result (self.new ≡ self.old) }
     {
         let end = self.slots.len();
-        let room = end - self.shown.len();
-        self.shown.reserve(room + 1)?;
+        let room = end - self.visible.len();
+        self.visible.reserve(room + 1)?;
         self.slots.push(Slot::Plain { rec })?;
         let slots = self.slots.as_slice();
         let marks = self.marks.as_slice();
-        self.passed = show_more(slots, marks, self.passed, &mut self.shown);
+        self.passed = extend_visible(slots, marks, self.passed, &mut self.visible);
         Ok(end as u64)
     }
 }

@@ -3,7 +3,7 @@ ghost use Rattle.std.specs.Prelude.{◌≡◌, ◌++◌, ◌∷◌, [], ℕ, Lis
 ghost use Rattle.ks_history.specs.Partition.{past_last, decision};
 ghost use Rattle.ks_history.specs.Faithful.{marker_among};
 ghost use Rattle.ks_log.specs.Index.{marks_in};
-ghost use Rattle.ks_log.specs.Reading.{waiting_in, record_at, shown_pairs, decided_one, decided_pairs, end_at};
+ghost use Rattle.ks_log.specs.Reading.{waiting_in, record_at, visible_pairs, decided_one, decided_pairs, end_at};
 ghost use Rattle.ks_row.specs.declared.record.Rec.{Rec as Record};
 
 use crate::append::copy;
@@ -32,13 +32,13 @@ fn take_slot(
     made: &mut Vec<(u64, Rec)>,
     at: u64,
     slot: &Slot,
-    is_shown: bool,
+    is_visible: bool,
     left: usize,
 ) -> Result<usize, AllocError>
     requires { 0 < left }
-    ensures { IfOk result (λ less. (rest : List (ℕ × Record)) → made.new.items ++ take less rest ≡ made.old.items ++ take left ((if is_shown then record_at at slot.now else []) ++ rest)) }
+    ensures { IfOk result (λ less. (rest : List (ℕ × Record)) → made.new.items ++ take less rest ≡ made.old.items ++ take left ((if is_visible then record_at at slot.now else []) ++ rest)) }
 {
-    if !is_shown {
+    if !is_visible {
         return Ok(left);
     }
     match slot {
@@ -55,23 +55,23 @@ fn take_slot(
 }
 
 /// The first records that readers get at or past an offset, at most so many. No other is copied.
-pub fn shown_from(
+pub fn visible_from(
     alloc: Global,
     slots: &[Slot],
-    shown: &[bool],
+    visible: &[bool],
     from: usize,
     limit: usize,
 ) -> Result<Vec<(u64, Rec)>, AllocError>
-    requires { length shown.now ≤ length slots.now }
-    ensures { IfOk result (λ made. made.items ≡ take limit (shown_pairs from (drop from shown.now) (drop from slots.now))) }
+    requires { length visible.now ≤ length slots.now }
+    ensures { IfOk result (λ made. made.items ≡ take limit (visible_pairs from (drop from visible.now) (drop from slots.now))) }
 {
     let mut made = Vec::new(alloc);
     let mut left = limit;
-    for i in from..shown.len() {
+    for i in from..visible.len() {
         if left == 0 {
             return Ok(made);
         }
-        left = take_slot(&mut made, i as u64, &slots[i], shown[i], left)?;
+        left = take_slot(&mut made, i as u64, &slots[i], visible[i], left)?;
     }
     Ok(made)
 }

@@ -1,3 +1,4 @@
-pub mod Naming
 pub mod Resolving
 pub mod Tasks
+pub mod Building
+pub mod Crossing

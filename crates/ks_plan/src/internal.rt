@@ -36,7 +36,7 @@ pub fn internal_name(
     name.extend_from_slice(node)?;
     name.extend_from_slice("-".as_bytes())?;
     name.extend_from_slice(suffix(topic).as_bytes())?;
-    Ok(Blob::of(name))
+    Blob::of(name)
 }
 
 /// The topics that a node's own parts read, at the end of others. An error only where memory runs out.

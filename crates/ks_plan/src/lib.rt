@@ -4,21 +4,25 @@
 mod draft;
 mod fault;
 mod internal;
+mod kinds;
 mod layout;
 mod names;
 mod node;
 mod resolve;
 mod shape;
+mod sharing;
 mod topics;
 
 pub use draft::{Draft, NodeDraft, Op};
 pub use fault::TopoFault;
 pub use internal::{internal_name, push_changelogs, push_through};
+pub use kinds::{drafts_are_built, first_unbuilt, is_built};
 pub use layout::{number_at, push_parts, shape_of, sub_of};
 pub use names::{is_before, is_listed, is_node, is_source, is_topic};
 pub use node::{Node, Role, Topic, TopicInfo, Wiring};
 pub use resolve::{Input, Resolved, find_input, gives_stream, resolve_op};
 pub use shape::Shape;
+pub use sharing::{share_draft, share_node};
 pub use topics::{
     drained_topics, flowing_topics, kept_topics, number_of, numbers_by_sub, numbers_of,
     parts_of_topic, tasks_of,

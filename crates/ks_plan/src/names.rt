@@ -2,20 +2,12 @@
 ghost use Rattle.std.specs.Prelude.{◌≡◌, ◌≤◌, length, map};
 ghost use Rattle.std.specs.Ordering.{nat_cmp, is_lt};
 ghost use Rattle.std.specs.Cmp.Lexicographic.{slice_cmp};
-ghost use Rattle.ks_expr.specs.Eval.{same_bytes};
 ghost use Rattle.ks_plan.specs.Drafts.{nodes_view};
 ghost use Rattle.ks_plan.specs.Plan.{name_place, topic_number as number_by_name};
 ghost use Rattle.ks_plan.specs.Faults.{has_name, names_of, sources_of, names_of_topics};
 
 use crate::draft::{NodeDraft, Op};
-use ks_row::{Blob, Name};
-
-#[tactic(auto, using(crate::proofs::Naming::same_bytes_of))]
-fn same(a: &[u8], b: &[u8]) -> bool
-    ensures { result ≡ same_bytes a.now b.now }
-{
-    a == b
-}
+use ks_row::{Blob, Name, equal_bytes};
 
 /// Whether the first name stands before the second, byte by byte; of two names of which one begins the other, the shorter first.
 pub fn is_before(a: &[u8], b: &[u8]) -> bool
@@ -29,7 +21,7 @@ pub fn is_topic(topics: &[(Name, i64)], name: &[u8]) -> bool
     ensures { result ≡ has_name (names_of_topics topics.now) name.now }
 {
     for (topic, _) in topics {
-        if same(topic.as_str().as_bytes(), name) {
+        if equal_bytes(topic.as_str().as_bytes(), name) {
             return true;
         }
     }
@@ -41,7 +33,7 @@ pub fn is_node(nodes: &[NodeDraft], name: &[u8]) -> bool
     ensures { result ≡ has_name (names_of (nodes_view nodes.now)) name.now }
 {
     for node in nodes {
-        if same(node.name.as_str().as_bytes(), name) {
+        if equal_bytes(node.name.as_str().as_bytes(), name) {
             return true;
         }
     }
@@ -53,7 +45,7 @@ pub fn is_listed(names: &[Blob], name: &[u8]) -> bool
     ensures { result ≡ has_name names.now name.now }
 {
     for own in names {
-        if same(own.as_slice(), name) {
+        if equal_bytes(own.as_slice(), name) {
             return true;
         }
     }
@@ -67,7 +59,7 @@ pub fn is_source(nodes: &[NodeDraft], topic: &[u8]) -> bool
     for node in nodes {
         match &node.op {
             Op::Stream { topic: own } | Op::Table { topic: own } => {
-                if same(own.as_slice(), topic) {
+                if equal_bytes(own.as_slice(), topic) {
                     return true;
                 }
             }
@@ -84,7 +76,7 @@ pub fn find_node(nodes: &[NodeDraft], name: &[u8]) -> usize
 {
     let mut place = 0;
     for node in nodes {
-        if same(node.name.as_str().as_bytes(), name) {
+        if equal_bytes(node.name.as_str().as_bytes(), name) {
             return place;
         }
         place += 1;

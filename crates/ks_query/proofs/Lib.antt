@@ -1,2 +1,4 @@
 pub mod Put
 pub mod Floats
+pub mod Pointwise
+pub mod Members

@@ -4,3 +4,4 @@ pub mod Aggregates
 pub mod Query
 pub mod Grace
 pub mod Printed
+pub mod Laws

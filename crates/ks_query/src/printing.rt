@@ -95,5 +95,5 @@ pub fn printed(alloc: Global, tables: &[Table]) -> Result<Blob, AllocError>
     for table in tables {
         text.push_str(&print_table(alloc, table)?)?;
     }
-    Ok(Blob::of(text.into_bytes()))
+    Blob::of(text.into_bytes())
 }

@@ -5,3 +5,4 @@ pub mod Spelling
 pub mod Reading
 pub mod Parts
 pub mod Codecs
+pub mod Payloads

@@ -53,7 +53,7 @@ pub fn encode(alloc: Global, row: &Row) -> Result<Blob, AllocError>
     for (name, field) in members {
         push_member(&mut out, name, field)?;
     }
-    Ok(Blob::of(out))
+    Blob::of(out)
 }
 
 /// The row that the bytes spell, all of them; none where they spell no row.

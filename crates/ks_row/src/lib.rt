@@ -3,6 +3,7 @@
 
 mod assignment;
 mod codec;
+mod equal;
 mod lists;
 mod reading;
 mod record;
@@ -11,6 +12,7 @@ mod texts;
 
 pub use assignment::{Assignment, Marker, Refused};
 pub use codec::{decode, encode, reading_undoes_spelling, reread, spelling_is_injective};
+pub use equal::{equal_bytes, equal_numbers};
 pub use lists::{Blob, Seq};
 pub use reading::{read_bytes, read_i64, read_u32, read_u64};
 pub use record::{PartId, Rec, TaskId};

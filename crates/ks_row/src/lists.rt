@@ -1,6 +1,8 @@
 //! Lists that contracts see as lists, whatever keeps them.
-ghost use Rattle.std.specs.Prelude.{◌≡◌, ◌++◌, ◌∷◌, [], IfOk, OnOk, OnErr, length};
+ghost use Rattle.std.specs.Prelude.{◌≡◌, ◌≤◌, ◌++◌, ◌∷◌, [], IfOk, OnOk, OnErr, length};
 
+use arrayvec::ArrayVec;
+use bytes::Bytes;
 use std::alloc::{AllocError, Global};
 use std::marker::Model;
 
@@ -75,50 +77,95 @@ impl<T: Drop> Seq<T> {
     }
 }
 
-/// Bytes, which contracts see as a list; what keeps them may change.
+// Bytes that stand in the value itself, or in a block that copies share. As many stand in the value as a shared block's handle
+// takes room for.
+#[derive(Drop, Debug)]
+enum Payload {
+    Short(ArrayVec<u8, 32>),
+    Shared(Bytes),
+}
+
+/// Bytes, which contracts see as a list. Up to 32 stand in the value itself; more are shared by its copies, of which the last
+/// lets them go.
 #[derive(Drop, Debug)]
 pub struct Blob {
-    bytes: Vec<u8>,
+    payload: Payload,
 }
 
 impl Model for Blob {
     ghost use Rattle.std.specs.Prelude.{ℕ, List};
+    ghost use Rattle.ks_row.specs.Payloads.{bytes_of};
 
     ghost Value = { List ℕ };
 
-    ghost view = { λ b. b.bytes.items };
+    ghost view = { λ b. bytes_of b.payload };
 }
 
 impl Clone for Blob {
     ghost is_clone = { λ b copy. copy ≡ b };
 
     fn clone(&self) -> Result<Blob, AllocError> {
-        Ok(Blob {
-            bytes: self.bytes.clone()?,
-        })
+        match &self.payload {
+            Payload::Short(bytes) => Ok(Blob {
+                payload: Payload::Short(short(bytes.as_slice())),
+            }),
+            Payload::Shared(bytes) => Ok(Blob {
+                payload: Payload::Shared(bytes.clone()?),
+            }),
+        }
+    }
+}
+
+// A copy of few bytes.
+fn short(bytes: &[u8]) -> ArrayVec<u8, 32>
+    requires { length bytes.now ≤ 32 }
+    ensures { result.items ≡ bytes.now }
+{
+    let mut kept = ArrayVec::new();
+    match kept.try_extend_from_slice(bytes) {
+        Ok(()) => kept,
+        Err(_) => unreachable!(),
     }
 }
 
 impl Blob {
-    /// The bytes of a vector; takes no memory.
-    pub fn of(bytes: Vec<u8>) -> Blob
-        ensures { result ≡ bytes.items }
+    /// The bytes of a vector, of which more than 32 aren't copied.
+    pub fn of(bytes: Vec<u8>) -> Result<Blob, AllocError>
+        ensures { IfOk result (λ b. b ≡ bytes.items) }
     {
-        Blob { bytes }
+        if bytes.len() <= 32 {
+            return Ok(Blob {
+                payload: Payload::Short(short(bytes.as_slice())),
+            });
+        }
+        match Bytes::from_vec(bytes) {
+            Ok(bytes) => Ok(Blob {
+                payload: Payload::Shared(bytes),
+            }),
+            Err(_) => Err(AllocError),
+        }
     }
 
     /// A copy of these bytes.
     pub fn from_slice(alloc: Global, bytes: &[u8]) -> Result<Blob, AllocError>
         ensures { IfOk result (λ b. b ≡ bytes.now) }
     {
+        if bytes.len() <= 32 {
+            return Ok(Blob {
+                payload: Payload::Short(short(bytes)),
+            });
+        }
         Ok(Blob {
-            bytes: Vec::from_slice(alloc, bytes)?,
+            payload: Payload::Shared(Bytes::copy_from_slice(alloc, bytes)?),
         })
     }
 
     pub fn as_slice(&self) -> &[u8]
         ensures { result.now ≡ self.now }
     {
-        self.bytes.as_slice()
+        match &self.payload {
+            Payload::Short(bytes) => bytes.as_slice(),
+            Payload::Shared(bytes) => bytes.as_slice(),
+        }
     }
 }

@@ -15,7 +15,7 @@ use Rattle.ks_plan.specs.Infos.{info_of, topic_infos}
 use Rattle.ks_plan.specs.declared.node.TopicInfo.{TopicInfo}
 use Rattle.ks_plan.specs.Faults.{first_fitting, is_past, any_past, size_lines, parts_fault, fault_of}
 use Rattle.ks_topo.proofs.Sorting.{past_sorted}
-use Rattle.ks_records.specs.Records.{HavePartitions}
+use Rattle.ks_law_inputs.specs.Records.{HavePartitions}
 use Rattle.ks_run.specs.Producing.{IsParted}
 
 none_of : {A : Type 0} (a b : Option A) → option_or a b ≡ None → (a ≡ None) × (b ≡ None)

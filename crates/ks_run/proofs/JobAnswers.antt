@@ -2,14 +2,14 @@
 use Rattle.std.proofs.Common.{◌≡◌, ℕ, List, [], ◌∷◌, Some, sym, ap, subst}
 use Rattle.std.specs.Option.{unwrap_or}
 use Rattle.ks_plan.specs.Drafts.{DraftView}
-use Rattle.ks_machine.specs.Messages.{Rules}
+use Rattle.ks_def_tasks.specs.Messages.{Rules}
 use Rattle.ks_history.specs.declared.journal.Entry.{Entry}
 use Rattle.ks_job.specs.Items.{ItemView, TopologyAt, RecordTo}
-use Rattle.ks_records.specs.Records.{records_of}
-use Rattle.ks_run.specs.Settling.{split, Answers, AnswersOf}
+use Rattle.ks_law_inputs.specs.Records.{records_of}
+use Rattle.ks_run.specs.Settling.{split, SettlesJob, SettlesItems}
 
-pub answers_job : (rules : Rules) (is rest : List ItemView) (d : DraftView) (text : List ℕ) (journal : List Entry) → split is ≡ Some (d, rest) → Answers rules d (records_of rest) text journal → AnswersOf rules is text journal
+pub answers_job : (rules : Rules) (is rest : List ItemView) (d : DraftView) (text : List ℕ) (journal : List Entry) → split is ≡ Some (d, rest) → SettlesJob rules d (records_of rest) text journal → SettlesItems rules is text journal
 answers_job rules [] rest d text journal e a = absurd (cc)
 answers_job rules (TopologyAt line other ∷ is) rest d text journal e a =
-    subst (λ (p : DraftView × List ItemView). Answers rules p.0 (records_of p.1) text journal) (sym (ap (λ o. unwrap_or o (d, rest)) e)) a
+    subst (λ (p : DraftView × List ItemView). SettlesJob rules p.0 (records_of p.1) text journal) (sym (ap (λ o. unwrap_or o (d, rest)) e)) a
 answers_job rules (RecordTo topic r ∷ is) rest d text journal e a = absurd (cc)

@@ -12,11 +12,11 @@ use Rattle.ks_hash.specs.Murmur2.{murmur2_of}
 use Rattle.ks_plan.specs.Drafts.{DraftView}
 use Rattle.ks_plan.specs.Plan.{Plan, plan_of}
 use Rattle.ks_plan.specs.Layout.{topics_of, parts_of_topic}
-use Rattle.ks_work.specs.Spelled.{IfThere}
+use Rattle.ks_law_topology.specs.Spelled.{IfThere}
 use Rattle.ks_job.specs.Items.{ItemView, TopologyAt, RecordTo}
-use Rattle.ks_records.specs.Records.{row_in, input_of, records_of, IsRowBytes, IsRecord, AreRecords}
+use Rattle.ks_law_inputs.specs.Records.{row_in, input_of, records_of, IsRowBytes, IsRecord, AreRecords}
 use Rattle.ks_task.specs.Built.{rules_of}
-use Rattle.ks_answer.specs.Jobs.{produced_of, FitInputs, HasParts}
+use Rattle.ks_law_settled.specs.Jobs.{produced_of, FitInputs, HasParts}
 use Rattle.ks_run.specs.Producing.{part_at, placed, placed_all}
 use Rattle.ks_run.specs.Journals.{placed_records}
 use Rattle.ks_run.proofs.Counts.{part_count, counts_length}

@@ -1,15 +1,17 @@
 -- What a run answers, and why.
 use Rattle.std.specs.Prelude.{◌≡◌, ◌⊎◌, ℕ, List, [], true, false, Option, Some, None, IfSome}
-use Rattle.std.specs.Io.KnownBytes.{Consumes}
+use Rattle.std.specs.Io.KnownBytes.{IsAtEnd}
 use Rattle.ks_edge.specs.Causes.{Rose}
-use Rattle.ks_machine.specs.Messages.{Rules}
+use Rattle.ks_def_tasks.specs.Messages.{Rules}
 use Rattle.ks_history.specs.declared.journal.Entry.{Entry}
-use Rattle.ks_job.specs.Reader.{so_far, whole}
-use Rattle.ks_run.specs.declared.stop.Stop.{Stop}
-use Rattle.ks_run.specs.Stops.{stop_of}
-use Rattle.ks_run.specs.Texts.{bad_words_text, read_fault_text, bad_job_text}
+use Rattle.ks_job.specs.Reader.{whole}
+use Rattle.ks_job_source.specs.declared.stop.Stop.{Stop}
+use Rattle.ks_job_source.specs.Stops.{stop_of}
+use Rattle.ks_job_source.specs.Reading.{TookNoFault}
+use Rattle.ks_output.specs.Texts.{bad_words_text, read_fault_text}
+use Rattle.ks_job_source.specs.Texts.{bad_job_text}
 use Rattle.ks_run.specs.Asked.{is_run}
-use Rattle.ks_run.specs.Journals.{IsSettled}
+use Rattle.ks_run.specs.Journals.{IsSettledRun}
 
 -- the bytes are no job that can be run, for this reason
 abbrev pub IsStopped : List ℕ → Stop → Type 0
@@ -19,24 +21,24 @@ IsStopped bytes stop = stop_of (whole bytes) ≡ Some stop
 abbrev pub IsBadJob : List ℕ → List ℕ → Type 0
 IsBadJob bytes text = (stop : Stop) × IsStopped bytes stop × (text ≡ bad_job_text stop)
 
--- the bytes that the source lost have no whole line that is faulty, and no topology that is refused
-pub record TookNoFault (old new : Option (List ℕ)) : Type 0 where
-  pub taken : List ℕ
-  pub lost : Consumes old new taken
-  pub unstopped : stop_of (so_far taken) ≡ None
+-- some bytes, which are those that the source has left where it tells them, are no job that can be run, and the text names why
+pub record IsRefused (left : Option (List ℕ)) (text : List ℕ) : Type 0 where
+  pub bytes : List ℕ
+  pub known : IfSome left (λ b. b ≡ bytes)
+  pub bad : IsBadJob bytes text
 
 -- what a job's run answers, with its text and its journal: by the bytes that the source has left before and after, where they are
 -- known, and its count of faults before and after
 pub record IsJudged (rules : Rules) (old new : Option (List ℕ)) (before now : ℕ) (status : ℕ) (text : List ℕ) (journal : List Entry) : Type 0 where
   pub read_fault : status ≡ 6 → Rose before now × TookNoFault old new × (text ≡ read_fault_text) × (journal ≡ [])
-  pub bad_job : status ≡ 2 → (now ≡ before) × IfSome old (λ bytes. IsBadJob bytes text) × (journal ≡ [])
-  pub settled : status ≡ 0 → (now ≡ before) × IsSettled rules old text journal
+  pub bad_job : status ≡ 2 → (now ≡ before) × IsRefused old text × (journal ≡ [])
+  pub settled : status ≡ 0 → (now ≡ before) × IsAtEnd new × IsSettledRun rules old text journal
   pub only : (status ≡ 0) ⊎ (status ≡ 2) ⊎ (status ≡ 6)
 
 -- the same by the words first
 abbrev pub IsJudgedBy : List (List ℕ) → Rules → Option (List ℕ) → Option (List ℕ) → ℕ → ℕ → ℕ → List ℕ → List Entry → Type 0
 IsJudgedBy words rules old new before now status text journal =
-    ((is_run words ≡ false) × (status ≡ 1) × (text ≡ bad_words_text) × (journal ≡ []))
+    ((is_run words ≡ false) × (status ≡ 1) × (new ≡ old) × (now ≡ before) × (text ≡ bad_words_text) × (journal ≡ []))
     ⊎ ((is_run words ≡ true) × IsJudged rules old new before now status text journal)
 
 -- one of the statuses of a run

@@ -1,7 +1,7 @@
 -- What a run is asked for.
 use Rattle.std.specs.Prelude.{ℕ, List, [], ◌∷◌, map, codes, String, string_bytes, Bool, false, None}
 use Rattle.std.specs.declared.alloc.Global.{Global}
-use Rattle.ks_line.specs.Members.{same}
+use Rattle.ks_record_line.specs.Members.{same}
 use Rattle.ks_run.specs.declared.settings.Settings.{Settings}
 
 -- where the words say nothing else

@@ -1,12 +1,12 @@
 -- The records of a job as they are produced.
-use Rattle.std.specs.Prelude.{◌≡◌, ℕ, ◌<◌, ◌≤◌, List, [], ◌∷◌, ◌++◌, length, Option, Some, None, slice_index}
+use Rattle.std.specs.Prelude.{◌≡◌, ℕ, ◌<◌, ◌≤◌, List, ◌++◌, length, Option, Some, None, slice_index}
 use Rattle.ks_row.specs.declared.record.Rec.{Rec}
 use Rattle.ks_row.specs.declared.record.PartId.{PartId}
 use Rattle.ks_hash.specs.Partition.{part_of_key}
 use Rattle.ks_query.specs.Streams.{some_of}
 use Rattle.ks_job.specs.Items.{ItemView, TopologyAt, RecordTo}
-use Rattle.ks_cluster.specs.Kept.{Kept}
-use Rattle.ks_answer.specs.Jobs.{produces}
+use Rattle.ks_cluster.specs.View.{ClusterView}
+use Rattle.ks_law_settled.specs.Jobs.{produces}
 use Rattle.ks_settle.specs.Drained.{OnlyProduces}
 
 -- the partition of a key, of so many; without a key it is the first
@@ -26,21 +26,22 @@ abbrev pub placed_all : List ℕ → List ItemView → List (PartId × Rec)
 placed_all counts is = some_of (placed_in counts) is
 
 -- the cluster has produced these records more, and has done nothing else
-pub record Produces {W : Type 0} (old new : Kept W) (records : List (PartId × Rec)) : Type 0 where
+pub record Produces {W : Type 0} (old new : ClusterView W) (records : List (PartId × Rec)) : Type 0 where
   pub work : new.work ≡ old.work
   pub counts : new.counts ≡ old.counts
   pub tasks : new.tasks ≡ old.tasks
   pub produced : produces new.journal ≡ produces old.journal ++ records
   pub alone : OnlyProduces old.journal → OnlyProduces new.journal
 
+-- the cluster has produced a front of these records, and has done nothing else
+pub record ProducesFront {W : Type 0} (old new : ClusterView W) (records : List (PartId × Rec)) : Type 0 where
+  pub front : List (PartId × Rec)
+  pub rest : List (PartId × Rec)
+  pub is : records ≡ front ++ rest
+  pub produced : Produces old new front
+
 -- a topic has 1 to 64 partitions
 pub record IsParted (counts : List ℕ) (topic : ℕ) : Type 0 where
   pub within : topic < length counts
   pub some : 1 ≤ slice_index counts topic
   pub most : slice_index counts topic ≤ 64
-
--- all items are records to such topics
-abbrev pub AreParted : List ℕ → List ItemView → Type 0
-AreParted counts [] = Unit {0}
-AreParted counts (TopologyAt line d ∷ is) = ⊥
-AreParted counts (RecordTo topic rec ∷ is) = IsParted counts topic × AreParted counts is

@@ -3,13 +3,13 @@ use Rattle.std.specs.Prelude.{◌≡◌, ℕ, List, [], ◌∷◌, Option, Some,
 use Rattle.ks_plan.specs.Drafts.{DraftView}
 use Rattle.ks_query.specs.Streams.{Input}
 use Rattle.ks_query.specs.Printed.{job_tables}
-use Rattle.ks_machine.specs.Messages.{Rules}
+use Rattle.ks_def_tasks.specs.Messages.{Rules}
 use Rattle.ks_history.specs.declared.journal.Entry.{Entry}
 use Rattle.ks_job.specs.Items.{ItemView, TopologyAt, RecordTo}
 use Rattle.ks_job.specs.Reader.{whole}
-use Rattle.ks_records.specs.Records.{records_of}
-use Rattle.ks_run.specs.Stops.{stop_of}
-use Rattle.ks_run.specs.Texts.{settled_text}
+use Rattle.ks_law_inputs.specs.Records.{records_of}
+use Rattle.ks_job_source.specs.Stops.{stop_of}
+use Rattle.ks_output.specs.Texts.{settled_text}
 use Rattle.ks_run.specs.Journals.{IsJournal}
 
 -- the items of some bytes that are a job
@@ -25,11 +25,11 @@ split (TopologyAt line d ∷ is) = Some (d, is)
 split (RecordTo t r ∷ is) = None
 
 -- the text has the query's tables, and the journal settles the job
-pub record Answers (rules : Rules) (d : DraftView) (records : List Input) (text : List ℕ) (journal : List Entry) : Type 0 where
+pub record SettlesJob (rules : Rules) (d : DraftView) (records : List Input) (text : List ℕ) (journal : List Entry) : Type 0 where
   pub printed : text ≡ settled_text (job_tables d records)
   pub kept : IsJournal rules d records journal
 
-abbrev pub AnswersOf : Rules → List ItemView → List ℕ → List Entry → Type 0
-AnswersOf rules [] text journal = ⊥
-AnswersOf rules (TopologyAt line d ∷ is) text journal = Answers rules d (records_of is) text journal
-AnswersOf rules (RecordTo t r ∷ is) text journal = ⊥
+abbrev pub SettlesItems : Rules → List ItemView → List ℕ → List Entry → Type 0
+SettlesItems rules [] text journal = ⊥
+SettlesItems rules (TopologyAt line d ∷ is) text journal = SettlesJob rules d (records_of is) text journal
+SettlesItems rules (RecordTo t r ∷ is) text journal = ⊥

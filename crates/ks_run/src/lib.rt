@@ -2,17 +2,11 @@
 #![tactic(auto)]
 
 mod outcome;
-mod placing;
-mod printing;
 mod producing;
-mod reading;
-mod refusals;
 mod runs;
 mod settings;
 mod settling;
-mod sharing;
-mod stop;
-mod writing;
+mod status;
 
 pub use runs::{Ended, run_job, top};
 pub use settings::Settings;

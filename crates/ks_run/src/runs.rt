@@ -1,22 +1,23 @@
 //! A run of a job, and the top call.
-ghost use Rattle.std.specs.Prelude.{◌≡◌, ◌⊎◌, ℕ, List, [], IfSome, true, false, length};
-ghost use Rattle.std.specs.Io.KnownBytes.{Appends};
+ghost use Rattle.std.specs.Prelude.{◌≡◌, ◌⊎◌, ℕ, List, [], true, false, length};
+ghost use Rattle.std.specs.Io.KnownBytes.{Appends, IsAtEnd};
 ghost use Rattle.ks_edge.specs.Causes.{Rose};
 ghost use Rattle.ks_hash.specs.Murmur3.{murmur3_of};
 ghost use Rattle.ks_task.specs.Built.{rules_of};
-ghost use Rattle.ks_run.specs.Bytes.{AppendsFront};
-ghost use Rattle.ks_run.specs.Texts.{bad_words_text, read_fault_text};
+ghost use Rattle.ks_output.specs.Bytes.{AppendsFront};
+ghost use Rattle.ks_output.specs.Texts.{bad_words_text, read_fault_text};
 ghost use Rattle.ks_run.specs.Asked.{usual, words_of, is_run};
-ghost use Rattle.ks_run.specs.Journals.{IsSettled, HasJournal};
-ghost use Rattle.ks_run.specs.Answers.{IsBadJob, TookNoFault, IsJudged, IsJudgedBy, IsStatus};
+ghost use Rattle.ks_run.specs.Journals.{IsSettledRun, HasJournal};
+ghost use Rattle.ks_job_source.specs.Reading.{TookNoFault};
+ghost use Rattle.ks_run.specs.Answers.{IsRefused, IsJudged, IsJudgedBy, IsStatus};
 
 use crate::outcome::judge_job;
-use crate::printing::print_bad_words;
 use crate::settings::Settings;
-use crate::writing::write_output;
+use crate::status::{BAD_WORDS, NO_MEMORY, WRITE_FAULT};
 use ks_edge::{Gate, Sink, Source};
 use ks_hash::{Hash128, Murmur3};
 use ks_history::Journal;
+use ks_output::{print_bad_words, write_output};
 use ks_row::Seq;
 use std::alloc::Global;
 use std::sync::Wait;
@@ -33,7 +34,7 @@ pub struct Ended {
 ///
 /// | Status | Comes | Written | Journal |
 /// |---|---|---|---|
-/// | 0 | the source did not fail, and its bytes are a job of the kinds of nodes that are built | `settled`, and the tables in the order of `print`: the topology's query over the job's records | has produced the job's records, is settled, and its replay is one uncrashed run |
+/// | 0 | the source did not fail and was read to its end, and its bytes are a job of the kinds of nodes that are built | `settled`, and the tables in the order of `print`: the topology's query over the job's records | has produced the job's records, is settled, and its replay is one uncrashed run |
 /// | 2 | the bytes have a faulty line, or a topology with a fault or a node that isn't built, before the source failed | `bad job line L: FAULT`, the first such line | empty |
 /// | 6 | the source failed before that | `read fault` | empty |
 /// | 7 | the sink failed, in place of each of these | a front of what they write | as theirs |
@@ -58,11 +59,12 @@ pub fn run_job<H: Hash128 + Send + Sync, R: Threads + Wait + Sync, S: Source, K:
         × Appends (K.held out.old) (K.held out.new) read_fault_text
         × (result.journal ≡ []) }
     ensures bad_job { result.status ≡ 2 → (S.faults input.new ≡ S.faults input.old)
-        × ((text : List ℕ) × IfSome (S.left input.old) (λ bytes. IsBadJob bytes text)
+        × ((text : List ℕ) × IsRefused (S.left input.old) text
         × Appends (K.held out.old) (K.held out.new) text)
         × (result.journal ≡ []) }
     ensures settled { result.status ≡ 0 → (S.faults input.new ≡ S.faults input.old)
-        × ((text : List ℕ) × IsSettled (rules_of H.hash_of) (S.left input.old) text result.journal
+        × IsAtEnd (S.left input.new)
+        × ((text : List ℕ) × IsSettledRun (rules_of H.hash_of) (S.left input.old) text result.journal
         × Appends (K.held out.old) (K.held out.new) text) }
     ensures write_fault { result.status ≡ 7 → Rose (K.faults out.old) (K.faults out.new)
         × ((status : ℕ) × (text : List ℕ)
@@ -83,7 +85,7 @@ pub fn run_job<H: Hash128 + Send + Sync, R: Threads + Wait + Sync, S: Source, K:
     drop(gates);
     let Ok(answer) = judge_job::<H, R, S>(rt, alloc, input) else {
         return Ended {
-            status: 8,
+            status: NO_MEMORY,
             journal: Seq::new(alloc),
         };
     };
@@ -93,7 +95,7 @@ pub fn run_job<H: Hash128 + Send + Sync, R: Threads + Wait + Sync, S: Source, K:
             journal: answer.journal,
         },
         Err(_) => Ended {
-            status: 7,
+            status: WRITE_FAULT,
             journal: answer.journal,
         },
     }
@@ -119,16 +121,22 @@ fn refuse_words<K: Sink>(alloc: Global, out: &mut K) -> Ended
 {
     let journal = Seq::new(alloc);
     let Ok(text) = print_bad_words(alloc) else {
-        return Ended { status: 8, journal };
+        return Ended {
+            status: NO_MEMORY,
+            journal,
+        };
     };
     match write_output(out, &text) {
         Ok(()) => Ended { status: 1, journal },
-        Err(_) => Ended { status: 7, journal },
+        Err(_) => Ended {
+            status: WRITE_FAULT,
+            journal,
+        },
     }
 }
 
 /// Runs the job that the source holds where the words are the one word `run`, by `run_job` with Murmur3 and the usual settings, and
-/// hands back how that ended. Any other words have status 1: `bad words` is written, nothing is read, and the journal is empty.
+/// hands back how that ended. Any other words have status 1: `bad words` is written, the source is as it was, and the journal is empty.
 pub fn top<R: Threads + Wait + Sync, S: Source, K: Sink>(
     rt: &R,
     alloc: Global,
@@ -139,6 +147,7 @@ pub fn top<R: Threads + Wait + Sync, S: Source, K: Sink>(
 ) -> Ended
     requires { length gates.items ≡ 16 }
     ensures bad_words { result.status ≡ 1 → (is_run (words_of words.now) ≡ false)
+        × (input.new ≡ input.old)
         × Appends (K.held out.old) (K.held out.new) bad_words_text
         × (result.journal ≡ []) }
     ensures read_fault { result.status ≡ 6 → (is_run (words_of words.now) ≡ true)
@@ -148,12 +157,13 @@ pub fn top<R: Threads + Wait + Sync, S: Source, K: Sink>(
         × (result.journal ≡ []) }
     ensures bad_job { result.status ≡ 2 → (is_run (words_of words.now) ≡ true)
         × (S.faults input.new ≡ S.faults input.old)
-        × ((text : List ℕ) × IfSome (S.left input.old) (λ bytes. IsBadJob bytes text)
+        × ((text : List ℕ) × IsRefused (S.left input.old) text
         × Appends (K.held out.old) (K.held out.new) text)
         × (result.journal ≡ []) }
     ensures settled { result.status ≡ 0 → (is_run (words_of words.now) ≡ true)
         × (S.faults input.new ≡ S.faults input.old)
-        × ((text : List ℕ) × IsSettled (rules_of murmur3_of) (S.left input.old) text result.journal
+        × IsAtEnd (S.left input.new)
+        × ((text : List ℕ) × IsSettledRun (rules_of murmur3_of) (S.left input.old) text result.journal
         × Appends (K.held out.old) (K.held out.new) text) }
     ensures write_fault { result.status ≡ 7 → Rose (K.faults out.old) (K.faults out.new)
         × ((status : ℕ) × (text : List ℕ)

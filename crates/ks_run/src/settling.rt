@@ -4,24 +4,25 @@ ghost use Rattle.ks_plan.specs.Drafts.{draft_view};
 ghost use Rattle.ks_topo.specs.Topologies.{draft_of, plan_in};
 ghost use Rattle.ks_history.specs.History.{IsHistory};
 ghost use Rattle.ks_history.specs.Count.{records_in};
-ghost use Rattle.ks_cluster.specs.Kept.{setup_of};
+ghost use Rattle.ks_cluster.specs.View.{setup_of};
 ghost use Rattle.ks_job.specs.Items.{item_views};
-ghost use Rattle.ks_records.specs.Records.{HavePartitions, AreRecords, records_of};
-ghost use Rattle.ks_work.specs.Work.{work_of};
+ghost use Rattle.ks_law_inputs.specs.Records.{HavePartitions, AreRecords, records_of};
+ghost use Rattle.ks_law_topology.specs.Work.{work_of};
 ghost use Rattle.ks_task.specs.Built.{IsBuilt, rules_of};
-ghost use Rattle.ks_run.specs.Texts.{settled_text};
-ghost use Rattle.ks_run.specs.Settling.{IsReadJob, split, Answers, AnswersOf};
+ghost use Rattle.ks_output.specs.Texts.{settled_text};
+ghost use Rattle.ks_run.specs.Settling.{IsReadJob, split, SettlesJob, SettlesItems};
 
-use crate::printing::print_settled;
 use crate::producing::{counts_of, produce_all};
 use ks_cluster::{Cluster, Work};
 use ks_hash::Hash128;
 use ks_history::Journal;
 use ks_job::JobItem;
+use ks_output::print_settled;
 use ks_query::Table;
-use ks_settle::{drain, share_topology, tables};
+use ks_settle::drain;
+use ks_tables::tables;
 use ks_task::TaskWork;
-use ks_topo::{Draft, Topology};
+use ks_topo::{Draft, Topology, share_topology};
 use std::alloc::{AllocError, Global};
 use std::thread::{Threads, join};
 
@@ -64,14 +65,14 @@ fn settle<H: Hash128 + Send + Sync, R: Threads + Sync, W: Work + Send + Sync>(
     requires built { IsBuilt (plan_in topology.now) }
     requires partitions { HavePartitions (draft_of topology.now).topics }
     requires records { AreRecords (length (draft_of topology.now).topics) (item_views records.items) }
-    ensures { IfOk result (λ s. Answers (rules_of H.hash_of) (draft_of topology.now) (records_of (item_views records.items)) s.text.items s.journal) }
+    ensures { IfOk result (λ s. SettlesJob (rules_of H.hash_of) (draft_of topology.now) (records_of (item_views records.items)) s.text.items s.journal) }
 {
     let _nodes = topology.nodes();
     let counts = counts_of(alloc, topology.topics())?;
     let kept = Vec::from_slice(alloc, counts.as_slice())?;
     let tasks = Vec::from_slice(alloc, topology.tasks())?;
     let mut cluster = Cluster::new(alloc, work, kept, tasks)?;
-    produce_all(rt, alloc, &mut cluster, counts.as_slice(), records)?;
+    produce_all(alloc, &mut cluster, counts.as_slice(), records)?;
     drain::<H, R, W>(rt, alloc, topology, &mut cluster)?;
     let tables = tables(rt, alloc, topology, &cluster)?;
     end_run(rt, alloc, cluster, tables)
@@ -98,7 +99,7 @@ pub fn settle_job<H: Hash128 + Send + Sync, R: Threads + Sync>(
     items: Vec<JobItem>,
 ) -> Result<Settled, AllocError>
     requires { IsReadJob (item_views items.items) }
-    ensures { IfOk result (λ s. AnswersOf (rules_of H.hash_of) (item_views items.items) s.text.items s.journal) }
+    ensures { IfOk result (λ s. SettlesItems (rules_of H.hash_of) (item_views items.items) s.text.items s.journal) }
 {
     let Some((draft, records)) = split_job(items) else {
         unreachable!()

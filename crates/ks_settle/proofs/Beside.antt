@@ -8,7 +8,7 @@ use Rattle.std.proofs.lemmas.List.{length-append, length-map}
 use Rattle.ks_plan.specs.Drafts.{DraftView}
 use Rattle.ks_history.specs.declared.journal.Entry.{Entry}
 use Rattle.ks_history.specs.State.{Setup, are_once}
-use Rattle.ks_follow.specs.Views.{WorkView}
+use Rattle.ks_law_restore.specs.Views.{WorkView}
 use Rattle.ks_commit.specs.declared.work.Frozen.{Frozen}
 use Rattle.ks_commit.specs.Work.{work_view}
 use Rattle.ks_task.specs.declared.task.Task.{Task}

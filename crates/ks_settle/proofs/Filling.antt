@@ -1,17 +1,25 @@
 -- What a task hands over after it has read a topic.
-use Rattle.std.proofs.Common.{◌≡◌, ℕ, Bool, true, false, cond, not, ◌&&◌, List, [], ◌∷◌, ◌++◌, refl, sym, ap, subst, ◌∙◌, Some, None}
+use Rattle.std.proofs.Common.{◌≡◌, ℕ, Bool, true, false, cond, not, ◌&&◌, List, [], ◌∷◌, ◌++◌, refl, sym, ap, subst, ◌∙◌, Some, None, get_or}
 use Rattle.std.proofs.lemmas.Bool.{true≢false}
 use Rattle.ks_row.specs.declared.record.Rec.{Rec}
 use Rattle.ks_row.specs.declared.record.PartId.{PartId}
 use Rattle.ks_row.specs.Parts.{same_part}
 use Rattle.ks_history.specs.declared.journal.Entry.{Entry}
-use Rattle.ks_history.specs.Machine.{has_topic}
+use Rattle.ks_history.specs.Machine.{TaskPlan, has_topic}
 use Rattle.ks_history.specs.State.{Setup}
-use Rattle.ks_follow.specs.Views.{WorkView, IsFrozen, recs_at, names_part, are_outputs, is_empty}
-use Rattle.ks_follow.proofs.Freezing.{frozen_is_work}
-use Rattle.ks_follow.proofs.Inside.{frozen_is_inside}
+use Rattle.ks_history.specs.Follows.{TaskView}
+use Rattle.ks_law_restore.specs.Views.{WorkView, IsFrozen, recs_at, names_part, are_outputs, is_empty}
+use Rattle.ks_law_restore.proofs.Freezing.{frozen_is_work}
+use Rattle.ks_law_restore.proofs.Inside.{frozen_is_inside}
 use Rattle.ks_task.specs.declared.task.Task.{Task}
+use Rattle.ks_row.specs.declared.record.TaskId.{TaskId}
 use Rattle.ks_plan.specs.Drafts.{DraftView}
+use Rattle.ks_plan.specs.Plan.{plan_of}
+use Rattle.ks_plan.specs.Faults.{fault_of}
+use Rattle.ks_plan.specs.Infos.{input_numbers, inputs_by_sub}
+use Rattle.ks_def_tasks.specs.Messages.{Rules}
+use Rattle.ks_law_topology.specs.Work.{work_of}
+use Rattle.ks_task.proofs.Subs.{inputs_there}
 use Rattle.ks_task.specs.Tasks.{task_view, IsTaskOf}
 use Rattle.ks_settle.specs.Reading.{IsClean}
 use Rattle.ks_settle.specs.Drained.{MayDrain, IsDrainedTo, IsFilledTo, IsReadOn, IsRead}
@@ -32,6 +40,12 @@ unnamed_part q (out ∷ outs) once none = by (names_part out.0 outs) once (same_
     by false o false r rs e more = more (tail (not (is_empty out.1)) (are_outputs outs) o).1 r
     by false o true r [] e more = absurd (true≢false (sym (sym (ap (λ l. not (is_empty l)) e) ∙ (tail (not (is_empty out.1)) (are_outputs outs) o).0)))
     by false o true r (x ∷ xs) e more = absurd (let g : (x ∷ xs) ++ recs_at q outs ≡ [] = ap (λ l. l ++ recs_at q outs) (sym e) ∙ r in cc)
+
+-- the inputs that a well-formed topology names for a task's subtopology are its task's
+pub own_inputs : (plan : TaskPlan) (rules : Rules) (d : DraftView) (id : TaskId) (v : TaskView) (numbers : List ℕ) → fault_of d ≡ None → plan ≡ work_of rules (plan_of d) → id ≡ v.task → numbers ≡ get_or (inputs_by_sub (plan_of d)) id.sub [] →
+    numbers ≡ plan.inputs v.task.sub
+own_inputs plan rules d id v numbers fine work is e =
+    e ∙ inputs_there d fine id.sub ∙ ap (λ (t : TaskId). input_numbers (plan_of d) t.sub) is ∙ sym (ap (λ (q : TaskPlan). q.inputs v.task.sub) work)
 
 -- a task that doesn't read the topic
 pub reads_not : (d : DraftView) (setup : Setup) (journal : List Entry) (topic : ℕ) (t : Task) → has_topic topic (setup.plan.inputs (task_view t).task.sub) ≡ false → IsTaskOf d t → IsDrainedTo setup journal topic (task_view t) →

@@ -1,15 +1,9 @@
+pub mod Firsts
 pub mod Fetching
 pub mod Taking
 pub mod Topics
-pub mod Pairs
-pub mod Named
-pub mod Folds
-pub mod Merges
-pub mod NextRow
-pub mod Parted
 pub mod Works
 pub mod Beside
-pub mod Sharing
 pub mod Told
 pub mod Filling
 pub mod Publishing

@@ -13,20 +13,20 @@ use Rattle.ks_plan.specs.Plan.Kind.{ForeignKeyJoin}
 use Rattle.ks_plan.specs.declared.node.Topic.{Topic}
 use Rattle.ks_plan.specs.Layout.{number_of, drain_order, reads}
 use Rattle.ks_plan.specs.Infos.{input_numbers, drain_numbers}
-use Rattle.ks_machine.specs.Messages.{Rules}
-use Rattle.ks_history.specs.Machine.{Plan, has_topic}
+use Rattle.ks_def_tasks.specs.Messages.{Rules}
+use Rattle.ks_history.specs.Machine.{TaskPlan, has_topic}
 use Rattle.ks_history.specs.State.{Setup}
 use Rattle.ks_history.specs.Settled.{IsSettled}
-use Rattle.ks_rest.specs.WellFormed.{IsWellFormed}
-use Rattle.ks_work.specs.Work.{setup_of as topology_setup}
-use Rattle.ks_work.proofs.Order.{drain_rises}
-use Rattle.ks_work.proofs.Caused.{made_in_order}
-use Rattle.ks_work.proofs.Setups.{setups_are_made}
-use Rattle.ks_work.proofs.Networks.{works_are_networks}
-use Rattle.ks_routes.proofs.Once.{inputs_once}
-use Rattle.ks_routes.proofs.Steps.{topologies_send_inside}
-use Rattle.ks_routes.specs.Routes.{JoinsHaveParts}
-use Rattle.ks_cluster.specs.Kept.{Kept, setup_of, state_of}
+use Rattle.ks_law_quiescence.specs.WellFormed.{IsWellFormed}
+use Rattle.ks_law_topology.specs.Work.{setup_of as topology_setup}
+use Rattle.ks_law_topology.proofs.Order.{drain_rises}
+use Rattle.ks_law_topology.proofs.Caused.{made_in_order}
+use Rattle.ks_law_topology.proofs.Setups.{setups_are_made}
+use Rattle.ks_law_topology.proofs.Networks.{works_are_networks}
+use Rattle.ks_law_settled.proofs.Once.{inputs_once}
+use Rattle.ks_law_settled.proofs.Inside.{topologies_send_inside}
+use Rattle.ks_law_settled.specs.Routes.{JoinsHaveParts}
+use Rattle.ks_cluster.specs.View.{ClusterView, setup_of, state_of}
 use Rattle.ks_commit.specs.declared.publisher.Publisher.{Publisher}
 use Rattle.ks_task.specs.Built.{IsBuilt, are_built, is_built_kind, rules_of}
 use Rattle.ks_task.specs.declared.task.Task.{Task}
@@ -102,8 +102,8 @@ later xs i k up lt h =
     subst (λ j. slice_index xs i < slice_index xs j) e (rises xs i (k - (i + 1)) up (omega (arith, e, h)))
 
 -- ---- one topic after another
-module _ {W : Type 0} (plan : W → Plan) (rules : Rules) (d : DraftView) (first : Kept W) (is : setup_of plan first ≡ topology_setup rules (plan_of d)) where
-  inputs_of : (c : Kept W) → Extends first c → (sub u : ℕ) → has_topic u ((setup_of plan c).plan.inputs sub) ≡ true → has_topic u (input_numbers (plan_of d) sub) ≡ true
+module _ {W : Type 0} (plan : W → TaskPlan) (rules : Rules) (d : DraftView) (first : ClusterView W) (is : setup_of plan first ≡ topology_setup rules (plan_of d)) where
+  inputs_of : (c : ClusterView W) → Extends first c → (sub u : ℕ) → has_topic u ((setup_of plan c).plan.inputs sub) ≡ true → has_topic u (input_numbers (plan_of d) sub) ≡ true
   inputs_of c ext sub u h = subst (λ (s : Setup). has_topic u (s.plan.inputs sub) ≡ true) (same_setup plan first c ext ∙ is) h
 
   pub draining_first : (publisher : Publisher) (order : List ℕ) (ts : List Task) → AreResting plan first publisher d 0 ts → IsDraining plan first first publisher d order 0 ts
@@ -115,7 +115,7 @@ module _ {W : Type 0} (plan : W → Plan) (rules : Rules) (d : DraftView) (first
     rest = r;
   }
 
-  pub resting_at : (c : Kept W) (publisher : Publisher) (i topic : ℕ) (order : List ℕ) (ts : List Task) → IsDraining plan first c publisher d order i ts → order ≡ drain_numbers (plan_of d) → i < length order → topic ≡ slice_index order i →
+  pub resting_at : (c : ClusterView W) (publisher : Publisher) (i topic : ℕ) (order : List ℕ) (ts : List Task) → IsDraining plan first c publisher d order i ts → order ≡ drain_numbers (plan_of d) → i < length order → topic ≡ slice_index order i →
       AreResting plan c publisher d topic ts
   resting_at c publisher i topic order ts dr o lt at = record {
     ready = dr.rest.ready;
@@ -144,7 +144,7 @@ module _ {W : Type 0} (plan : W → Plan) (rules : Rules) (d : DraftView) (first
                   let up : IsStrictlyIncreasing order = subst IsStrictlyIncreasing (sym o) (drain_rises (plan_of d)) in
                   omega (arith, later order i k up (omega (arith, low-k, g)) within, value, at, high)
 
-  pub draining_on : (c new : Kept W) (publisher now : Publisher) (i topic : ℕ) (order : List ℕ) (ts after : List Task) → IsDraining plan first c publisher d order i ts → order ≡ drain_numbers (plan_of d) → i < length order → topic ≡ slice_index order i →
+  pub draining_on : (c new : ClusterView W) (publisher now : Publisher) (i topic : ℕ) (order : List ℕ) (ts after : List Task) → IsDraining plan first c publisher d order i ts → order ≡ drain_numbers (plan_of d) → i < length order → topic ≡ slice_index order i →
       AreResting plan new now d (topic + 1) after × Extends c new → IsDraining plan first new now d order (i + 1) after
   draining_on c new publisher now i topic order ts after dr o lt at r = record {
     extends = extends_both first c new dr.extends r.1;
@@ -158,7 +158,7 @@ module _ {W : Type 0} (plan : W → Plan) (rules : Rules) (d : DraftView) (first
       by k h true e = let g : k ≡ i = eqb-true k i e in omega (arith, ap (slice_index order) g, at)
       by k h false e = let g : (k ≡ i → ⊥) = eqb-false k i e in omega (arith, dr.below k (omega (arith, h, g)), dr.above i (omega arith) lt, at)
 
-  pub settled_last : (c : Kept W) (publisher : Publisher) (i : ℕ) (order : List ℕ) (ts : List Task) → IsDraining plan first c publisher d order i ts → order ≡ drain_numbers (plan_of d) → length order ≤ i → IsSettled (setup_of plan c) (state_of plan c) × Extends first c
+  pub settled_last : (c : ClusterView W) (publisher : Publisher) (i : ℕ) (order : List ℕ) (ts : List Task) → IsDraining plan first c publisher d order i ts → order ≡ drain_numbers (plan_of d) → length order ≤ i → IsSettled (setup_of plan c) (state_of plan c) × Extends first c
   settled_last c publisher i order ts dr o done =
       (settled (setup_of plan c) c.journal dr.bound (map task_view ts) low names all dr.rest.ready.alone.idle, dr.extends)
     where

@@ -13,12 +13,13 @@ use Rattle.ks_plan.specs.Infos.{changelog_numbers}
 use Rattle.ks_history.specs.declared.journal.Entry.{Entry}
 use Rattle.ks_history.specs.declared.journal.Request.{Request}
 use Rattle.ks_history.specs.declared.journal.Request.TheVariants.{Produce, Init, Add, Append, SendOffsets, Decide, MarkNext, Join, Expire, Hold, Probe, Assign, Park, Unpark}
-use Rattle.ks_history.specs.Machine.{Plan, IsNetwork}
+use Rattle.ks_def_tasks.specs.Messages.{Rules}
+use Rattle.ks_history.specs.Machine.{TaskPlan, IsNetwork}
 use Rattle.ks_history.specs.State.{Setup}
 use Rattle.ks_history.specs.History.{at, IsHistory}
-use Rattle.ks_follow.specs.Views.{WorkView}
-use Rattle.ks_cluster.specs.Kept.{Kept, setup_of, state_of}
-use Rattle.ks_answer.specs.Jobs.{produces}
+use Rattle.ks_law_restore.specs.Views.{WorkView}
+use Rattle.ks_cluster.specs.View.{ClusterView, setup_of, state_of}
+use Rattle.ks_law_settled.specs.Jobs.{produces}
 use Rattle.ks_row.specs.declared.record.TaskId.{TaskId}
 use Rattle.ks_commit.specs.Committed.{tasks_in, Committed, EachEnds, IsReady}
 use Rattle.ks_commit.specs.declared.publisher.Publisher.{Publisher}
@@ -26,7 +27,7 @@ use Rattle.ks_history.specs.Reads.{end_of}
 use Rattle.ks_commit.specs.Sending.{produce_none, IsLonger, is_produce}
 use Rattle.ks_task.specs.declared.task.Task.{Task}
 use Rattle.ks_task.specs.Tasks.{task_view}
-use Rattle.ks_settle.specs.Drained.{IsDrainedTo, Rests, IsFull, told_view, ends_for, AreWorks, ArePublished, AreToldBy, AreToldTo, IsToldTask, AreReading, AreResting, MayDrain, Extends}
+use Rattle.ks_settle.specs.Drained.{IsDrainedTo, Rests, IsFull, told_view, ends_for, AreWorks, ArePublished, AreToldBy, AreToldTo, IsToldTask, AreReading, AreResting, MayDrain, IsOfTopology, Extends}
 use Rattle.ks_settle.proofs.Told.{one_told}
 use Rattle.ks_settle.proofs.Topics.{quiet_on}
 use Rattle.ks_settle.proofs.Works.{set_id, same_default}
@@ -79,30 +80,37 @@ produces-append (x ∷ xs) ys = by x.request (produces-append xs ys)
     by (Park instance t) e = e
     by (Unpark instance t) e = e
 
-pub extends_by : {W : Type 0} (old new : Kept W) (more : List Entry) → IsLonger old new more → produce_none more ≡ true → Extends old new
+pub extends_by : {W : Type 0} (old new : ClusterView W) (more : List Entry) → IsLonger old new more → produce_none more ≡ true → Extends old new
 extends_by old new more is quiet =
-    let journal : new.journal ≡ old.journal ++ more = ap (λ (c : Kept _). c.journal) is in
+    let journal : new.journal ≡ old.journal ++ more = ap (λ (c : ClusterView _). c.journal) is in
     record {
       same = is ∙ ap (λ (j : List Entry). record old { journal = j }) (sym journal);
       prefix = (more, journal);
       produces = ap produces journal ∙ produces-append old.journal more ∙ ap (λ l. produces old.journal ++ l) (quiet_entries more quiet) ∙ append-nil (produces old.journal);
     }
 
-pub extends_none : {W : Type 0} (c : Kept W) → Extends c c
+pub extends_none : {W : Type 0} (c : ClusterView W) → Extends c c
 extends_none c = record { same = refl; prefix = ([], sym (append-nil c.journal)); produces = refl }
 
-pub extends_both : {W : Type 0} (a b c : Kept W) → Extends a b → Extends b c → Extends a c
+pub extends_both : {W : Type 0} (a b c : ClusterView W) → Extends a b → Extends b c → Extends a c
 extends_both a b c x y = record {
-  same = y.same ∙ ap (λ (k : Kept _). record k { journal = c.journal }) x.same;
+  same = y.same ∙ ap (λ (k : ClusterView _). record k { journal = c.journal }) x.same;
   prefix = (x.prefix.0 ++ y.prefix.0, y.prefix.1 ∙ ap (λ l. l ++ y.prefix.0) x.prefix.1 ∙ append_assoc a.journal x.prefix.0 y.prefix.0);
   produces = y.produces ∙ x.produces;
 }
 
-pub same_setup : {W : Type 0} (plan : W → Plan) (old new : Kept W) → Extends old new → setup_of plan new ≡ setup_of plan old
+pub same_setup : {W : Type 0} (plan : W → TaskPlan) (old new : ClusterView W) → Extends old new → setup_of plan new ≡ setup_of plan old
 same_setup plan old new x = ap (setup_of plan) x.same
 
+pub still_of_topology : {W : Type 0} (plan : W → TaskPlan) (rules : Rules) (d : DraftView) (old new : ClusterView W) → IsOfTopology plan rules d old → Extends old new → IsOfTopology plan rules d new
+still_of_topology plan rules d old new o x = record {
+  well_formed = o.well_formed;
+  work = ap (λ (k : ClusterView _). plan k.work) x.same ∙ o.work;
+  may = subst MayDrain (sym (same_setup plan old new x)) o.may;
+}
+
 -- ---- the commit
-pub published : {W : Type 0} (plan : W → Plan) (old new : Kept W) (w topic : ℕ) (fs : List WorkView) (told : List (List (ℕ × ℕ))) → Committed plan old new w fs told → AreWorks (setup_of plan old) old.journal topic fs →
+pub published : {W : Type 0} (plan : W → TaskPlan) (old new : ClusterView W) (w topic : ℕ) (fs : List WorkView) (told : List (List (ℕ × ℕ))) → Committed plan old new w fs told → AreWorks (setup_of plan old) old.journal topic fs →
     IsHistory (setup_of plan new) new.journal → ArePublished (setup_of plan old) old.journal new.journal topic fs told
 published plan old new w topic fs told c works hist =
     let ext : Extends old new = extends_by old new c.more c.is c.quiet in
@@ -111,7 +119,7 @@ published plan old new w topic fs told c works hist =
     record {
       more = c.more;
       worker = w;
-      is = ap (λ (k : Kept _). k.journal) c.is;
+      is = ap (λ (k : ClusterView _). k.journal) c.is;
       history = subst (λ s. IsHistory s new.journal) setup hist;
       commits = c.commits;
       ends = subst (λ s. EachEnds (setup_of plan old) s fs told) states c.ends;
@@ -159,7 +167,7 @@ rest_told draft setup journal new topic fs es old now net logs done full told k 
     )
 
 -- ---- the cluster between two topics
-pub rests_on : {W : Type 0} (plan : W → Plan) (old new : Kept W) (publisher : Publisher) (draft : DraftView) (w topic : ℕ) (fs : List WorkView) (es : List (List (ℕ × ℕ))) (before after : List Task) → MayDrain (setup_of plan old) →
+pub rests_on : {W : Type 0} (plan : W → TaskPlan) (old new : ClusterView W) (publisher : Publisher) (draft : DraftView) (w topic : ℕ) (fs : List WorkView) (es : List (List (ℕ × ℕ))) (before after : List Task) → MayDrain (setup_of plan old) →
     ((sub : ℕ) → (setup_of plan old).plan.changelogs sub ≡ changelog_numbers (plan_of draft) sub) → AreReading draft (setup_of plan old) old.journal topic (length before) before fs → Committed plan old new w fs es →
     IsHistory (setup_of plan new) new.journal → IsReady (setup_of plan new) (state_of plan new) publisher → AreToldBy draft (tasks_in fs) es before after → AreResting plan new publisher draft (topic + 1) after × Extends old new
 rests_on plan old new publisher draft w topic fs es before after may logs r c hist ready told =
@@ -177,7 +185,7 @@ rests_on plan old new publisher draft w topic fs es before after may logs r c hi
     )
 
 -- where nothing was to be committed
-pub rests_still : {W : Type 0} (plan : W → Plan) (c : Kept W) (publisher : Publisher) (draft : DraftView) (topic : ℕ) (ts : List Task) → AreReading draft (setup_of plan c) c.journal topic (length ts) ts [] → IsReady (setup_of plan c) (state_of plan c) publisher →
+pub rests_still : {W : Type 0} (plan : W → TaskPlan) (c : ClusterView W) (publisher : Publisher) (draft : DraftView) (topic : ℕ) (ts : List Task) → AreReading draft (setup_of plan c) c.journal topic (length ts) ts [] → IsReady (setup_of plan c) (state_of plan c) publisher →
     AreResting plan c publisher draft (topic + 1) ts × Extends c c
 rests_still plan c publisher draft topic ts r ready = (
   record {

@@ -12,14 +12,14 @@ use Rattle.ks_history.specs.declared.journal.Request.{Request}
 use Rattle.ks_history.specs.declared.journal.Request.TheVariants.{Produce, Init, Add, Append, SendOffsets, Decide, MarkNext, Join, Expire, Hold, Probe, Assign, Park, Unpark}
 use Rattle.ks_history.specs.declared.partition.Slot.TheVariants.{Plain}
 use Rattle.ks_history.specs.Partition.{decided_from}
-use Rattle.ks_history.specs.Machine.{Plan, IsNetwork, part_of, has_topic}
+use Rattle.ks_history.specs.Machine.{TaskPlan, IsNetwork, part_of, has_topic}
 use Rattle.ks_history.specs.State.{State, Setup, start, new_producer, has_task}
 use Rattle.ks_history.specs.Step.{after}
 use Rattle.ks_history.specs.Faithful.{decided, waiting_at, markers_of}
 use Rattle.ks_history.specs.History.{at, state_after, Each, IsStep, Meets, IsHistory}
-use Rattle.ks_follow.specs.Views.{Stands, fresh_view}
-use Rattle.ks_follow.proofs.Freezing.{fresh_stands}
-use Rattle.ks_cluster.specs.Kept.{Kept, setup_of, state_of}
+use Rattle.ks_law_restore.specs.Views.{Stands, fresh_view}
+use Rattle.ks_law_restore.proofs.Freezing.{fresh_stands}
+use Rattle.ks_cluster.specs.View.{ClusterView, setup_of, state_of}
 use Rattle.ks_commit.specs.declared.publisher.Publisher.{Publisher}
 use Rattle.ks_commit.specs.Alone.{IsIdle}
 use Rattle.ks_commit.specs.Committed.{Started, IsReady}
@@ -30,7 +30,7 @@ use Rattle.ks_settle.specs.Drained.{OnlyProduces, ids, IsDrainedTo, AreFresh, Ar
 use Rattle.ks_settle.proofs.Topics.{fresh_is}
 use Rattle.ks_settle.proofs.Works.{has_at, get_id}
 use Rattle.ks_settle.proofs.Publishing.{extends_by, same_setup}
-use Rattle.ks_machine.proofs.Names.{same_task-is}
+use Rattle.ks_def_tasks.proofs.Names.{same_task-is}
 
 -- nothing but records of inputs
 record IsPlain (setup : Setup) (s : State) : Type 0 where
@@ -91,7 +91,7 @@ one_produce_more (e ∷ es) entry only is = (only.0, one_produce_more es entry o
 none_decided : (s : State) (q : PartId) → s.partition q ≡ [] → decided s q ≡ []
 none_decided s q e = ap (decided_from (waiting_at (markers_of s) q) 0) e
 
-fresh_on : {W : Type 0} (plan : W → Plan) (old new : Kept W) (t : TaskId) → IsNetwork (setup_of plan old).plan → OnlyProduces old.journal → IsHistory (setup_of plan old) old.journal → Started plan old new → setup_of plan new ≡ setup_of plan old →
+fresh_on : {W : Type 0} (plan : W → TaskPlan) (old new : ClusterView W) (t : TaskId) → IsNetwork (setup_of plan old).plan → OnlyProduces old.journal → IsHistory (setup_of plan old) old.journal → Started plan old new → setup_of plan new ≡ setup_of plan old →
     Stands (setup_of plan new) new.journal (fresh_view t)
 fresh_on plan old new t net only hist started same =
     let was : IsPlain (setup_of plan old) (state_of plan old) = plain_at (setup_of plan old) old.journal only hist in
@@ -100,7 +100,7 @@ fresh_on plan old new t net only hist started same =
     (λ topic h. none_decided (state_of plan new) (part_of topic t) (ap (λ f. f (part_of topic t)) started.partition
     ∙ was.none (part_of topic t) (net.apart.no_source t.sub topic (subst (λ s. has_topic topic (s.plan.changelogs t.sub) ≡ true) same h))))
 
-pub resting_first : {W : Type 0} (plan : W → Plan) (old new : Kept W) (publisher : Publisher) (d : DraftView) (ts : List Task) → IsNetwork (setup_of plan old).plan → OnlyProduces old.journal → IsHistory (setup_of plan old) old.journal →
+pub resting_first : {W : Type 0} (plan : W → TaskPlan) (old new : ClusterView W) (publisher : Publisher) (d : DraftView) (ts : List Task) → IsNetwork (setup_of plan old).plan → OnlyProduces old.journal → IsHistory (setup_of plan old) old.journal →
     Started plan old new → IsReady (setup_of plan new) (state_of plan new) publisher → AreFresh d old.tasks ts → AreResting plan new publisher d 0 ts × Extends old new
 resting_first plan old new publisher d ts net only hist started ready fresh =
     let ext : Extends old new = extends_by old new started.more started.is started.quiet in

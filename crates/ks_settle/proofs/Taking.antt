@@ -7,14 +7,14 @@ use Rattle.ks_row.specs.declared.record.PartId.{PartId}
 use Rattle.ks_row.specs.declared.record.TaskId.{TaskId}
 use Rattle.ks_history.specs.declared.journal.Entry.{Entry}
 use Rattle.ks_history.specs.Partition.{stable, readable, read, read_next}
-use Rattle.ks_history.specs.Machine.{Plan, IsNetwork, part_of, has_topic}
+use Rattle.ks_history.specs.Machine.{TaskPlan, IsNetwork, part_of, has_topic}
 use Rattle.ks_history.specs.State.{Setup, IsSetup, IsPart, has_task, with_number}
 use Rattle.ks_history.proofs.Histories.{stable-le}
 use Rattle.ks_history.specs.Reads.{fetched, end_of, MayFetch}
 use Rattle.ks_history.specs.Follows.{TaskView}
 use Rattle.ks_history.specs.History.{at, IsHistory}
-use Rattle.ks_follow.specs.Views.{Stands, take_view, take_all, skip_view}
-use Rattle.ks_follow.proofs.Fetching.{fetching_stands}
+use Rattle.ks_law_restore.specs.Views.{Stands, take_view, take_all, skip_view}
+use Rattle.ks_law_restore.proofs.Fetching.{fetching_stands}
 use Rattle.ks_task.specs.declared.task.Task.{Task}
 use Rattle.ks_plan.specs.Drafts.{DraftView}
 use Rattle.ks_task.specs.Tasks.{task_view, IsTaskOf}
@@ -23,7 +23,7 @@ use Rattle.ks_settle.specs.Reading.{SendsOn, HasRead}
 use Rattle.ks_settle.specs.Drained.{MayDrain, IsReader, IsFetched, IsReadOn}
 use Rattle.ks_commit.specs.Alone.{IsIdle}
 use Rattle.ks_commit.proofs.Slots.{is_stable}
-use Rattle.ks_settle.proofs.Folds.{take_one}
+use Rattle.ks_settle.proofs.Firsts.{take_one}
 use Rattle.ks_settle.proofs.Fetching.{Fetched, fetched_is}
 
 here : {A : Type 0} (f : ℕ → A) (k : ℕ) (x : A) → with_number f k x k ≡ x
@@ -39,7 +39,7 @@ record IsKin (topic : ℕ) (v w : TaskView) : Type 0 where
   others : (u : ℕ) → (u == topic) ≡ false → w.inputs u ≡ v.inputs u
   made : (q : PartId) → q.topic ≤ topic → w.made q ≡ v.made q
 
-kin_all : (plan : Plan) (sends : SendsOn plan) (topic : ℕ) (v : TaskView) (recs : List (ℕ × Rec)) → IsKin topic v (take_all plan v topic recs)
+kin_all : (plan : TaskPlan) (sends : SendsOn plan) (topic : ℕ) (v : TaskView) (recs : List (ℕ × Rec)) → IsKin topic v (take_all plan v topic recs)
 kin_all plan sends topic v [] = record { task = refl; kept = λ u. refl; others = λ u e. refl; made = λ q h. refl }
 kin_all plan sends topic v (r ∷ rs) =
     let new = take_view plan v topic r.0 r.1 in
@@ -144,18 +144,18 @@ read_on d setup journal topic moved old now new r f =
     subst (IsReadOn d setup journal topic moved old) (sym same) (record { of = r.of; read = record { read = r.read; all = f.ends refl }; stays = r.stays })
 
 -- ---- records one after another
-taken_task : (plan : Plan) (topic : ℕ) (v : TaskView) (recs : List (ℕ × Rec)) → (take_all plan v topic recs).task ≡ v.task
+taken_task : (plan : TaskPlan) (topic : ℕ) (v : TaskView) (recs : List (ℕ × Rec)) → (take_all plan v topic recs).task ≡ v.task
 taken_task plan topic v [] = refl
 taken_task plan topic v (r ∷ rs) = taken_task plan topic (take_view plan v topic r.0 r.1) rs
 
-pub still_input : (numbers : ℕ → List ℕ) (plan : Plan) (topic : ℕ) (v w : TaskView) (recs : List (ℕ × Rec)) → w ≡ take_all plan v topic recs → has_topic topic (numbers v.task.sub) ≡ true → has_topic topic (numbers w.task.sub) ≡ true
+pub still_input : (numbers : ℕ → List ℕ) (plan : TaskPlan) (topic : ℕ) (v w : TaskView) (recs : List (ℕ × Rec)) → w ≡ take_all plan v topic recs → has_topic topic (numbers v.task.sub) ≡ true → has_topic topic (numbers w.task.sub) ≡ true
 still_input numbers plan topic v w recs is h = ap (λ (t : TaskId). has_topic topic (numbers t.sub)) (ap (λ (x : TaskView). x.task) is ∙ taken_task plan topic v recs) ∙ h
 
-take_all-push : (plan : Plan) (topic : ℕ) (v : TaskView) (recs : List (ℕ × Rec)) (r : ℕ × Rec) → take_all plan v topic (recs ++ r ∷ []) ≡ take_view plan (take_all plan v topic recs) topic r.0 r.1
+take_all-push : (plan : TaskPlan) (topic : ℕ) (v : TaskView) (recs : List (ℕ × Rec)) (r : ℕ × Rec) → take_all plan v topic (recs ++ r ∷ []) ≡ take_view plan (take_all plan v topic recs) topic r.0 r.1
 take_all-push plan topic v [] r = refl
 take_all-push plan topic v (x ∷ recs) r = take_all-push plan topic (take_view plan v topic x.0 x.1) recs r
 
-pub one_record_more : (plan : Plan) (topic : ℕ) (v now new : TaskView) (recs : List (ℕ × Rec)) (i : ℕ) (r : ℕ × Rec) → i < length recs → r ≡ get_or recs i r → now ≡ take_all plan v topic (take i recs) →
+pub one_record_more : (plan : TaskPlan) (topic : ℕ) (v now new : TaskView) (recs : List (ℕ × Rec)) (i : ℕ) (r : ℕ × Rec) → i < length recs → r ≡ get_or recs i r → now ≡ take_all plan v topic (take i recs) →
     new ≡ take_view plan now topic r.0 r.1 → new ≡ take_all plan v topic (take (i + 1) recs)
 one_record_more plan topic v now new recs i r h there was is =
     is ∙ ap (λ w. take_view plan w topic r.0 r.1) was ∙ sym (take_all-push plan topic v (take i recs) r) ∙ ap (take_all plan v topic) (sym (take_one recs i r h there))
@@ -203,7 +203,7 @@ module _ (d : DraftView) (setup : Setup) (journal : List Entry) (topic : ℕ) (m
       stopped d setup journal topic 32 t next r.of r.stands r.input (omega arith) (all_stable (part_of topic (task_view t).task))
       (goes ∙ ap (λ u. (fetched (at setup journal) (part_of topic u) from 32).1) is ∙ ap (λ f. (fetched (at setup journal) (part_of topic (task_view t).task) f 32).1) there) (same ∙ there)
 
-  pub fetch_moves : (plan : Plan) (old mid new : Task) (id : TaskId) (from next : ℕ) (recs slice : List (ℕ × Rec)) → IsReader d setup journal topic old → setup.plan ≡ plan → id ≡ (task_view old).task → from ≡ (task_view old).inputs topic →
+  pub fetch_moves : (plan : TaskPlan) (old mid new : Task) (id : TaskId) (from next : ℕ) (recs slice : List (ℕ × Rec)) → IsReader d setup journal topic old → setup.plan ≡ plan → id ≡ (task_view old).task → from ≡ (task_view old).inputs topic →
       recs ≡ (fetched (at setup journal) (part_of topic id) from 32).0 → next ≡ (fetched (at setup journal) (part_of topic id) from 32).1 → (next ≡ from → ⊥) → slice ≡ recs →
       task_view mid ≡ take_all plan (task_view old) topic slice → IsTaskOf d new → task_view new ≡ skip_view (task_view mid) topic next → IsFetched d setup journal topic true old new
   fetch_moves plan old mid new id from next recs slice r work is there records goes differs same took of skipped =

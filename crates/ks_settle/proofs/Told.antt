@@ -7,16 +7,16 @@ use Rattle.ks_row.specs.Parts.{same_task}
 use Rattle.ks_plan.specs.Drafts.{DraftView}
 use Rattle.ks_plan.specs.Plan.{plan_of}
 use Rattle.ks_plan.specs.Infos.{changelog_numbers}
-use Rattle.ks_machine.proofs.Names.{same_task-is}
+use Rattle.ks_def_tasks.proofs.Names.{same_task-is}
 use Rattle.ks_history.specs.declared.journal.Entry.{Entry}
 use Rattle.ks_history.specs.Machine.{IsNetwork, part_of, has_topic}
 use Rattle.ks_history.specs.State.{State, Setup, pending_of, offset_in}
 use Rattle.ks_history.specs.Follows.{TaskView}
 use Rattle.ks_history.specs.History.{at, IsHistory}
-use Rattle.ks_follow.specs.Views.{Stands, WorkView, pending_work, committed_view, AreEnds, IsPast}
-use Rattle.ks_follow.specs.Commits.{commits_for, commit_by, NoCommit, OneCommit}
-use Rattle.ks_follow.proofs.Lasting.{longer_stands}
-use Rattle.ks_follow.proofs.Committing.{committed_stands}
+use Rattle.ks_law_restore.specs.Views.{Stands, WorkView, pending_work, committed_view, AreEnds, IsPast}
+use Rattle.ks_law_restore.specs.Commits.{commits_for, commit_by, NoCommit, OneCommit}
+use Rattle.ks_law_restore.proofs.Lasting.{longer_stands}
+use Rattle.ks_law_restore.proofs.Committing.{committed_stands}
 use Rattle.ks_commit.specs.Committed.{EachEnds, tasks_in}
 use Rattle.ks_commit.specs.Sending.{pendings_of}
 use Rattle.ks_task.specs.Views.{own_ends}

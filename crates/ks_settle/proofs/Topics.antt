@@ -4,7 +4,7 @@ use Rattle.std.specs.Prelude.{◌==◌, nat_lt}
 use Rattle.std.specs.List.{All}
 use Rattle.std.proofs.lemmas.Bool.{eqb-true, eqb-false, true≢false}
 use Rattle.std.proofs.lemmas.List.{length-map}
-use Rattle.ks_machine.proofs.Names.{same_task-is}
+use Rattle.ks_def_tasks.proofs.Names.{same_task-is}
 use Rattle.std.proofs.lemmas.Bool.Decides.{nat_tests}
 use Rattle.ks_row.specs.declared.record.TaskId.{TaskId}
 use Rattle.ks_row.specs.Parts.{same_task}
@@ -16,7 +16,7 @@ use Rattle.ks_history.specs.Reads.{end_of}
 use Rattle.ks_history.specs.Follows.{TaskView}
 use Rattle.ks_history.specs.History.{at}
 use Rattle.ks_history.specs.Settled.{IsSettled}
-use Rattle.ks_follow.specs.Views.{Stands, fresh_view, committed_view}
+use Rattle.ks_law_restore.specs.Views.{Stands, fresh_view, committed_view}
 use Rattle.ks_settle.specs.Reading.{IsClean, HasReadAll}
 use Rattle.ks_settle.specs.Drained.{IsDrainedTo, IsFilledTo, IsTold, SameEnds}
 

@@ -9,21 +9,21 @@ use Rattle.ks_row.specs.declared.record.PartId.{PartId}
 use Rattle.ks_row.specs.declared.record.TaskId.{TaskId}
 use Rattle.ks_row.specs.Parts.{same_task}
 use Rattle.ks_plan.specs.Drafts.{DraftView}
-use Rattle.ks_machine.proofs.Names.{same_task-is}
+use Rattle.ks_def_tasks.proofs.Names.{same_task-is}
 use Rattle.ks_history.specs.declared.journal.Entry.{Entry}
 use Rattle.ks_history.specs.State.{State, Setup, has_task, are_once}
 use Rattle.ks_history.specs.History.{at}
-use Rattle.ks_follow.specs.Views.{WorkView, names_part}
+use Rattle.ks_law_restore.specs.Views.{WorkView, names_part}
 use Rattle.std.proofs.lemmas.List.{map-append}
 use Rattle.std.proofs.lemmas.List.Elements.{All-append}
-use Rattle.ks_history.specs.Machine.{Plan}
+use Rattle.ks_history.specs.Machine.{TaskPlan}
 use Rattle.ks_history.specs.Follows.{TaskView}
-use Rattle.ks_follow.specs.Views.{fresh_view}
-use Rattle.ks_cluster.specs.Kept.{Kept, setup_of}
+use Rattle.ks_law_restore.specs.Views.{fresh_view}
+use Rattle.ks_cluster.specs.View.{ClusterView, setup_of}
 use Rattle.ks_commit.specs.declared.work.Frozen.{Frozen}
 use Rattle.ks_commit.specs.declared.publisher.Publisher.{Publisher}
 use Rattle.ks_commit.specs.Work.{work_view}
-use Rattle.ks_settle.proofs.Folds.{take_one}
+use Rattle.ks_settle.proofs.Firsts.{take_one}
 use Rattle.ks_commit.specs.Committed.{works_of, MayCommit, EachMay, tasks_in, names_in}
 use Rattle.ks_task.specs.declared.task.Task.{Task}
 use Rattle.ks_task.specs.Tasks.{task_view, IsTaskOf}
@@ -227,7 +227,7 @@ pub kept_one : (old new : List Frozen) (x : Frozen) (o : Option Frozen) → new 
 kept_one old new x o e h = ap works_of e ∙ works_push-of old x ∙ ap (λ q. with_work (works_of old) (option_map work_view q)) (sym h)
 
 -- ---- the start of a topic
-pub begin_reading : {W : Type 0} (plan : W → Plan) (c : Kept W) (publisher : Publisher) (d : DraftView) (topic : ℕ) (ts : List Task) → AreResting plan c publisher d topic ts → AreReading d (setup_of plan c) c.journal topic 0 ts []
+pub begin_reading : {W : Type 0} (plan : W → TaskPlan) (c : ClusterView W) (publisher : Publisher) (d : DraftView) (topic : ℕ) (ts : List Task) → AreResting plan c publisher d topic ts → AreReading d (setup_of plan c) c.journal topic 0 ts []
 begin_reading plan c publisher d topic ts r = record {
   names = r.names;
   full = λ k t low high. absurd (omega (arith, high));

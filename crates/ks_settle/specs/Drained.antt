@@ -6,18 +6,22 @@ use Rattle.ks_row.specs.declared.record.TaskId.{TaskId}
 use Rattle.ks_row.specs.Parts.{same_task}
 use Rattle.ks_plan.specs.Drafts.{DraftView}
 use Rattle.ks_plan.specs.Plan.{plan_of}
+use Rattle.ks_plan.specs.Faults.{fault_of}
+use Rattle.ks_def_tasks.specs.Messages.{Rules}
+use Rattle.ks_law_topology.specs.Work.{work_of}
+use Rattle.ks_commit.specs.Alone.{IsIdle}
 use Rattle.ks_plan.specs.Infos.{changelog_numbers}
 use Rattle.ks_history.specs.declared.journal.Entry.{Entry}
-use Rattle.ks_history.specs.Machine.{Plan, IsNetwork, part_of, has_topic}
+use Rattle.ks_history.specs.Machine.{TaskPlan, IsNetwork, part_of, has_topic}
 use Rattle.ks_history.specs.State.{State, Setup, IsSetup, has_task}
 use Rattle.ks_history.specs.Reads.{end_of}
 use Rattle.ks_history.specs.Follows.{TaskView}
 use Rattle.ks_history.specs.History.{at, IsHistory, IsPrefix}
-use Rattle.ks_follow.specs.Views.{Stands, WorkView, IsFrozen, fresh_view, committed_view, names_part, are_topics_once, SendsInside}
-use Rattle.ks_follow.specs.Commits.{commits_for, commit_by}
+use Rattle.ks_law_restore.specs.Views.{Stands, WorkView, IsFrozen, fresh_view, committed_view, names_part, are_topics_once, SendsInside}
+use Rattle.ks_law_restore.specs.Commits.{commits_for, commit_by}
 use Rattle.ks_history.specs.State.{pending_of}
-use Rattle.ks_cluster.specs.Kept.{Kept, setup_of, state_of}
-use Rattle.ks_answer.specs.Jobs.{produces}
+use Rattle.ks_cluster.specs.View.{ClusterView, setup_of, state_of}
+use Rattle.ks_law_settled.specs.Jobs.{produces}
 use Rattle.ks_commit.specs.declared.publisher.Publisher.{Publisher}
 use Rattle.ks_commit.specs.Work.{work_view}
 use Rattle.ks_commit.specs.Committed.{IsReady, MayCommit, EachMay, AreApart, names_in, EachEnds}
@@ -41,6 +45,17 @@ pub record MayDrain (setup : Setup) : Type 0 where
   pub sends : SendsOn setup.plan
   pub inside : SendsInside setup
   pub once : (sub : ℕ) → are_topics_once (setup.plan.inputs sub) ≡ true
+
+-- a cluster of the tasks of this topology, by these rules
+pub record IsOfTopology {W : Type 0} (plan : W → TaskPlan) (rules : Rules) (d : DraftView) (c : ClusterView W) : Type 0 where
+  pub well_formed : fault_of d ≡ None
+  pub work : plan c.work ≡ work_of rules (plan_of d)
+  pub may : MayDrain (setup_of plan c)
+
+-- and between two transactions, so that all of its records may be read
+pub record MayRead {W : Type 0} (plan : W → TaskPlan) (rules : Rules) (d : DraftView) (c : ClusterView W) : Type 0 where
+  pub of : IsOfTopology plan rules d c
+  pub idle : IsIdle (state_of plan c)
 
 -- ---- tasks between two topics
 -- the task has taken and committed all of its inputs before this topic, and holds nothing
@@ -68,11 +83,11 @@ with_work fs None = fs
 with_work fs (Some f) = fs ++ f ∷ []
 
 -- the task's work is this one; without one it holds nothing
-abbrev pub IsToldBy : Plan → TaskView → Option WorkView → Type 0
+abbrev pub IsToldBy : TaskPlan → TaskView → Option WorkView → Type 0
 IsToldBy plan v None = IsClean plan v
 IsToldBy plan v (Some f) = IsFrozen plan v f
 
-abbrev pub IsTold : Plan → List WorkView → TaskView → Type 0
+abbrev pub IsTold : TaskPlan → List WorkView → TaskView → Type 0
 IsTold plan fs v = IsToldBy plan v (work_for v.task fs)
 
 -- the ends that were answered to a task's work, where these tasks had works
@@ -187,7 +202,7 @@ pub record AreToldTo (d : DraftView) (worked : List TaskId) (ends : List (List (
 
 -- ---- the cluster between two topics
 -- all tasks are there, and have taken and committed all of their inputs before this topic
-pub record AreResting {W : Type 0} (plan : W → Plan) (c : Kept W) (publisher : Publisher) (d : DraftView) (topic : ℕ) (ts : List Task) : Type 0 where
+pub record AreResting {W : Type 0} (plan : W → TaskPlan) (c : ClusterView W) (publisher : Publisher) (d : DraftView) (topic : ℕ) (ts : List Task) : Type 0 where
   pub ready : IsReady (setup_of plan c) (state_of plan c) publisher
   pub names : ids ts ≡ c.tasks
   pub rest : All (Rests d (setup_of plan c) c.journal topic) ts
@@ -198,13 +213,13 @@ pub record AreFresh (d : DraftView) (all : List TaskId) (ts : List Task) : Type 
   pub fresh : All (λ t. IsTaskOf d t × (task_view t ≡ fresh_view (task_view t).task)) ts
 
 -- the cluster's journal is longer, with no further input; all else is the same
-pub record Extends {W : Type 0} (old new : Kept W) : Type 0 where
+pub record Extends {W : Type 0} (old new : ClusterView W) : Type 0 where
   pub same : new ≡ record old { journal = new.journal }
   pub prefix : IsPrefix old.journal new.journal
   pub produces : produces new.journal ≡ produces old.journal
 
 -- the first topics of an order were drained
-pub record IsDraining {W : Type 0} (plan : W → Plan) (first c : Kept W) (publisher : Publisher) (d : DraftView) (order : List ℕ) (i : ℕ) (ts : List Task) : Type 0 where
+pub record IsDraining {W : Type 0} (plan : W → TaskPlan) (first c : ClusterView W) (publisher : Publisher) (d : DraftView) (order : List ℕ) (i : ℕ) (ts : List Task) : Type 0 where
   pub extends : Extends first c
   pub bound : ℕ
   pub below : (k : ℕ) → k < i → slice_index order k < bound

@@ -1,4 +1,3 @@
 pub mod Drained
 pub mod Fetches
 pub mod Reading
-pub mod Rows

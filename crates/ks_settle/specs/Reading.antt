@@ -3,21 +3,21 @@ use Rattle.std.specs.Prelude.{◌≡◌, ℕ, ◌≤◌, ◌==◌, false, true, 
 use Rattle.ks_row.specs.declared.record.Rec.{Rec}
 use Rattle.ks_row.specs.declared.record.PartId.{PartId}
 use Rattle.ks_row.specs.declared.record.TaskId.{TaskId}
-use Rattle.ks_network.specs.Run.{sent_to}
+use Rattle.ks_def_runs.specs.Run.{sent_to}
 use Rattle.ks_history.specs.declared.journal.Entry.{Entry}
-use Rattle.ks_history.specs.Machine.{Plan, Stores, network, part_of, has_topic}
+use Rattle.ks_history.specs.Machine.{TaskPlan, Stores, network, part_of, has_topic}
 use Rattle.ks_history.specs.State.{Setup}
 use Rattle.ks_history.specs.Reads.{end_of}
 use Rattle.ks_history.specs.Follows.{TaskView}
 use Rattle.ks_history.specs.History.{at}
-use Rattle.ks_follow.specs.Views.{Stands}
+use Rattle.ks_law_restore.specs.Views.{Stands}
 
 -- what a task makes of a record of a topic goes to topics of greater number
-abbrev pub SendsOn : Plan → Type 0
+abbrev pub SendsOn : TaskPlan → Type 0
 SendsOn plan = (t : TaskId) (stores : Stores) (q : PartId) (rec : Rec) (r : PartId) → r.topic ≤ q.topic → sent_to (network plan) r (plan.step t stores q rec).made ≡ []
 
 -- the task has committed all that it took, and holds nothing
-pub record IsClean (plan : Plan) (v : TaskView) : Type 0 where
+pub record IsClean (plan : TaskPlan) (v : TaskView) : Type 0 where
   pub kept : (topic : ℕ) → has_topic topic (plan.inputs v.task.sub) ≡ true → v.kept topic ≡ v.inputs topic
   pub made : (q : PartId) → v.made q ≡ []
 

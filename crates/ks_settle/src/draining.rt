@@ -5,17 +5,12 @@ ghost use Rattle.ks_topo.specs.Topologies.{draft_of, plan_in};
 ghost use Rattle.ks_plan.specs.Infos.{changelog_numbers};
 ghost use Rattle.ks_plan.specs.Layout.{tasks as all_tasks};
 ghost use Rattle.ks_history.specs.Settled.{IsSettled};
-ghost use Rattle.ks_work.specs.Work.{work_of, setup_of as topology_setup};
-ghost use Rattle.ks_cluster.specs.Kept.{setup_of, state_of};
-ghost use Rattle.ks_commit.specs.Alone.{IsIdle};
+ghost use Rattle.ks_law_topology.specs.Work.{setup_of as topology_setup};
+ghost use Rattle.ks_cluster.specs.View.{setup_of, state_of};
 ghost use Rattle.ks_commit.specs.Committed.{works_of, tasks_in as worked_in, IsReady};
 ghost use Rattle.ks_commit.specs.Work.{work_view};
 ghost use Rattle.ks_task.specs.Built.{IsBuilt, rules_of};
-ghost use Rattle.std.specs.Thread.{IsSync};
-ghost use Rattle.ks_plan.specs.contracts.draft.Op as op;
-ghost use Rattle.ks_plan.specs.contracts.node.Node as node;
-ghost use Rattle.ks_topo.specs.contracts.built.Topology as built;
-ghost use Rattle.ks_settle.specs.Drained.{MayDrain, with_work, IsRead, Rests, tasks_in, AreTried, AreReading, AreResting, AreFresh, Extends, OnlyProduces};
+ghost use Rattle.ks_settle.specs.Drained.{MayDrain, IsOfTopology, MayRead, with_work, IsRead, Rests, tasks_in, AreTried, AreReading, AreResting, AreFresh, Extends, OnlyProduces};
 
 use crate::reading::read_task;
 use crate::telling::tell;
@@ -23,11 +18,14 @@ use ks_cluster::{Cluster, Work};
 use ks_commit::{Frozen, Publisher, commit};
 use ks_hash::Hash128;
 use ks_row::TaskId;
-use ks_task::{Task, TaskWork};
-use ks_topo::{Op, Topology};
+use ks_task::Task;
+use ks_topo::{Topology, share_topology};
 use std::alloc::{AllocError, Global};
 use std::thread::Threads;
 use std::{mem, thread};
+
+// The worker that drains; the others are 0 to 15.
+const WORKER: u8 = 16;
 
 // The most threads that read a topic side by side.
 const THREADS: usize = 64;
@@ -39,37 +37,14 @@ struct Attempt {
     work: Result<Option<Frozen>, AllocError>,
 }
 
-// That threads may share values of a type, as a fact. A topology's is put together from those of what it holds.
-fn shared<T: Sync>()
-    ensures { IsSync T.row }
-{}
-
-fn share_op()
-    ensures { IsSync op.the_row }
-{
-    shared::<Op>()
-}
-
-fn share_node()
-    ensures { IsSync node.the_row }
-{
-    share_op();
-}
-
-/// Threads may share a topology, as a fact for the calls that follow; does nothing.
-pub fn share_topology()
-    ensures { IsSync built.the_row }
-{
-    share_node();
-}
-
 // Lets all of these go, side by side.
 fn let_go<R: Threads + Sync, T: Send + Drop>(rt: &R, all: Vec<T>) {
     drop(thread::map_vec(rt, all, &|one: T| drop(one)));
 }
 
 fn keep(works: &mut Vec<Frozen>, work: Option<Frozen>) -> Result<(), AllocError>
-    ensures { OnOk result (works_of works.new.items ≡ with_work (works_of works.old.items) (option_map work_view work)) }
+    ensures { OnOk result (works_of works.new.items ≡ with_work (works_of works.old.items)
+        (option_map work_view work)) }
 {
     match work {
         Some(work) => works.push(work)?,
@@ -93,71 +68,69 @@ fn attempts_of(alloc: Global, tasks: Vec<Task>) -> Result<Vec<Attempt>, AllocErr
 }
 
 // A task reads the topic to its end, where it is one of its inputs.
-fn read_own<H: Hash128, V: Work, W: Work>(
+fn read_own<H: Hash128, W: Work>(
     alloc: Global,
     topology: &Topology,
-    work: &V,
     cluster: &Cluster<W>,
     attempt: &mut Attempt,
     topic: u16,
 )
-    requires may { MayDrain (setup_of W.plan cluster.now) }
-    requires idle { IsIdle (state_of W.plan cluster.now) }
-    requires work { W.plan cluster.now.work ≡ work_of (rules_of H.hash_of) (plan_in topology.now) }
-    requires inputs { V.plan work.now ≡ W.plan cluster.now.work }
-    requires rests { Rests (draft_of topology.now) (setup_of W.plan cluster.now) cluster.now.journal topic attempt.old.task }
-    ensures { IfOk attempt.new.work (λ o. IsRead (draft_of topology.now) (setup_of W.plan cluster.now) cluster.now.journal topic attempt.old.task attempt.new.task (option_map work_view o)) }
+    requires may { MayRead W.plan (rules_of H.hash_of) (draft_of topology.now) cluster.now }
+    requires rests { Rests (draft_of topology.now) (setup_of W.plan cluster.now)
+        cluster.now.journal topic attempt.old.task }
+    ensures { IfOk attempt.new.work (λ o. IsRead (draft_of topology.now) (setup_of W.plan cluster.now)
+        cluster.now.journal topic attempt.old.task attempt.new.task (option_map work_view o)) }
 {
-    let inputs = work.inputs(attempt.task.id().sub);
+    let inputs = topology.inputs(attempt.task.id().sub);
     attempt.work = read_task::<H, W>(alloc, topology, cluster, inputs, &mut attempt.task, topic);
 }
 
 // All of the tasks, side by side.
-fn read_each<H: Hash128 + Sync, R: Threads + Sync, V: Work + Sync, W: Work + Sync>(
+fn read_each<H: Hash128 + Sync, R: Threads + Sync, W: Work + Sync>(
     rt: &R,
     alloc: Global,
     topology: &Topology,
-    work: &V,
     cluster: &Cluster<W>,
     attempts: &mut [Attempt],
     topic: u16,
 )
-    requires may { MayDrain (setup_of W.plan cluster.now) }
-    requires idle { IsIdle (state_of W.plan cluster.now) }
-    requires work { W.plan cluster.now.work ≡ work_of (rules_of H.hash_of) (plan_in topology.now) }
-    requires inputs { V.plan work.now ≡ W.plan cluster.now.work }
-    requires rests { All (λ a. Rests (draft_of topology.now) (setup_of W.plan cluster.now) cluster.now.journal topic a.task) attempts.old }
-    ensures { AreTried (draft_of topology.now) (setup_of W.plan cluster.now) cluster.now.journal topic attempts.old attempts.new }
+    requires may { MayRead W.plan (rules_of H.hash_of) (draft_of topology.now) cluster.now }
+    requires rests { All (λ a. Rests (draft_of topology.now) (setup_of W.plan cluster.now)
+        cluster.now.journal topic a.task) attempts.old }
+    ensures { AreTried (draft_of topology.now) (setup_of W.plan cluster.now)
+        cluster.now.journal topic attempts.old attempts.new }
 {
     share_topology();
     let one = |_: usize, attempt: &mut Attempt|
-        requires { MayDrain (setup_of W.plan cluster.now) × IsIdle (state_of W.plan cluster.now) × (W.plan cluster.now.work ≡ work_of (rules_of H.hash_of) (plan_in topology.now)) × (V.plan work.now ≡ W.plan cluster.now.work) × Rests (draft_of topology.now) (setup_of W.plan cluster.now) cluster.now.journal topic attempt.now.task }
-        ensures { IfOk attempt.exit.now.work (λ o. IsRead (draft_of topology.entry.now) (setup_of W.plan cluster.entry.now) cluster.entry.now.journal topic attempt.entry.now.task attempt.exit.now.task (option_map work_view o)) }
-    { read_own::<H, V, W>(alloc, topology, work, cluster, attempt, topic) };
+        requires { MayRead W.plan (rules_of H.hash_of) (draft_of topology.now) cluster.now
+            × Rests (draft_of topology.now) (setup_of W.plan cluster.now) cluster.now.journal topic
+            attempt.now.task }
+        ensures { IfOk attempt.exit.now.work (λ o. IsRead (draft_of topology.entry.now)
+            (setup_of W.plan cluster.entry.now) cluster.entry.now.journal topic
+            attempt.entry.now.task attempt.exit.now.task (option_map work_view o)) }
+    { read_own::<H, W>(alloc, topology, cluster, attempt, topic) };
     thread::for_each_mut(rt, attempts, THREADS, &one);
 }
 
 // Each task that reads the topic reads it to its end; what they then have to commit.
-fn read_tasks<H: Hash128 + Sync, R: Threads + Sync, V: Work + Sync, W: Work + Sync>(
+fn read_tasks<H: Hash128 + Sync, R: Threads + Sync, W: Work + Sync>(
     rt: &R,
     alloc: Global,
     topology: &Topology,
-    work: &V,
     cluster: &Cluster<W>,
     tasks: &mut Vec<Task>,
     topic: u16,
 ) -> Result<Vec<Frozen>, AllocError>
-    requires may { MayDrain (setup_of W.plan cluster.now) }
-    requires idle { IsIdle (state_of W.plan cluster.now) }
-    requires work { W.plan cluster.now.work ≡ work_of (rules_of H.hash_of) (plan_in topology.now) }
-    requires inputs { V.plan work.now ≡ W.plan cluster.now.work }
-    requires reading { AreReading (draft_of topology.now) (setup_of W.plan cluster.now) cluster.now.journal topic 0 tasks.old.items [] }
-    ensures { IfOk result (λ works. AreReading (draft_of topology.now) (setup_of W.plan cluster.now) cluster.now.journal topic (length tasks.new.items) tasks.new.items (works_of works.items)) }
+    requires may { MayRead W.plan (rules_of H.hash_of) (draft_of topology.now) cluster.now }
+    requires reading { AreReading (draft_of topology.now) (setup_of W.plan cluster.now)
+        cluster.now.journal topic 0 tasks.old.items [] }
+    ensures { IfOk result (λ works. AreReading (draft_of topology.now) (setup_of W.plan cluster.now)
+        cluster.now.journal topic (length tasks.new.items) tasks.new.items (works_of works.items)) }
 {
     let all = mem::replace(tasks, Vec::new(alloc));
     let mut attempts = attempts_of(alloc, all)?;
     let each = attempts.as_mut_slice();
-    read_each::<H, R, V, W>(rt, alloc, topology, work, cluster, each, topic);
+    read_each::<H, R, W>(rt, alloc, topology, cluster, each, topic);
     let mut works = Vec::new(alloc);
     for attempt in attempts {
         tasks.push(attempt.task)?;
@@ -177,57 +150,11 @@ fn workers(alloc: Global, works: &[Frozen]) -> Result<Vec<TaskId>, AllocError>
     Ok(worked)
 }
 
-// Commits the works in one transaction, with all its markers, and tells the tasks.
-fn publish<R: Threads + Sync, W: Work>(
-    rt: &R,
-    alloc: Global,
-    topology: &Topology,
-    cluster: &mut Cluster<W>,
-    publisher: &mut Publisher,
-    tasks: &mut Vec<Task>,
-    works: Vec<Frozen>,
-    topic: u16,
-) -> Result<(), AllocError>
-    requires may { MayDrain (setup_of W.plan cluster.old) }
-    requires logs { (sub : ℕ) → (W.plan cluster.old.work).changelogs sub ≡ changelog_numbers (plan_in topology.now) sub }
-    requires ready { IsReady (setup_of W.plan cluster.old) (state_of W.plan cluster.old) publisher.old }
-    requires reading { AreReading (draft_of topology.now) (setup_of W.plan cluster.old) cluster.old.journal topic (length tasks.old.items) tasks.old.items (works_of works.items) }
-    ensures { OnOk result (AreResting W.plan cluster.new publisher.new (draft_of topology.now) (topic + 1) tasks.new.items × Extends cluster.old cluster.new) }
-{
-    if works.is_empty() {
-        return Ok(());
-    }
-    let worked = workers(alloc, works.as_slice())?;
-    let ends = commit(rt, alloc, cluster, publisher, works)?;
-    let _journal = cluster.journal();
-    tell(topology, tasks, worked.as_slice(), ends.as_slice());
-    Ok(())
-}
-
-// The tasks that read the topic read it to its end, and then one transaction commits what they made.
-fn drain_topic<H: Hash128 + Sync, R: Threads + Sync, V: Work + Sync, W: Work + Sync>(
-    rt: &R,
-    alloc: Global,
-    topology: &Topology,
-    work: &V,
-    cluster: &mut Cluster<W>,
-    publisher: &mut Publisher,
-    tasks: &mut Vec<Task>,
-    topic: u16,
-) -> Result<(), AllocError>
-    requires may { MayDrain (setup_of W.plan cluster.old) }
-    requires work { W.plan cluster.old.work ≡ work_of (rules_of H.hash_of) (plan_in topology.now) }
-    requires inputs { V.plan work.now ≡ W.plan cluster.old.work }
-    requires resting { AreResting W.plan cluster.old publisher.old (draft_of topology.now) topic tasks.old.items }
-    ensures { OnOk result (AreResting W.plan cluster.new publisher.new (draft_of topology.now) (topic + 1) tasks.new.items × Extends cluster.old cluster.new) }
-{
-    let works = read_tasks::<H, R, V, W>(rt, alloc, topology, work, cluster, tasks, topic)?;
-    publish(rt, alloc, topology, cluster, publisher, tasks, works, topic)
-}
-
+// A new task for each that the topology has.
 fn fresh_tasks(alloc: Global, topology: &Topology) -> Result<Vec<Task>, AllocError>
     requires { IsBuilt (plan_in topology.now) }
-    ensures { IfOk result (λ v. AreFresh (draft_of topology.now) (all_tasks (plan_in topology.now)) v.items) }
+    ensures { IfOk result (λ v. AreFresh (draft_of topology.now) (all_tasks (plan_in topology.now))
+        v.items) }
 {
     let names = topology.tasks();
     let mut tasks = Vec::new(alloc);
@@ -237,47 +164,117 @@ fn fresh_tasks(alloc: Global, topology: &Topology) -> Result<Vec<Task>, AllocErr
     Ok(tasks)
 }
 
-// Topic by topic, in the drain order.
-fn drain_all<H: Hash128 + Sync, R: Threads + Sync, V: Work + Sync, W: Work + Sync>(
-    rt: &R,
-    alloc: Global,
-    topology: &Topology,
-    work: &V,
-    cluster: &mut Cluster<W>,
-    publisher: &mut Publisher,
-    tasks: &mut Vec<Task>,
-) -> Result<(), AllocError>
-    requires setup { setup_of W.plan cluster.old ≡ topology_setup (rules_of H.hash_of) (plan_in topology.now) }
-    requires may { MayDrain (setup_of W.plan cluster.old) }
-    requires inputs { V.plan work.now ≡ work_of (rules_of H.hash_of) (plan_in topology.now) }
-    requires resting { AreResting W.plan cluster.old publisher.old (draft_of topology.now) 0 tasks.old.items }
-    ensures { OnOk result (IsSettled (setup_of W.plan cluster.new) (state_of W.plan cluster.new) × Extends cluster.old cluster.new) }
-{
-    let order = topology.drain_order();
-    for i in 0..order.len() {
-        drain_topic::<H, R, V, W>(
-            rt, alloc, topology, work, cluster, publisher, tasks, order[i],
-        )?;
-    }
-    Ok(())
+// The tasks of a worker, and the account of what it publishes. Kafka Streams: what the TaskManager of a StreamThread holds.
+#[derive(Drop)]
+struct TaskManager {
+    tasks: Vec<Task>,
+    publisher: Publisher,
 }
 
-// A worker of its own that has every task, and a new task for each.
-fn begin<W: Work>(
-    alloc: Global,
-    topology: &Topology,
-    cluster: &mut Cluster<W>,
-) -> Result<(Publisher, Vec<Task>), AllocError>
-    requires may { MayDrain (setup_of W.plan cluster.old) }
-    requires tasks { cluster.old.tasks ≡ all_tasks (plan_in topology.now) }
-    requires built { IsBuilt (plan_in topology.now) }
-    requires produced { OnlyProduces cluster.old.journal }
-    ensures { IfOk result (λ r. AreResting W.plan cluster.new r.0 (draft_of topology.now) 0 r.1.items × Extends cluster.old cluster.new) }
-{
-    let _journal = cluster.journal();
-    let publisher = Publisher::start(alloc, cluster, 16, topology.tasks())?;
-    let tasks = fresh_tasks(alloc, topology)?;
-    Ok((publisher, tasks))
+impl TaskManager {
+    // A worker of its own that has every task, and a new task for each.
+    fn start<W: Work>(
+        alloc: Global,
+        topology: &Topology,
+        cluster: &mut Cluster<W>,
+    ) -> Result<TaskManager, AllocError>
+        requires may { MayDrain (setup_of W.plan cluster.old) }
+        requires tasks { cluster.old.tasks ≡ all_tasks (plan_in topology.now) }
+        requires built { IsBuilt (plan_in topology.now) }
+        requires produced { OnlyProduces cluster.old.journal }
+        ensures { IfOk result (λ m.
+            AreResting W.plan cluster.new m.publisher (draft_of topology.now) 0 m.tasks.items
+            × Extends cluster.old cluster.new) }
+    {
+        let _journal = cluster.journal();
+        let publisher = Publisher::start(alloc, cluster, WORKER, topology.tasks())?;
+        let tasks = fresh_tasks(alloc, topology)?;
+        Ok(TaskManager { tasks, publisher })
+    }
+
+    // Commits the works in one transaction, with all its markers, and tells the tasks.
+    fn publish<W: Work>(
+        &mut self,
+        alloc: Global,
+        topology: &Topology,
+        cluster: &mut Cluster<W>,
+        works: Vec<Frozen>,
+        topic: u16,
+    ) -> Result<(), AllocError>
+        requires may { MayDrain (setup_of W.plan cluster.old) }
+        requires logs { (sub : ℕ) →
+            (W.plan cluster.old.work).changelogs sub
+            ≡ changelog_numbers (plan_in topology.now) sub }
+        requires ready { IsReady (setup_of W.plan cluster.old) (state_of W.plan cluster.old)
+            self.old.publisher }
+        requires reading { AreReading (draft_of topology.now) (setup_of W.plan cluster.old)
+            cluster.old.journal topic (length self.old.tasks.items) self.old.tasks.items
+            (works_of works.items) }
+        ensures { OnOk result (
+            AreResting W.plan cluster.new self.new.publisher (draft_of topology.now) (topic + 1)
+            self.new.tasks.items
+            × Extends cluster.old cluster.new) }
+    {
+        if works.is_empty() {
+            return Ok(());
+        }
+        let worked = workers(alloc, works.as_slice())?;
+        let ends = commit(alloc, cluster, &mut self.publisher, works)?;
+        let _journal = cluster.journal();
+        tell(
+            topology,
+            &mut self.tasks,
+            worked.as_slice(),
+            ends.as_slice(),
+        );
+        Ok(())
+    }
+
+    // The tasks that read the topic read it to its end, and then one transaction commits what they made.
+    fn drain_topic<H: Hash128 + Sync, R: Threads + Sync, W: Work + Sync>(
+        &mut self,
+        rt: &R,
+        alloc: Global,
+        topology: &Topology,
+        cluster: &mut Cluster<W>,
+        topic: u16,
+    ) -> Result<(), AllocError>
+        requires of { IsOfTopology W.plan (rules_of H.hash_of) (draft_of topology.now) cluster.old }
+        requires resting { AreResting W.plan cluster.old self.old.publisher
+            (draft_of topology.now) topic
+            self.old.tasks.items }
+        ensures { OnOk result (
+            AreResting W.plan cluster.new self.new.publisher (draft_of topology.now) (topic + 1)
+            self.new.tasks.items
+            × Extends cluster.old cluster.new) }
+    {
+        let works = read_tasks::<H, R, W>(rt, alloc, topology, cluster, &mut self.tasks, topic)?;
+        self.publish(alloc, topology, cluster, works, topic)
+    }
+
+    // Topic by topic, in the drain order.
+    fn drain_all<H: Hash128 + Sync, R: Threads + Sync, W: Work + Sync>(
+        &mut self,
+        rt: &R,
+        alloc: Global,
+        topology: &Topology,
+        cluster: &mut Cluster<W>,
+    ) -> Result<(), AllocError>
+        requires setup { setup_of W.plan cluster.old
+            ≡ topology_setup (rules_of H.hash_of) (plan_in topology.now) }
+        requires of { IsOfTopology W.plan (rules_of H.hash_of) (draft_of topology.now) cluster.old }
+        requires resting { AreResting W.plan cluster.old self.old.publisher
+            (draft_of topology.now) 0
+            self.old.tasks.items }
+        ensures { OnOk result (IsSettled (setup_of W.plan cluster.new) (state_of W.plan cluster.new)
+            × Extends cluster.old cluster.new) }
+    {
+        let order = topology.drain_order();
+        for i in 0..order.len() {
+            self.drain_topic::<H, R, W>(rt, alloc, topology, cluster, order[i])?;
+        }
+        Ok(())
+    }
 }
 
 /// Brings to rest a cluster of a topology in which nothing but records of its inputs stand, at a worker of its own, 16: topic by
@@ -288,25 +285,17 @@ pub fn drain<H: Hash128 + Sync, R: Threads + Sync, W: Work + Sync>(
     topology: &Topology,
     cluster: &mut Cluster<W>,
 ) -> Result<(), AllocError>
-    requires setup { setup_of W.plan cluster.old ≡ topology_setup (rules_of H.hash_of) (plan_in topology.now) }
+    requires setup { setup_of W.plan cluster.old
+        ≡ topology_setup (rules_of H.hash_of) (plan_in topology.now) }
     requires built { IsBuilt (plan_in topology.now) }
     requires produced { OnlyProduces cluster.old.journal }
-    ensures settled { OnOk result (IsSettled (setup_of W.plan cluster.new) (state_of W.plan cluster.new)) }
+    ensures settled { OnOk result (IsSettled (setup_of W.plan cluster.new)
+        (state_of W.plan cluster.new)) }
     ensures more { OnOk result (Extends cluster.old cluster.new) }
 {
     let _nodes = topology.nodes();
-    let (mut publisher, mut tasks) = begin(alloc, topology, cluster)?;
-    share_topology();
-    let work: TaskWork<'_, H> = TaskWork::new(topology);
-    drain_all::<H, R, TaskWork<'_, H>, W>(
-        rt,
-        alloc,
-        topology,
-        &work,
-        cluster,
-        &mut publisher,
-        &mut tasks,
-    )?;
-    let_go(rt, tasks);
+    let mut manager = TaskManager::start(alloc, topology, cluster)?;
+    manager.drain_all::<H, R, W>(rt, alloc, topology, cluster)?;
+    let_go(rt, manager.tasks);
     Ok(())
 }

@@ -1,12 +1,8 @@
-//! A cluster is brought to rest, and its tables are read.
+//! A cluster is brought to rest.
 #![tactic(auto)]
 
 mod draining;
-mod merging;
 mod reading;
-mod rows;
-mod shown;
 mod telling;
 
-pub use draining::{drain, share_topology};
-pub use shown::tables;
+pub use draining::drain;

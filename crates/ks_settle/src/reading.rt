@@ -3,14 +3,13 @@ ghost use Rattle.std.specs.Prelude.{◌≡◌, ◌≤◌, true, IfOk, OnOk, IfSo
 ghost use Rattle.ks_topo.specs.Topologies.{draft_of, plan_in};
 ghost use Rattle.ks_plan.specs.Infos.{input_numbers};
 ghost use Rattle.ks_history.specs.Machine.{has_topic};
-ghost use Rattle.ks_work.specs.Work.{work_of};
-ghost use Rattle.ks_cluster.specs.Kept.{Kept, setup_of, state_of};
-ghost use Rattle.ks_follow.specs.Views.{take_all};
-ghost use Rattle.ks_commit.specs.Alone.{IsIdle};
+ghost use Rattle.ks_law_topology.specs.Work.{work_of};
+ghost use Rattle.ks_cluster.specs.View.{ClusterView, setup_of, state_of};
+ghost use Rattle.ks_law_restore.specs.Views.{take_all};
 ghost use Rattle.ks_commit.specs.Work.{work_view};
 ghost use Rattle.ks_task.specs.Built.{rules_of};
 ghost use Rattle.ks_task.specs.Tasks.{task_view, IsTaskOf};
-ghost use Rattle.ks_settle.specs.Drained.{MayDrain, Rests, IsFetched, IsReadOn, IsRead, IsReader};
+ghost use Rattle.ks_settle.specs.Drained.{MayRead, Rests, IsFetched, IsReadOn, IsRead, IsReader};
 
 use ks_cluster::{Cluster, Work};
 use ks_commit::Frozen;
@@ -20,8 +19,11 @@ use ks_task::Task;
 use ks_topo::Topology;
 use std::alloc::{AllocError, Global};
 
-/// Whether the topic is one of these numbers.
-pub fn has_number(numbers: &[u16], topic: u16) -> bool
+// The most records of one fetch.
+const MOST_FETCHED: u32 = 32;
+
+// Whether the topic is one of these numbers.
+fn has_number(numbers: &[u16], topic: u16) -> bool
     ensures { result ≡ has_topic topic numbers.now }
 {
     let mut rest = numbers;
@@ -43,9 +45,11 @@ fn take_fetched<H: Hash128>(
     recs: &[(u64, Rec)],
 ) -> Result<(), AllocError>
     requires task { IsTaskOf (draft_of topology.now) task.old }
-    requires input { has_topic topic (input_numbers (plan_in topology.now) (task_view task.old).task.sub) ≡ true }
+    requires input { has_topic topic (input_numbers (plan_in topology.now)
+        (task_view task.old).task.sub) ≡ true }
     ensures task { OnOk result (IsTaskOf (draft_of topology.now) task.new) }
-    ensures view { OnOk result (task_view task.new ≡ take_all (work_of (rules_of H.hash_of) (plan_in topology.now)) (task_view task.old) topic recs.now) }
+    ensures view { OnOk result (task_view task.new
+        ≡ take_all (work_of (rules_of H.hash_of) (plan_in topology.now)) (task_view task.old) topic recs.now) }
 {
     for i in 0..recs.len() {
         let rec = &recs[i];
@@ -62,11 +66,11 @@ fn fetch_on<H: Hash128, W: Work>(
     task: &mut Task,
     topic: u16,
 ) -> Result<bool, AllocError>
-    requires may { MayDrain (setup_of W.plan cluster.now) }
-    requires idle { IsIdle (state_of W.plan cluster.now) }
-    requires work { W.plan cluster.now.work ≡ work_of (rules_of H.hash_of) (plan_in topology.now) }
-    requires reader { IsReader (draft_of topology.now) (setup_of W.plan cluster.now) cluster.now.journal topic task.old }
-    ensures { IfOk result (λ moved. IsFetched (draft_of topology.now) (setup_of W.plan cluster.now) cluster.now.journal topic moved task.old task.new) }
+    requires may { MayRead W.plan (rules_of H.hash_of) (draft_of topology.now) cluster.now }
+    requires reader { IsReader (draft_of topology.now) (setup_of W.plan cluster.now)
+        cluster.now.journal topic task.old }
+    ensures { IfOk result (λ moved. IsFetched (draft_of topology.now) (setup_of W.plan cluster.now)
+        cluster.now.journal topic moved task.old task.new) }
 {
     let _journal = cluster.journal();
     let part = PartId {
@@ -74,7 +78,7 @@ fn fetch_on<H: Hash128, W: Work>(
         part: task.id().part,
     };
     let from = task.input_position(topic);
-    let (recs, next) = cluster.fetch(alloc, part, from, 32)?;
+    let (recs, next) = cluster.fetch(alloc, part, from, MOST_FETCHED)?;
     if next == from {
         return Ok(false);
     }
@@ -91,11 +95,11 @@ fn read_on<H: Hash128, W: Work>(
     task: &mut Task,
     topic: u16,
 ) -> Result<bool, AllocError>
-    requires may { MayDrain (setup_of W.plan cluster.now) }
-    requires idle { IsIdle (state_of W.plan cluster.now) }
-    requires work { W.plan cluster.now.work ≡ work_of (rules_of H.hash_of) (plan_in topology.now) }
-    requires reader { IsReader (draft_of topology.now) (setup_of W.plan cluster.now) cluster.now.journal topic task.old }
-    ensures { IfOk result (λ moved. IsReadOn (draft_of topology.now) (setup_of W.plan cluster.now) cluster.now.journal topic moved task.old task.new) }
+    requires may { MayRead W.plan (rules_of H.hash_of) (draft_of topology.now) cluster.now }
+    requires reader { IsReader (draft_of topology.now) (setup_of W.plan cluster.now)
+        cluster.now.journal topic task.old }
+    ensures { IfOk result (λ moved. IsReadOn (draft_of topology.now) (setup_of W.plan cluster.now)
+        cluster.now.journal topic moved task.old task.new) }
 {
     let mut moved = false;
     while fetch_on::<H, W>(alloc, topology, cluster, task, topic)? {
@@ -114,12 +118,12 @@ pub fn read_task<H: Hash128, W: Work>(
     task: &mut Task,
     topic: u16,
 ) -> Result<Option<Frozen>, AllocError>
-    requires may { MayDrain (setup_of W.plan cluster.now) }
-    requires idle { IsIdle (state_of W.plan cluster.now) }
-    requires work { W.plan cluster.now.work ≡ work_of (rules_of H.hash_of) (plan_in topology.now) }
+    requires may { MayRead W.plan (rules_of H.hash_of) (draft_of topology.now) cluster.now }
     requires inputs { inputs.now ≡ (W.plan cluster.now.work).inputs (task_view task.old).task.sub }
-    requires rests { Rests (draft_of topology.now) (setup_of W.plan cluster.now) cluster.now.journal topic task.old }
-    ensures { IfOk result (λ o. IsRead (draft_of topology.now) (setup_of W.plan cluster.now) cluster.now.journal topic task.old task.new (option_map work_view o)) }
+    requires rests { Rests (draft_of topology.now) (setup_of W.plan cluster.now)
+        cluster.now.journal topic task.old }
+    ensures { IfOk result (λ o. IsRead (draft_of topology.now) (setup_of W.plan cluster.now)
+        cluster.now.journal topic task.old task.new (option_map work_view o)) }
 {
     if !has_number(inputs, topic) {
         return Ok(None);

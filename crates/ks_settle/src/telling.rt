@@ -44,7 +44,8 @@ fn tell_task(topology: &Topology, task: &mut Task, worked: &[TaskId], ends: &[Se
 /// Each of the tasks that had work is told the ends of its changelogs; the others stay as they are.
 pub fn tell(topology: &Topology, tasks: &mut Vec<Task>, worked: &[TaskId], ends: &[Seq<(u16, u64)>])
     requires { All (IsTaskOf (draft_of topology.now)) tasks.old.items }
-    ensures { AreToldBy (draft_of topology.now) worked.now ends.now tasks.old.items tasks.new.items }
+    ensures { AreToldBy (draft_of topology.now) worked.now ends.now
+        tasks.old.items tasks.new.items }
 {
     for i in 0..tasks.len() {
         tell_task(topology, &mut tasks[i], worked, ends);

@@ -10,12 +10,15 @@ use Rattle.std.specs.List.{filter, starts_with, AllByRecursion}
 use Rattle.std.specs.List.Sorted.{IsStrictlySortedBy}
 use Rattle.std.specs.Map.{lookup, remove_entry, keys_of}
 use Rattle.std.specs.BTreeMap.{insert_entry, is_at}
-use Rattle.std.specs.FinMap.Entries.{find, put, where_key, below_all}
+use Rattle.std.specs.FinMap.Entries.{find, put, where_key, by_order, below_all}
 use Rattle.std.proofs.lemmas.Cmp.{nat_list_cmp_total}
 use Rattle.std.proofs.lemmas.List.{length-map}
-use Rattle.ks_map.specs.Bytes.{by_bytes, empty_store}
-use Rattle.ks_map.specs.FinMap as fin
-use Rattle.ks_store.specs.Pairs.{pairs_of, Rises, store_of}
+use Rattle.ks_def_maps.specs.Bytes.{by_bytes, empty_store}
+use Rattle.ks_def_maps.specs.FinMap as fin
+use Rattle.ks_store.specs.Pairs.{pairs_of, Rises, ArePairs, IsTree, store_of}
+use Rattle.ks_row.specs.Spelling.{IsBytes}
+use Rattle.std.specs.Prelude.{Result, Ok, Err, OnOk, OnErr, ⊤}
+use Rattle.std.specs.declared.alloc.AllocError.{AllocError}
 
 abbrev Entry : Type 0
 Entry = Vec ℕ × Vec ℕ
@@ -137,3 +140,26 @@ len_store es h = fin.len-entries (store_of es) ∙ (ap length (store_entries es 
 
 abbrev pub under : List ℕ → List (List ℕ × List ℕ) → List (List ℕ × List ℕ)
 under front es = filter (λ e. starts_with ◌==◌ e.0 front) es
+
+-- ---- the keys stay bytes
+pub bytes_where : (f : List ℕ → Bool) (es : List (List ℕ × List ℕ)) → ArePairs es → ArePairs (where_key by_bytes f es)
+bytes_where f [] h = tt
+bytes_where f (e ∷ es) h = by (f e.0) (bytes_where f es h.1)
+  where
+    by : (b : Bool) → ArePairs (where_key by_bytes f es) → ArePairs (cond b (e ∷ where_key by_bytes f es) (where_key by_bytes f es))
+    by true g = (h.0, g)
+    by false g = g
+
+pub bytes_put : (k v : List ℕ) (es : List (List ℕ × List ℕ)) → IsBytes k × IsBytes v → ArePairs es → ArePairs (put by_bytes k v es)
+bytes_put k v [] b h = (b, tt)
+bytes_put k v (e ∷ es) b h = by (by_bytes k e.0) (bytes_put k v es b h.1)
+  where
+    by : (o : Ordering) → ArePairs (put by_bytes k v es) → ArePairs (by_order o ((k, v) ∷ e ∷ es) ((e.0, v) ∷ es) (e ∷ put by_bytes k v es))
+    by Less g = (b, h)
+    by Equal g = ((h.0.0, b.1), h.1)
+    by Greater g = (h.0, g)
+
+-- ---- what a tree keeps
+pub put_tree : (r : Result ⊤ AllocError) (es fs : List (List ℕ × List ℕ)) (k v : List ℕ) → IsBytes k × IsBytes v → IsTree es → Rises fs → OnOk r (fs ≡ put by_bytes k v es) → OnErr r (fs ≡ es) → IsTree fs
+put_tree (Ok u) es fs k v b h rises ok err = (rises, subst ArePairs (sym ok) (bytes_put k v es b h.1))
+put_tree (Err x) es fs k v b h rises ok err = (rises, subst ArePairs (sym err) h.1)

@@ -1,7 +1,8 @@
 //! A store that looks at every pair to find those of a prefix.
 ghost use Rattle.std.specs.Prelude.{◌≡◌, IfOk};
-ghost use Rattle.ks_map.specs.Bytes.{Store, empty_store};
-ghost use Rattle.ks_map.specs.FinMap as map;
+ghost use Rattle.ks_def_maps.specs.Bytes.{Store, empty_store};
+ghost use Rattle.ks_def_maps.specs.FinMap as map;
+ghost use Rattle.ks_store.specs.Pairs.{ArePairs};
 
 use crate::pairs::{Pairs, pairs_with, set_at, take_away, value_at};
 use crate::store::KvStore;
@@ -18,14 +19,14 @@ pub struct PlainStore {
 }
 
 impl Model for PlainStore {
-    ghost use Rattle.ks_map.specs.Bytes.{Store};
-    ghost use Rattle.ks_store.specs.Pairs.{store_of, pairs_of, Rises};
+    ghost use Rattle.ks_def_maps.specs.Bytes.{Store};
+    ghost use Rattle.ks_store.specs.Pairs.{store_of, pairs_of, IsTree};
 
     ghost Value = { Store };
 
     ghost view = { λ s. store_of s.pairs.entries };
 
-    ghost invariant = { λ s. Rises (pairs_of s.pairs.entries) };
+    ghost invariant = { λ s. IsTree (pairs_of s.pairs.entries) };
 }
 
 impl PlainStore {
@@ -37,6 +38,14 @@ impl PlainStore {
             alloc,
             pairs: BTreeMap::new(alloc),
         }
+    }
+
+    /// Its keys and values are bytes, as a fact for the calls that follow; does nothing.
+    pub fn holds_bytes(&self)
+        ensures { ArePairs (map.entries self.now) }
+    {
+        // What the type keeps is told where a field is looked at.
+        let _alloc = &self.alloc;
     }
 }
 

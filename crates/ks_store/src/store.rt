@@ -1,7 +1,7 @@
 //! What a store is, however it is kept.
 ghost use Rattle.std.specs.Prelude.{◌≡◌, IfOk, OnOk, OnErr, option_map};
-ghost use Rattle.ks_map.specs.Bytes.{Store};
-ghost use Rattle.ks_map.specs.FinMap as map;
+ghost use Rattle.ks_def_maps.specs.Bytes.{Store};
+ghost use Rattle.ks_def_maps.specs.FinMap as map;
 ghost use Rattle.ks_store.specs.Prefixes.{pairs_under};
 
 use ks_row::Blob;

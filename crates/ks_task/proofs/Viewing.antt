@@ -8,18 +8,18 @@ use Rattle.ks_row.specs.declared.record.Rec.{Rec}
 use Rattle.ks_row.specs.declared.record.PartId.{PartId}
 use Rattle.ks_row.specs.declared.record.TaskId.{TaskId}
 use Rattle.ks_row.specs.Parts.{same_part}
-use Rattle.ks_map.specs.Bytes.{Store, empty_store}
-use Rattle.ks_network.specs.Run.{Outcome, sent_to}
+use Rattle.ks_def_maps.specs.Bytes.{Store, empty_store}
+use Rattle.ks_def_runs.specs.Run.{Outcome, sent_to}
 use Rattle.ks_plan.specs.Drafts.{DraftView}
 use Rattle.ks_plan.specs.Plan.{Plan, Kind, plan_of}
 use Rattle.ks_plan.specs.Layout.{topic_at}
 use Rattle.ks_plan.specs.Infos.{input_numbers, changelog_numbers}
-use Rattle.ks_machine.specs.Bytes.{ByteStores, byte_step, has_number, stores_after, keep_all, records_at}
-use Rattle.ks_history.specs.Machine.{Plan as Work, has_topic, network, part_of}
+use Rattle.ks_def_tasks.specs.Bytes.{ByteStores, byte_step, has_number, stores_after, keep_all, records_at}
+use Rattle.ks_history.specs.Machine.{TaskPlan as Work, has_topic, network, part_of}
 use Rattle.ks_history.specs.State.{with_number, offset_in}
 use Rattle.ks_history.specs.Faithful.{capped}
-use Rattle.ks_work.specs.Work.{work_of}
-use Rattle.ks_follow.specs.Views.{fresh_view, with_taken, take_view, skip_view, committed_view, WorkView, IsFrozen, recs_at, are_outputs}
+use Rattle.ks_law_topology.specs.Work.{work_of}
+use Rattle.ks_law_restore.specs.Views.{fresh_view, with_taken, take_view, skip_view, committed_view, WorkView, IsFrozen, recs_at, are_outputs}
 use Rattle.ks_task.specs.declared.inputs.Input.{Input}
 use Rattle.ks_task.specs.declared.logs.Log.{Log}
 use Rattle.ks_task.specs.declared.program.Step.{Step}

@@ -5,7 +5,7 @@ use Rattle.ks_row.specs.declared.record.Rec.{Rec}
 use Rattle.ks_row.specs.declared.record.PartId.{PartId}
 use Rattle.ks_row.specs.declared.record.TaskId.{TaskId}
 use Rattle.ks_row.specs.Parts.{same_part}
-use Rattle.ks_map.specs.Bytes.{Store, empty_store}
+use Rattle.ks_def_maps.specs.Bytes.{Store, empty_store}
 use Rattle.ks_plan.specs.Drafts.{DraftView}
 use Rattle.ks_plan.specs.Plan.{plan_of}
 use Rattle.ks_plan.specs.Layout.{tasks}
@@ -13,7 +13,7 @@ use Rattle.ks_plan.specs.Infos.{input_numbers, changelog_numbers}
 use Rattle.ks_plan.specs.Faults.{fault_of}
 use Rattle.ks_plan.specs.declared.node.Topic.{Topic}
 use Rattle.ks_plan.specs.Plan.{Kind}
-use Rattle.ks_machine.specs.Bytes.{keep_all, records_at}
+use Rattle.ks_def_tasks.specs.Bytes.{keep_all, records_at}
 use Rattle.ks_history.specs.Machine.{has_topic}
 use Rattle.ks_history.specs.State.{has_task, offset_in}
 use Rattle.ks_history.specs.Follows.{TaskView}

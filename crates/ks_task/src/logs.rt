@@ -1,8 +1,8 @@
 //! The changelogs of a task, with their stores.
 ghost use Rattle.std.specs.Prelude.{◌≡◌, IfOk, OnOk, map, option_map};
-ghost use Rattle.ks_map.specs.FinMap as fin;
-ghost use Rattle.ks_map.specs.Bytes.{empty_store};
-ghost use Rattle.ks_machine.specs.Bytes.{keep_bytes, keep_all as kept_all, records_at};
+ghost use Rattle.ks_def_maps.specs.FinMap as fin;
+ghost use Rattle.ks_def_maps.specs.Bytes.{empty_store};
+ghost use Rattle.ks_def_tasks.specs.Bytes.{keep_bytes, keep_all as kept_all, records_at};
 ghost use Rattle.ks_history.specs.State.{offset_in};
 ghost use Rattle.ks_task.specs.Views.{stores_in, positions_in, numbers_of, log_after, ended};
 

@@ -2,8 +2,8 @@
 ghost use Rattle.std.specs.Prelude.{◌≡◌, ◌++◌, IfOk, OnOk, Option, map, get_or, option_map};
 ghost use Rattle.ks_wire.specs.Spelling.{delta_bytes};
 ghost use Rattle.ks_plan.specs.declared.node.Topic.TheVariants.{Input, Repartition};
-ghost use Rattle.ks_machine.specs.Messages.{Stored, shown};
-ghost use Rattle.ks_machine.specs.Step.{arrived as arrived_at, taken_row, applied, of_row};
+ghost use Rattle.ks_def_tasks.specs.Messages.{Stored, shown};
+ghost use Rattle.ks_def_tasks.specs.Step.{arrived as arrived_at, taken_row, applied, of_row};
 ghost use Rattle.ks_task.specs.Program.{kind_of, step_view, stored_in, stored_after, arrival_of, old_at, new_at, value_after, pair_view, pair_at, no_pair, part_in, delta_rec, sent_delta, sends_of, all_sends as sends_in, change_of, all_changes as changes_in, made_of};
 ghost use Rattle.ks_task.specs.Views.{stores_in};
 

@@ -4,3 +4,4 @@ pub mod Showing
 pub mod Layouts
 pub mod Shaping
 pub mod Lines
+pub mod Crossing

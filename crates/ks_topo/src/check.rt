@@ -22,7 +22,7 @@ use std::alloc::{AllocError, Global};
 fn blob_of(alloc: Global, bytes: &[u8]) -> Result<Blob, AllocError>
     ensures { IfOk result (λ b. b ≡ bytes.now) }
 {
-    Ok(Blob::of(Vec::from_slice(alloc, bytes)?))
+    Blob::from_slice(alloc, bytes)
 }
 
 /// More of something than the limit.

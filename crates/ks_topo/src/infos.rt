@@ -84,8 +84,8 @@ fn topic_name(
     let nodes = draft.nodes.as_slice();
     match topic {
         Topic::Input(number) => match sorted.get(number as usize) {
-            Some((name, _)) => Ok(Blob::of(Vec::from_slice(alloc, name.as_str().as_bytes())?)),
-            None => Ok(Blob::of(Vec::new(alloc))),
+            Some((name, _)) => Blob::from_slice(alloc, name.as_str().as_bytes()),
+            None => Blob::of(Vec::new(alloc)),
         },
         Topic::Repartition(node)
         | Topic::Subscriptions(node)

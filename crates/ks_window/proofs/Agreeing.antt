@@ -10,20 +10,20 @@ use Rattle.ks_wire.specs.declared.values.Agg.{Agg}
 use Rattle.ks_wire.specs.Spelling.{window_key, agg_bytes, time_key, time_bytes}
 use Rattle.ks_wire.specs.Reading.{window_key_from, agg_from}
 use Rattle.ks_wire.proofs.Wired.{window_key_codec}
-use Rattle.ks_map.specs.FinMap as fin
-use Rattle.ks_map.specs.Bytes.{Store}
+use Rattle.ks_def_maps.specs.FinMap as fin
+use Rattle.ks_def_maps.specs.Bytes.{Store}
 use Rattle.ks_plan.specs.Plan.{Window}
 use Rattle.ks_query.specs.Streams.{Key}
 use Rattle.ks_query.specs.Windows.{by_window, windows}
 use Rattle.ks_query.specs.Grace.{is_open}
 use Rattle.ks_query.specs.Aggregates.{stream_add}
-use Rattle.ks_machine.specs.Messages.{Message, same_option}
-use Rattle.ks_machine.specs.Messages.Message.{KeptCount, KeptTime}
-use Rattle.ks_machine.specs.Windowed.{Counted, count_window, time_changes, greater}
-use Rattle.ks_machine.specs.Bytes.{rec_of, keep_all, keep_bytes}
-use Rattle.ks_machine.specs.Laws.{AllBelow}
-use Rattle.ks_machine.proofs.Shown.{get-read, over_here}
-use Rattle.ks_machine.proofs.Counts.{window_total, window_same, AloneAt, Reads, all_windows, first_reads}
+use Rattle.ks_def_tasks.specs.Messages.{Message, same_option}
+use Rattle.ks_def_tasks.specs.Messages.Message.{KeptCount, KeptTime}
+use Rattle.ks_def_tasks.specs.Windowed.{Counted, count_window, time_changes, greater}
+use Rattle.ks_def_tasks.specs.Bytes.{rec_of, keep_all, keep_bytes}
+use Rattle.ks_def_tasks.specs.Laws.{AllBelow}
+use Rattle.ks_def_tasks.proofs.Shown.{get-read, over_here}
+use Rattle.ks_def_tasks.proofs.Counts.{window_total, window_same, AloneAt, Reads, all_windows, first_reads}
 use Rattle.ks_window.specs.Counting.{CountedBytes, time_in, count_in, kept_rec, keep, count_start, keep_time}
 use Rattle.ks_window.specs.Laws.{counts_in, CountsAgree}
 
@@ -104,4 +104,5 @@ counts_agree w m g t bytes key fits starts =
       recs = same.recs;
       counts = ap counts_in same.store ∙ done.counts;
       time = ap time_in same.store ∙ done.time;
+      store = same.store ∙ ap (keep_all m) (sym same.recs);
     }

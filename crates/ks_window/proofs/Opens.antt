@@ -6,7 +6,12 @@ use Rattle.std.proofs.lemmas.List.Elements.{filter-append}
 use Rattle.std.proofs.Math.Nat.{div-lt_iff_lt-mul, div-mul-le_self}
 use Rattle.std.proofs.lemmas.Nat.{le-div}
 use Rattle.ks_query.specs.Windows.{multiples, windows}
-use Rattle.ks_window.specs.Starts.{multiples_from, first_index}
+use Rattle.ks_window.specs.Starts.{first_index}
+
+-- so many multiples of a number, from the k-th on
+abbrev pub multiples_from : ℕ → ℕ → ℕ → List ℕ
+multiples_from a k zero = []
+multiples_from a k (suc n) = multiples_from a k n ++ (k + n) * a ∷ []
 
 -- a multiple's window holds the time from the first index on
 opens : (t size a i : ℕ) → 1 ≤ a → a ≤ size → first_index t size a ≤ i → t < i * a + size

@@ -3,8 +3,8 @@
 use Rattle.std.specs.Prelude.{ℕ, ◌+◌, List, [], ◌∷◌, ◌++◌, Option, Some, None, cond, fold, nat_eq}
 use Rattle.ks_row.specs.declared.record.Rec.{Rec}
 use Rattle.ks_row.specs.Reading.{◌>>=◌}
-use Rattle.ks_map.specs.Bytes.{Store}
-use Rattle.ks_map.specs.FinMap as fin
+use Rattle.ks_def_maps.specs.Bytes.{Store}
+use Rattle.ks_def_maps.specs.FinMap as fin
 use Rattle.ks_wire.specs.declared.values.Agg.{Agg}
 use Rattle.ks_wire.specs.Spelling.{agg_bytes, window_key, time_key, time_bytes}
 use Rattle.ks_wire.specs.Reading.{agg_from, time_from}
@@ -14,8 +14,8 @@ use Rattle.ks_query.specs.Streams.{Key}
 use Rattle.ks_query.specs.Windows.{windows}
 use Rattle.ks_query.specs.Grace.{is_open}
 use Rattle.ks_query.specs.Aggregates.{stream_add}
-use Rattle.ks_machine.specs.Messages.{same_option}
-use Rattle.ks_machine.specs.Windowed.{greater}
+use Rattle.ks_def_tasks.specs.Messages.{same_option}
+use Rattle.ks_def_tasks.specs.Windowed.{greater}
 
 -- windows as the topology has them
 abbrev pub shape : WindowCode → Window
@@ -29,6 +29,10 @@ time_in m = fin.get m time_key >>= time_from
 abbrev pub count_in : Store → Key → ℕ → Option Agg
 count_in m key start = fin.get m (window_key key start) >>= agg_from
 
+-- the count at a place of the store, one higher
+abbrev pub next_bytes : Store → List ℕ → List ℕ
+next_bytes m place = agg_bytes (stream_add None (fin.get m place >>= agg_from) [])
+
 pub record CountedBytes : Type 0 where
   pub store : Store
   -- pairs of this item and a window that were dropped
@@ -38,6 +42,17 @@ pub record CountedBytes : Type 0 where
 
 abbrev pub kept_rec : ℕ → List ℕ → List ℕ → Rec
 kept_rec t key value = record { key = Some key; value = Some value; ts = t }
+
+-- the changelog record of a window's next count, and the store with it
+abbrev pub next_rec : ℕ → Store → List ℕ → Rec
+next_rec t m place = kept_rec t place (next_bytes m place)
+
+abbrev pub with_next : Store → List ℕ → Store
+with_next m place = fin.insert m place (next_bytes m place)
+
+-- the changelog record of the greatest timestamp, where it changes
+abbrev pub time_rec : Option ℕ → ℕ → ℕ → List Rec
+time_rec before t now = cond (same_option nat_eq before (Some now)) [] (kept_rec t time_key (time_bytes now) ∷ [])
 
 -- the key and the value are set, and the changelog is told
 abbrev pub keep : CountedBytes → ℕ → List ℕ → List ℕ → CountedBytes

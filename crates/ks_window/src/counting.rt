@@ -1,12 +1,12 @@
 //! What an item changes in the store of a windowed count.
 ghost use Rattle.std.specs.Prelude.{◌≡◌, ◌≤◌, ◌++◌, ◌∷◌, [], Some, None, IfOk, OnOk, option_map, nat_eq};
-ghost use Rattle.ks_map.specs.FinMap as fin;
-ghost use Rattle.ks_wire.specs.Spelling.{agg_bytes, window_key, time_key, time_bytes};
+ghost use Rattle.ks_def_maps.specs.FinMap as fin;
+ghost use Rattle.ks_wire.specs.Spelling.{window_key, time_key, time_bytes};
 ghost use Rattle.ks_query.specs.Grace.{is_open};
 ghost use Rattle.ks_query.specs.Aggregates.{stream_add};
-ghost use Rattle.ks_machine.specs.Messages.{same_option};
-ghost use Rattle.ks_machine.specs.Windowed.{greater};
-ghost use Rattle.ks_window.specs.Counting.{shape, time_in, count_in, kept_rec, counted};
+ghost use Rattle.ks_def_tasks.specs.Messages.{same_option};
+ghost use Rattle.ks_def_tasks.specs.Windowed.{greater};
+ghost use Rattle.ks_window.specs.Counting.{shape, time_in, next_bytes, kept_rec, next_rec, with_next, counted};
 
 use crate::windows::starts;
 use ks_row::{Blob, Key, Rec};
@@ -23,9 +23,9 @@ pub struct Window {
 }
 
 // Where the store keeps the greatest timestamp.
-const TIME_KEY: [u8; 1] = [0x54];
+pub(crate) const TIME_KEY: [u8; 1] = [0x54];
 
-fn time_of<S: KvStore>(store: &S) -> Option<u64>
+pub(crate) fn time_of<S: KvStore>(store: &S) -> Option<u64>
     ensures { result ≡ time_in (S.contents store.now) }
 {
     match store.get(&TIME_KEY) {
@@ -34,7 +34,7 @@ fn time_of<S: KvStore>(store: &S) -> Option<u64>
     }
 }
 
-fn later_of(before: Option<u64>, t: u64) -> u64
+pub(crate) fn later_of(before: Option<u64>, t: u64) -> u64
     ensures { result ≡ greater before t }
 {
     match before {
@@ -43,7 +43,7 @@ fn later_of(before: Option<u64>, t: u64) -> u64
     }
 }
 
-fn is_kept(before: Option<u64>, now: u64) -> bool
+pub(crate) fn is_kept(before: Option<u64>, now: u64) -> bool
     ensures { result ≡ same_option nat_eq before (Some now) }
 {
     match before {
@@ -52,7 +52,7 @@ fn is_kept(before: Option<u64>, now: u64) -> bool
     }
 }
 
-fn is_taken(window: &Window, now: u64, start: u64) -> bool
+pub(crate) fn is_taken(window: &Window, now: u64, start: u64) -> bool
     ensures { result ≡ is_open (shape window.now) now start }
 {
     u128::from(now) < u128::from(start) + u128::from(window.size) + u128::from(window.grace)
@@ -71,7 +71,40 @@ fn one_more(old: Option<Agg>) -> Agg
     }
 }
 
-/// Sets a value and tells the changelog.
+// Adds the changelog record of a value.
+pub(crate) fn push_rec(
+    alloc: Global,
+    recs: &mut Vec<Rec>,
+    t: u64,
+    key: &[u8],
+    value: &[u8],
+) -> Result<(), AllocError>
+    ensures { OnOk result (recs.new.items ≡ recs.old.items ++ kept_rec t key.now value.now ∷ []) }
+{
+    recs.push(Rec {
+        key: Some(Blob::from_slice(alloc, key)?),
+        value: Some(Blob::from_slice(alloc, value)?),
+        ts: t,
+    })?;
+    Ok(())
+}
+
+// The count of a key's window, one higher.
+pub(crate) fn next_count<S: KvStore>(
+    alloc: Global,
+    store: &S,
+    place: &[u8],
+) -> Result<Blob, AllocError>
+    ensures { IfOk result (λ b. b ≡ next_bytes (S.contents store.now) place.now) }
+{
+    let old = match store.get(place) {
+        Some(bytes) => read_agg(bytes),
+        None => None,
+    };
+    write_agg(alloc, &one_more(old))
+}
+
+// Sets a value and tells the changelog.
 fn keep<S: KvStore>(
     alloc: Global,
     store: &mut S,
@@ -84,12 +117,7 @@ fn keep<S: KvStore>(
     ensures recs { OnOk result (recs.new.items ≡ recs.old.items ++ kept_rec t key.now value.now ∷ []) }
 {
     store.put(key, value)?;
-    recs.push(Rec {
-        key: Some(Blob::from_slice(alloc, key)?),
-        value: Some(Blob::from_slice(alloc, value)?),
-        ts: t,
-    })?;
-    Ok(())
+    push_rec(alloc, recs, t, key, value)
 }
 
 fn keep_greatest<S: KvStore>(
@@ -113,15 +141,11 @@ fn count_window<S: KvStore>(
     key: &Key,
     start: u64,
 ) -> Result<(), AllocError>
-    ensures store { OnOk result (S.contents store.new ≡ fin.insert (S.contents store.old) (window_key key.now start) (agg_bytes (stream_add None (count_in (S.contents store.old) key.now start) []))) }
-    ensures recs { OnOk result (recs.new.items ≡ recs.old.items ++ kept_rec t (window_key key.now start) (agg_bytes (stream_add None (count_in (S.contents store.old) key.now start) [])) ∷ []) }
+    ensures store { OnOk result (S.contents store.new ≡ with_next (S.contents store.old) (window_key key.now start)) }
+    ensures recs { OnOk result (recs.new.items ≡ recs.old.items ++ next_rec t (S.contents store.old) (window_key key.now start) ∷ []) }
 {
     let place = write_window_key(alloc, key, start)?;
-    let old = match store.get(place.as_slice()) {
-        Some(bytes) => read_agg(bytes),
-        None => None,
-    };
-    let value = write_agg(alloc, &one_more(old))?;
+    let value = next_count(alloc, store, place.as_slice())?;
     keep(alloc, store, recs, t, place.as_slice(), value.as_slice())
 }
 

@@ -1,7 +1,7 @@
 //! The windows of a timestamp.
 ghost use Rattle.std.specs.Prelude.{◌≡◌, ◌≤◌, ◌*◌, IfOk};
 ghost use Rattle.ks_query.specs.Windows.{windows};
-ghost use Rattle.ks_window.specs.Starts.{first_index, multiples_from};
+ghost use Rattle.ks_window.specs.Starts.{first_index};
 
 use std::alloc::{AllocError, Global};
 

@@ -39,7 +39,7 @@ pub fn write_subscription(alloc: Global, subscription: &Subscription) -> Result<
     out.push(subscription.instruction())?;
     push_hash(&mut out, subscription.hash())?;
     out.extend_from_slice(subscription.left().as_str().as_bytes())?;
-    Ok(Blob::of(out))
+    Blob::of(out)
 }
 
 /// The bytes that spell the response.
@@ -55,7 +55,7 @@ pub fn write_response(alloc: Global, response: &Response) -> Result<Blob, AllocE
         let row = encode(alloc, row)?;
         out.extend_from_slice(row.as_slice())?;
     }
-    Ok(Blob::of(out))
+    Blob::of(out)
 }
 
 /// The bytes that spell the delta.
@@ -67,7 +67,7 @@ pub fn write_delta(alloc: Global, delta: &Delta) -> Result<Blob, AllocError>
     let mut out = Vec::new(alloc);
     out.push(if delta.add { 1 } else { 0 })?;
     out.extend_from_slice(&delta.amount.to_be_bytes())?;
-    Ok(Blob::of(out))
+    Blob::of(out)
 }
 
 /// The bytes that spell the aggregate.
@@ -79,7 +79,7 @@ pub fn write_agg(alloc: Global, agg: &Agg) -> Result<Blob, AllocError>
     let mut out = Vec::new(alloc);
     out.extend_from_slice(&agg.members.to_be_bytes())?;
     out.extend_from_slice(&agg.total.to_be_bytes())?;
-    Ok(Blob::of(out))
+    Blob::of(out)
 }
 
 /// The bytes of a hash alone.
@@ -115,7 +115,7 @@ pub fn write_subscription_key(alloc: Global, foreign: &Key, left: &Key) -> Resul
     let mut out = Vec::new(alloc);
     push_long_key(&mut out, foreign)?;
     out.extend_from_slice(left.as_str().as_bytes())?;
-    Ok(Blob::of(out))
+    Blob::of(out)
 }
 
 /// Where a windowed count keeps the count of a key in the window that starts at `start`.
@@ -127,5 +127,5 @@ pub fn write_window_key(alloc: Global, key: &Key, start: u64) -> Result<Blob, Al
     let mut out = Vec::new(alloc);
     push_long_key(&mut out, key)?;
     out.extend_from_slice(&start.to_be_bytes())?;
-    Ok(Blob::of(out))
+    Blob::of(out)
 }

@@ -1,4 +1,4 @@
-use Rattle.ks_cluster.specs.Kept.{setup_of}
+use Rattle.ks_cluster.specs.View.{setup_of}
 use Rattle.ks_commit.proofs.Finish.{placed_at}
 use Rattle.ks_commit.proofs.committing.all_ends.Goals as goal
 

@@ -2,10 +2,10 @@ use Rattle.std.proofs.Common.{◌≡◌, ◌≢◌, List, [], ◌∷◌, refl, s
 use Rattle.std.specs.Prelude.{Result, Ok, Err, OnOk}
 use Rattle.std.proofs.lemmas.Result.{IfOk-weaker}
 use Rattle.ks_history.specs.State.{Setup}
-use Rattle.ks_cluster.specs.Kept.{setup_of, state_of}
+use Rattle.ks_cluster.specs.View.{setup_of, state_of}
 use Rattle.ks_cluster.proofs.Entries.{answered_setup}
 use Rattle.ks_commit.specs.declared.work.Frozen.{Frozen}
-use Rattle.ks_follow.specs.Views.{WorkView}
+use Rattle.ks_law_restore.specs.Views.{WorkView}
 use Rattle.ks_commit.specs.Sending.{Sends, adds_of, puts_of, pendings_of}
 use Rattle.ks_commit.specs.Committed.{works_of, EachOf, EachPlaced, own_of_each, ends_of_each}
 use Rattle.ks_commit.proofs.Entries.{later_setup}
@@ -24,22 +24,20 @@ pub send_all-requires-clause-works : goal.send_all-requires-clause-works
 send_all-requires-clause-works g c =
     let setup = setup_of g.W.Work.plan c.args.cluster.now in
     let s = state_of g.W.Work.plan c.args.cluster.now in
-    subst (EachOf setup s) (sym c.in_ok-twice.ensures) (each_of setup s (works_of c.args.works.items) c.requires.works)
+    each_of setup s (works_of c.args.works.items) c.requires.works
 
 pub decide-requires-clause-faithful : goal.decide-requires-clause-faithful
 decide-requires-clause-faithful g c =
     let plan = g.W.Work.plan in
     let fs : List WorkView = works_of c.args.works.items in
-    let sends : Sends g.W.Work.plan c.args.cluster.now c.send_all.new.cluster c.args.publisher.now.worker (adds_of fs) (puts_of fs) (pendings_of fs) =
-    subst (λ (l : List WorkView). Sends g.W.Work.plan c.args.cluster.now c.send_all.new.cluster c.args.publisher.now.worker (adds_of l) (puts_of l) (pendings_of l)) c.in_ok-twice.ensures c.in_ok-send_all.ensures.sends in
+    let sends = c.in_ok-send_all.ensures.sends in
     commits_faithfully plan c.args.cluster.now c.send_all.new.cluster c.args.publisher.now c.send_all.new.publisher fs c.requires.network c.journal-before.ensures.history c.requires.ready c.requires.apart c.requires.works c.in_ok-send_all.ensures.same sends
 
 pub decide-requires-clause-free : goal.decide-requires-clause-free
 decide-requires-clause-free g c =
     let plan = g.W.Work.plan in
     let fs : List WorkView = works_of c.args.works.items in
-    let sends : Sends g.W.Work.plan c.args.cluster.now c.send_all.new.cluster c.args.publisher.now.worker (adds_of fs) (puts_of fs) (pendings_of fs) =
-    subst (λ (l : List WorkView). Sends g.W.Work.plan c.args.cluster.now c.send_all.new.cluster c.args.publisher.now.worker (adds_of l) (puts_of l) (pendings_of l)) c.in_ok-twice.ensures c.in_ok-send_all.ensures.sends in
+    let sends = c.in_ok-send_all.ensures.sends in
     decide_free plan c.args.cluster.now c.send_all.new.cluster c.args.publisher.now c.send_all.new.publisher fs c.requires.network c.journal-before.ensures.history c.requires.ready c.requires.apart c.requires.works c.in_ok-send_all.ensures.same sends (some_works c.args.works.items c.requires.some) c.in_ok-send_all.ensures.sending
 
 pub all_ends-requires : goal.all_ends-requires
@@ -60,8 +58,7 @@ pub returns-clause-committed : goal.returns-clause-committed
 returns-clause-committed g c =
     let plan = g.W.Work.plan in
     let fs : List WorkView = works_of c.args.works.items in
-    let sends : Sends g.W.Work.plan c.args.cluster.now c.send_all.new.cluster c.args.publisher.now.worker (adds_of fs) (puts_of fs) (pendings_of fs) =
-    subst (λ (l : List WorkView). Sends g.W.Work.plan c.args.cluster.now c.send_all.new.cluster c.args.publisher.now.worker (adds_of l) (puts_of l) (pendings_of l)) c.in_ok-twice.ensures c.in_ok-send_all.ensures.sends in
+    let sends = c.in_ok-send_all.ensures.sends in
     let free = decide_free plan c.args.cluster.now c.send_all.new.cluster c.args.publisher.now c.send_all.new.publisher fs c.requires.network c.journal-before.ensures.history c.requires.ready c.requires.apart c.requires.works c.in_ok-send_all.ensures.same sends (some_works c.args.works.items c.requires.some) c.in_ok-send_all.ensures.sending in
     let own : c.as_slice-2.result.now ≡ own_of_each fs = c.as_slice-2.ensures.value ∙ c.in_ok-own.ensures ∙ ap (λ (l : List Frozen). own_of_each (works_of l)) c.as_slice.ensures.value in
     IfOk-weaker c.all_ends.result _ _
@@ -73,8 +70,7 @@ pub returns-clause-ready : goal.returns-clause-ready
 returns-clause-ready g c =
     let plan = g.W.Work.plan in
     let fs : List WorkView = works_of c.args.works.items in
-    let sends : Sends g.W.Work.plan c.args.cluster.now c.send_all.new.cluster c.args.publisher.now.worker (adds_of fs) (puts_of fs) (pendings_of fs) =
-    subst (λ (l : List WorkView). Sends g.W.Work.plan c.args.cluster.now c.send_all.new.cluster c.args.publisher.now.worker (adds_of l) (puts_of l) (pendings_of l)) c.in_ok-twice.ensures c.in_ok-send_all.ensures.sends in
+    let sends = c.in_ok-send_all.ensures.sends in
     let free = decide_free plan c.args.cluster.now c.send_all.new.cluster c.args.publisher.now c.send_all.new.publisher fs c.requires.network c.journal-before.ensures.history c.requires.ready c.requires.apart c.requires.works c.in_ok-send_all.ensures.same sends (some_works c.args.works.items c.requires.some) c.in_ok-send_all.ensures.sending in
     always_ok c.all_ends.result
     (now_ready plan c.args.cluster.now c.send_all.new.cluster c.args.publisher.now c.send_all.new.publisher fs c.requires.network c.journal-before.ensures.history c.requires.ready c.requires.apart c.requires.works c.in_ok-send_all.ensures.same sends c.decide.new.cluster c.write_markers.new.cluster _ (some_works c.args.works.items c.requires.some) c.in_ok-send_all.ensures.sending free c.in_ok-decide.ensures.ok c.in_ok-write_markers.ensures.marked

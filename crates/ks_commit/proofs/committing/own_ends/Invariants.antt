@@ -1,5 +1,5 @@
 use Rattle.std.proofs.Common.{◌≡◌, ◌++◌, drop}
-use Rattle.ks_cluster.specs.Kept.{state_of}
+use Rattle.ks_cluster.specs.View.{state_of}
 use Rattle.ks_commit.specs.Committed.{ends_at}
 use Rattle.ks_commit.proofs.committing.own_ends.Given as goal
 

@@ -1,5 +1,5 @@
 use Rattle.std.proofs.Common.{ℕ, ◌+◌, ◌<◌, cond, length, refl, sym, ap, ◌∙◌, arith}
-use Rattle.ks_cluster.specs.Kept.{state_of}
+use Rattle.ks_cluster.specs.View.{state_of}
 use Rattle.ks_commit.proofs.Entries.{marked_both, marked_nothing}
 use Rattle.ks_commit.proofs.Written.{mark_step}
 use Rattle.ks_commit.proofs.markers.write_markers.Goals as goal

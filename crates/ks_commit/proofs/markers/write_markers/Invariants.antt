@@ -1,5 +1,5 @@
 use Rattle.std.proofs.Common.{◌≡◌, ◌+◌, ◌≤◌, false, cond, [], length}
-use Rattle.ks_cluster.specs.Kept.{state_of}
+use Rattle.ks_cluster.specs.View.{state_of}
 use Rattle.ks_commit.specs.Sending.{Marked}
 use Rattle.ks_commit.proofs.markers.write_markers.Given as goal
 

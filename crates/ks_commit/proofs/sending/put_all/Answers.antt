@@ -2,7 +2,7 @@ use Rattle.std.proofs.Common.{◌≡◌, ℕ, List, [], ◌∷◌, refl, sym, ap
 use Rattle.ks_row.specs.declared.record.Rec.{Rec}
 use Rattle.ks_row.specs.declared.record.PartId.{PartId}
 use Rattle.ks_history.specs.State.{Setup, IsPart}
-use Rattle.ks_cluster.specs.Kept.{setup_of}
+use Rattle.ks_cluster.specs.View.{setup_of}
 use Rattle.ks_commit.specs.Sending.{Sends, adds_in, puts_in}
 use Rattle.ks_commit.proofs.Entries.{sends_nothing, later_setup}
 use Rattle.ks_commit.proofs.Turns.{one_taken, all_taken, next_has}
@@ -17,9 +17,8 @@ put-requires-clause-part g c =
     let plan = g.W.Work.plan in
     let inv = c.loop-out.invariant in
     let x = c.in-Some.out in
-    subst (λ (setup : Setup). IsPart setup c.into_parts-recs.result.0) (sym (later_setup plan c.args.cluster.now c.loop-out.cluster inv.sends.more inv.sends.is))
-    (subst (IsPart (setup_of plan c.args.cluster.now)) (sym (ap (λ (o : PartId × List Rec). o.0) c.into_parts-recs.ensures.is))
-    (next_has (λ (out : PartId × List Rec). IsPart (setup_of plan c.args.cluster.now) out.0) c.loop-out.yielded c.loop-out.out-iterator.rest.items c.args.outputs.items c.next.new.self.rest.items x c.requires.parts inv.whole c.in-Some.ensures.steps.0))
+    subst (λ (setup : Setup). IsPart setup x.0) (sym (later_setup plan c.args.cluster.now c.loop-out.cluster inv.sends.more inv.sends.is))
+    (next_has (λ (out : PartId × List Rec). IsPart (setup_of plan c.args.cluster.now) out.0) c.loop-out.yielded c.loop-out.out-iterator.rest.items c.args.outputs.items c.next.new.self.rest.items x c.requires.parts inv.whole c.in-Some.ensures.steps.0)
 
 pub loop-out-preserved : goal.loop-out-preserved
 loop-out-preserved g c =
@@ -28,8 +27,8 @@ loop-out-preserved g c =
     record {
       whole = one_taken c.loop-out.yielded c.loop-out.out-iterator.rest.items c.args.outputs.items c.next.new.self.rest.items x inv.whole c.in-Some.ensures.steps.0;
       sends = outs_more g.W.Work.plan c.args.cluster.now c.loop-out.cluster c.put.new.cluster c.args.publisher.now.worker c.args.task c.loop-out.yielded x inv.sends
-          (subst (λ (o : PartId × List Rec). Sends g.W.Work.plan c.loop-out.cluster c.put.new.cluster c.args.publisher.now.worker (o.0 ∷ []) ((c.args.task, o.0, o.1) ∷ []) []) c.into_parts-recs.ensures.is
-          (subst (λ (w : ℕ). Sends g.W.Work.plan c.loop-out.cluster c.put.new.cluster w (c.into_parts-recs.result.0 ∷ []) ((c.args.task, c.into_parts-recs.result.0, c.into_parts-recs.result.1.items) ∷ []) []) inv.same.0 c.in_ok-put.ensures.sends));
+          (subst (λ (rs : List Rec). Sends g.W.Work.plan c.loop-out.cluster c.put.new.cluster c.args.publisher.now.worker (x.0 ∷ []) ((c.args.task, x.0, rs) ∷ []) []) c.as_slice.ensures
+          (subst (λ (w : ℕ). Sends g.W.Work.plan c.loop-out.cluster c.put.new.cluster w (x.0 ∷ []) ((c.args.task, x.0, c.as_slice.result.now) ∷ []) []) inv.same.0 c.in_ok-put.ensures.sends));
       sending = c.in_ok-put.ensures.sending;
       same = (c.in_ok-put.ensures.same.0 ∙ inv.same.0, c.in_ok-put.ensures.same.1 ∙ inv.same.1, c.in_ok-put.ensures.same.2 ∙ inv.same.2);
     }

@@ -1,5 +1,5 @@
 use Rattle.std.proofs.Common.{◌≡◌, [], ◌++◌}
-use Rattle.ks_cluster.specs.Kept.{setup_of, state_of}
+use Rattle.ks_cluster.specs.View.{setup_of, state_of}
 use Rattle.ks_commit.specs.Sending.{Sends, adds_in, puts_in}
 use Rattle.ks_commit.specs.Committed.{IsSending, IsSame}
 use Rattle.ks_commit.proofs.sending.put_all.Given as goal

@@ -1,6 +1,9 @@
 use Rattle.std.proofs.Common.{◌≡◌, ℕ, List, [], ◌∷◌, refl, ◌∙◌, subst, arith, rules}
-use Rattle.ks_cluster.specs.Kept.{setup_of, state_of}
-use Rattle.ks_follow.specs.Views.{WorkView, pending_work}
+use Rattle.ks_cluster.specs.View.{setup_of, state_of}
+use Rattle.ks_law_restore.specs.Views.{pending_work}
+use Rattle.ks_commit.specs.declared.work.Frozen.{Frozen}
+use Rattle.ks_commit.specs.Work.{work_view}
+use Rattle.ks_commit.specs.Committed.{works_of}
 use Rattle.ks_commit.specs.Sending.{Sends, adds_in, puts_in, adds_of, puts_of, pendings_of}
 use Rattle.ks_commit.proofs.Entries.{sends_nothing}
 use Rattle.ks_commit.proofs.Turns.{one_taken, all_taken, next_of}
@@ -13,7 +16,7 @@ loop-work-init g c = record { whole = search rules; left = search rules; sends =
 pub send-requires-clause-work : goal.send-requires-clause-work
 send-requires-clause-work g c =
     let plan = g.W.Work.plan in
-    of_cluster_later plan c.args.cluster.now c.loop-work.cluster c.args.publisher.now.worker _ _ _ c.in-Some.work c.loop-work.invariant.sends
+    of_cluster_later plan c.args.cluster.now c.loop-work.cluster c.args.publisher.now.worker _ _ _ (work_view c.in-Some.work) c.loop-work.invariant.sends
     (next_of (setup_of plan c.args.cluster.now) (state_of plan c.args.cluster.now) c.loop-work.work-iterator.rest.items c.next.new.self.rest.items c.in-Some.work c.loop-work.invariant.left c.in-Some.ensures.steps.0).0
 
 pub loop-work-preserved : goal.loop-work-preserved
@@ -25,7 +28,7 @@ loop-work-preserved g c =
       whole = one_taken c.loop-work.yielded c.loop-work.work-iterator.rest.items c.args.works.items c.next.new.self.rest.items x inv.whole c.in-Some.ensures.steps.0;
       left = (next_of (setup_of plan c.args.cluster.now) (state_of plan c.args.cluster.now) c.loop-work.work-iterator.rest.items c.next.new.self.rest.items x inv.left c.in-Some.ensures.steps.0).1;
       sends = works_more plan c.args.cluster.now c.loop-work.cluster c.send.new.cluster c.args.publisher.now.worker c.loop-work.yielded x inv.sends
-          (subst (λ (w : ℕ). Sends plan c.loop-work.cluster c.send.new.cluster w (adds_in x.outputs) (puts_in x.task x.outputs) (pending_work x ∷ [])) inv.same.0 c.in_ok-send.ensures.sends);
+          (subst (λ (w : ℕ). Sends plan c.loop-work.cluster c.send.new.cluster w (adds_in x.outputs) (puts_in x.task x.outputs) (pending_work (work_view x) ∷ [])) inv.same.0 c.in_ok-send.ensures.sends);
       sending = c.in_ok-send.ensures.sending;
       same = (c.in_ok-send.ensures.same.0 ∙ inv.same.0, c.in_ok-send.ensures.same.1 ∙ inv.same.1, c.in_ok-send.ensures.same.2 ∙ inv.same.2);
     }
@@ -33,4 +36,4 @@ loop-work-preserved g c =
 pub returns-clause-sends : goal.returns-clause-sends
 returns-clause-sends g c =
     let is : c.loop-work.yielded ≡ c.args.works.items = all_taken c.loop-work.yielded c.loop-work.work-iterator.rest.items c.args.works.items c.loop-work.invariant.whole (omega (arith, c.loop-work.work-iterator.rest.ok, c.in-None.ensures.steps.0)) in
-    subst (λ (fs : List WorkView). Sends g.W.Work.plan c.args.cluster.now c.loop-work.cluster c.args.publisher.now.worker (adds_of fs) (puts_of fs) (pendings_of fs)) is c.loop-work.invariant.sends
+    subst (λ (fs : List Frozen). Sends g.W.Work.plan c.args.cluster.now c.loop-work.cluster c.args.publisher.now.worker (adds_of (works_of fs)) (puts_of (works_of fs)) (pendings_of (works_of fs))) is c.loop-work.invariant.sends

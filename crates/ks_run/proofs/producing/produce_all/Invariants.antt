@@ -1,17 +1,14 @@
-use Rattle.std.proofs.Common.{◌≡◌}
 use Rattle.std.specs.Vec.Iter.{into_iter_items, into_iter_len}
 use Rattle.ks_job.specs.Items.{item_views}
-use Rattle.ks_records.specs.Records.{AreRecords}
-use Rattle.ks_run.specs.Producing.{placed_all}
+use Rattle.ks_law_inputs.specs.Records.{AreRecords}
 use Rattle.ks_run.proofs.Produced.{IsProducing}
 use Rattle.ks_run.proofs.producing.produce_all.Given as goal
 
--- the records of the items so far are produced, and the items that are left are records, of which these are the copies
+-- the records of the items so far are produced, and the items that are left are records
 abbrev pub invariant-loop-item : goal.invariant-loop-item
 invariant-loop-item g l = record {
   producing : IsProducing l.counts l.fn.cluster l.cluster (item_views (into_iter_items l.rest)) (item_views l.fn.items.items);
   records : AreRecords (g.W.Work.plan l.fn.cluster.work).sources (item_views (into_iter_items l.rest));
-  copies : into_iter_items l.copies ≡ placed_all l.counts (item_views (into_iter_items l.rest));
 }
 
 abbrev pub decreases-loop-item : goal.decreases-loop-item

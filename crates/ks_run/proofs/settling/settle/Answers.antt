@@ -3,7 +3,7 @@ use Rattle.std.proofs.lemmas.Result.{IfOk-weaker}
 use Rattle.ks_plan.specs.declared.node.TopicInfo.{TopicInfo}
 use Rattle.ks_topo.specs.Topologies.{draft_of}
 use Rattle.ks_job.specs.Items.{item_views}
-use Rattle.ks_cluster.specs.Kept as kept
+use Rattle.ks_cluster.specs.View as kept
 use Rattle.ks_run.proofs.Counts.{shown_counts}
 use Rattle.ks_run.proofs.Settles.{setup_is, setup_made, parts_ready, records_ready, produced_setup, settled_answers}
 use Rattle.ks_run.proofs.settling.settle.Goals as goal
@@ -17,14 +17,14 @@ new-requires g c =
     setup_made hash d _ setup c.nodes-nodes.ensures.well_formed
 
 pub produce_all-requires-clause-parts : goal.produce_all-requires-clause-parts
-produce_all-requires-clause-parts g c κs within =
+produce_all-requires-clause-parts g c =
     let d = draft_of c.args.topology.now in
     let counts = c.in_ok-counts.ensures ∙ (ap (map (λ (i : TopicInfo). i.parts)) c.topics.ensures ∙ shown_counts d) in
     parts_ready g.H.Hash128.hash_of d (g.W.Work.plan c.in_ok-cluster.cluster.work) c.as_slice-2.result.now c.nodes-nodes.ensures.well_formed c.requires.partitions
     (ap (λ k. g.W.Work.plan k.work) c.in_ok-cluster.ensures ∙ c.requires.work) (c.as_slice-2.ensures.value ∙ counts)
 
 pub produce_all-requires-clause-records : goal.produce_all-requires-clause-records
-produce_all-requires-clause-records g c κs within =
+produce_all-requires-clause-records g c =
     records_ready g.H.Hash128.hash_of (draft_of c.args.topology.now) (g.W.Work.plan c.in_ok-cluster.cluster.work) (item_views c.args.records.items)
     (ap (λ k. g.W.Work.plan k.work) c.in_ok-cluster.ensures ∙ c.requires.work) c.requires.records
 
@@ -32,7 +32,7 @@ pub drain-requires-clause-setup : goal.drain-requires-clause-setup
 drain-requires-clause-setup g c κs within =
     let d = draft_of c.args.topology.now in
     let counts = c.in_ok-counts.ensures ∙ (ap (map (λ (i : TopicInfo). i.parts)) c.topics.ensures ∙ shown_counts d) in
-    produced_setup g.W.Work.plan c.in_ok-cluster.cluster c.produce_all.new.cluster _ c.in_ok-produce_all.ensures
+    produced_setup g.W.Work.plan c.in_ok-cluster.cluster c.produce_all.new.cluster _ c.in_ok-produce_all.ensures.ok
     ∙ (ap (λ k. kept.setup_of g.W.Work.plan k) c.in_ok-cluster.ensures
     ∙ setup_is g.H.Hash128.hash_of d (g.W.Work.plan c.args.work) c.in_ok-kept.kept.items c.in_ok-tasks.tasks.items c.requires.work (c.in_ok-kept.ensures.items ∙ (c.as_slice.ensures.value ∙ counts)) (c.in_ok-tasks.ensures.items ∙ c.tasks.ensures))
 
@@ -40,7 +40,7 @@ pub tables-requires-clause-counts : goal.tables-requires-clause-counts
 tables-requires-clause-counts g c κs within =
     let d = draft_of c.args.topology.now in
     let counts = c.in_ok-counts.ensures ∙ (ap (map (λ (i : TopicInfo). i.parts)) c.topics.ensures ∙ shown_counts d) in
-    ap (λ k. k.counts) c.in_ok-drain.ensures.more.same ∙ (c.in_ok-produce_all.ensures.counts ∙ (ap (λ k. k.counts) c.in_ok-cluster.ensures ∙ (c.in_ok-kept.ensures.items ∙ (c.as_slice.ensures.value ∙ counts))))
+    ap (λ k. k.counts) c.in_ok-drain.ensures.more.same ∙ (c.in_ok-produce_all.ensures.ok.counts ∙ (ap (λ k. k.counts) c.in_ok-cluster.ensures ∙ (c.in_ok-kept.ensures.items ∙ (c.as_slice.ensures.value ∙ counts))))
 
 pub returns : goal.returns
 returns g c =
@@ -51,6 +51,6 @@ returns g c =
     ∙ setup_is hash d (g.W.Work.plan c.args.work) c.in_ok-kept.kept.items c.in_ok-tasks.tasks.items c.requires.work (c.in_ok-kept.ensures.items ∙ (c.as_slice.ensures.value ∙ counts)) (c.in_ok-tasks.ensures.items ∙ c.tasks.ensures) in
     IfOk-weaker c.end_run.result _ _
     (λ s h. settled_answers hash d g.W.Work.plan (item_views c.args.records.items) c.in_ok-cluster.cluster c.produce_all.new.cluster c.drain.new.cluster c.as_slice-2.result.now c.in_ok-tables.tables.items s.text.items s.journal h.0
-    c.nodes-nodes.ensures.well_formed c.requires.built c.requires.records setup (ap (λ k. k.journal) c.in_ok-cluster.ensures) (c.as_slice-2.ensures.value ∙ counts) c.in_ok-produce_all.ensures c.in_ok-drain.ensures.more
+    c.nodes-nodes.ensures.well_formed c.requires.built c.requires.records setup (ap (λ k. k.journal) c.in_ok-cluster.ensures) (c.as_slice-2.ensures.value ∙ counts) c.in_ok-produce_all.ensures.ok c.in_ok-drain.ensures.more
     h.1 c.end_run.ensures.history c.end_run.ensures.few c.in_ok-drain.ensures.settled c.in_ok-tables.ensures)
     c.end_run.ensures.made

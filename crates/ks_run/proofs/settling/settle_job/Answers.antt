@@ -4,10 +4,10 @@ use Rattle.std.proofs.lemmas.Result.{IfOk-weaker}
 use Rattle.ks_plan.specs.Drafts.{draft_view}
 use Rattle.ks_plan.specs.Plan.{plan_of}
 use Rattle.ks_task.specs.Built.{IsBuilt, rules_of}
-use Rattle.ks_records.specs.Records.{HavePartitions, AreRecords, records_of}
+use Rattle.ks_law_inputs.specs.Records.{HavePartitions, AreRecords, records_of}
 use Rattle.ks_job.specs.Items.{item_views}
 use Rattle.ks_run.proofs.Settles.{job_splits, job_parts}
-use Rattle.ks_run.specs.Settling.{Answers}
+use Rattle.ks_run.specs.Settling.{SettlesJob}
 use Rattle.ks_run.proofs.JobAnswers.{answers_job}
 use Rattle.ks_run.proofs.settling.settle_job.Goals as goal
 
@@ -37,4 +37,4 @@ returns g c =
     let rules = rules_of g.H.Hash128.hash_of in
     let built = rw c.in-Ok.is at c.in_ok-topology.ensures in
     IfOk-weaker c.settle.result _ _ (λ s a. answers_job rules (item_views c.args.items.items) (item_views c.in-Some.records.items) (draft_view c.in-Some.draft) s.text.items s.journal (sym c.in-Some.ensures)
-    (subst (λ d. Answers rules d (records_of (item_views c.in-Some.records.items)) s.text.items s.journal) built.1 a)) c.settle.ensures
+    (subst (λ d. SettlesJob rules d (records_of (item_views c.in-Some.records.items)) s.text.items s.journal) built.1 a)) c.settle.ensures

@@ -1,6 +1,6 @@
 use Rattle.std.proofs.Common.{◌∙◌, ap, arith}
 use Rattle.ks_topo.specs.Topologies.{draft_of}
-use Rattle.ks_cluster.specs.Kept.{setup_of}
+use Rattle.ks_cluster.specs.View.{setup_of}
 use Rattle.ks_commit.specs.Committed.{works_of}
 use Rattle.ks_settle.proofs.Beside.{all_rest, one_put, all_put}
 use Rattle.ks_settle.proofs.draining.read_tasks.Goals as goal
@@ -13,7 +13,7 @@ read_each-requires-clause-rests g c κs within =
 pub loop-attempt-preserved : goal.loop-attempt-preserved
 loop-attempt-preserved g c =
     one_put (draft_of c.args.topology.now) (setup_of g.W.Work.plan c.args.cluster.now) c.args.cluster.now.journal c.args.topic c.loop-attempt.tasks.items c.push.new.self.items c.loop-attempt.attempt-iterator.rest.items c.next.new.self.rest.items
-    c.in-Some.attempt c.in_ok-attempt.field-0 (works_of c.loop-attempt.works.items) (works_of c.keep.new.works.items) c.requires.may.made.once c.loop-attempt.invariant c.in-Some.ensures.steps.0 c.in_ok-attempt.was c.in_ok-push.ensures.items c.in_ok-keep.ensures
+    c.in-Some.attempt c.in_ok-attempt.field-0 (works_of c.loop-attempt.works.items) (works_of c.keep.new.works.items) c.requires.may.of.may.made.once c.loop-attempt.invariant c.in-Some.ensures.steps.0 c.in_ok-attempt.was c.in_ok-push.ensures.items c.in_ok-keep.ensures
 
 pub returns : goal.returns
 returns g c =

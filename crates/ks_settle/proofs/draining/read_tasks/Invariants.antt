@@ -1,5 +1,5 @@
 use Rattle.ks_topo.specs.Topologies.{draft_of}
-use Rattle.ks_cluster.specs.Kept.{setup_of}
+use Rattle.ks_cluster.specs.View.{setup_of}
 use Rattle.ks_commit.specs.Committed.{works_of}
 use Rattle.ks_settle.specs.Drained.{ArePutBack}
 use Rattle.ks_settle.proofs.draining.read_tasks.Given as goal

@@ -1,6 +1,6 @@
 use Rattle.std.proofs.Common.{subst}
 use Rattle.ks_topo.specs.Topologies.{draft_of}
-use Rattle.ks_cluster.specs.Kept.{setup_of}
+use Rattle.ks_cluster.specs.View.{setup_of}
 use Rattle.ks_settle.specs.Drained.{IsFetched}
 use Rattle.ks_settle.proofs.Taking.{comes_nearer, still_reader, not_yet, reading_on, read_on}
 use Rattle.ks_settle.proofs.reading.read_on.Goals as goal

@@ -1,7 +1,7 @@
 use Rattle.std.proofs.Common.{◌-◌}
 use Rattle.ks_history.specs.Machine.{part_of}
 use Rattle.ks_history.specs.Reads.{end_of}
-use Rattle.ks_cluster.specs.Kept.{setup_of, state_of}
+use Rattle.ks_cluster.specs.View.{setup_of, state_of}
 use Rattle.ks_topo.specs.Topologies.{draft_of}
 use Rattle.ks_task.specs.Tasks.{task_view}
 use Rattle.ks_settle.proofs.Taking.{Reading}

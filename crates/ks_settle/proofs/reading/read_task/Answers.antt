@@ -1,8 +1,8 @@
 use Rattle.std.proofs.Common.{ap, sym, subst, ◌∙◌}
 use Rattle.ks_topo.specs.Topologies.{draft_of}
 use Rattle.ks_history.specs.Machine.{has_topic}
-use Rattle.ks_cluster.specs.Kept.{setup_of}
-use Rattle.ks_follow.specs.Views.{IsFrozen}
+use Rattle.ks_cluster.specs.View.{setup_of}
+use Rattle.ks_law_restore.specs.Views.{IsFrozen}
 use Rattle.ks_commit.specs.Work.{work_view}
 use Rattle.ks_task.specs.Tasks.{task_view}
 use Rattle.ks_settle.proofs.Filling.{reads_some}
@@ -19,6 +19,6 @@ read_on-requires-clause-reader g c = record {
 pub returns : goal.returns
 returns g c =
     reads_some (draft_of c.args.topology.now) (setup_of g.W.Work.plan c.args.cluster.now) c.args.cluster.now.journal c.args.topic c.in_ok-moved.moved c.args.task.now c.read_on.new.task (work_view c.in_ok-freeze.field-0)
-    c.requires.may c.requires.rests.1 c.in_ok-moved.ensures
-    (subst (λ q. IsFrozen q (task_view c.read_on.new.task) (work_view c.in_ok-freeze.field-0)) (sym c.requires.work)
+    c.requires.may.of.may c.requires.rests.1 c.in_ok-moved.ensures
+    (subst (λ q. IsFrozen q (task_view c.read_on.new.task) (work_view c.in_ok-freeze.field-0)) (sym c.requires.may.of.work)
     (c.in_ok-freeze.ensures (draft_of c.args.topology.now) g.H.Hash128.hash_of c.in_ok-moved.ensures.of))

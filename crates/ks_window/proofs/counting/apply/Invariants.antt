@@ -1,6 +1,6 @@
 use Rattle.std.proofs.Common.{◌≡◌, ◌≤◌, ℕ, List, fold, drop}
 use Rattle.ks_row.specs.declared.record.Rec.{Rec}
-use Rattle.ks_map.specs.Bytes.{Store}
+use Rattle.ks_def_maps.specs.Bytes.{Store}
 use Rattle.ks_plan.specs.Plan.{Window}
 use Rattle.ks_query.specs.Streams.{Key}
 use Rattle.ks_window.specs.Counting.{shape, counted, count_start}

@@ -1,6 +1,6 @@
 use Rattle.std.proofs.Common.{◌≡◌, ◌≤◌, ◌∙◌, ◌/◌, ◌-◌, ap, sym, subst, arith}
-use Rattle.ks_window.specs.Starts.{first_index, multiples_from}
-use Rattle.ks_window.proofs.Opens.{pushed, whole, first_within}
+use Rattle.ks_window.specs.Starts.{first_index}
+use Rattle.ks_window.proofs.Opens.{multiples_from, pushed, whole, first_within}
 use Rattle.ks_window.proofs.windows.starts.Goals as goal
 
 pub loop-index-preserved : goal.loop-index-preserved

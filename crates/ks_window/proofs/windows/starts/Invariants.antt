@@ -1,5 +1,5 @@
 use Rattle.std.proofs.Common.{◌≡◌, ◌≤◌, ◌-◌, ℕ, List}
-use Rattle.ks_window.specs.Starts.{multiples_from}
+use Rattle.ks_window.proofs.Opens.{multiples_from}
 use Rattle.ks_window.proofs.windows.starts.Given as goal
 
 pub record Found (advance first index : ℕ) (items : List ℕ) : Type 0 where

@@ -1,6 +1,6 @@
 use Rattle.std.proofs.Common.{◌≡◌, Some, None, subst}
 use Rattle.ks_history.specs.Reads.{committed_refusal}
-use Rattle.ks_cluster.specs.Kept.{state_of}
+use Rattle.ks_cluster.specs.View.{state_of}
 use Rattle.ks_cluster.proofs.Readings.{read_refused}
 use Rattle.ks_cluster.proofs.cluster.Cluster.committed.Goals as goal
 

@@ -1,7 +1,7 @@
 use Rattle.std.proofs.Common.{refl, sym, subst}
 use Rattle.ks_history.specs.declared.journal.Request.TheVariants.{Decide}
 use Rattle.ks_history.specs.History.{Meets, CommitsFaithfully}
-use Rattle.ks_cluster.specs.Kept.{setup_of, state_of}
+use Rattle.ks_cluster.specs.View.{setup_of, state_of}
 use Rattle.ks_cluster.specs.Replies.{done_or}
 use Rattle.ks_cluster.proofs.Entries.{moved_kept, answered}
 use Rattle.ks_cluster.proofs.cluster.Cluster.decide.Goals as goal

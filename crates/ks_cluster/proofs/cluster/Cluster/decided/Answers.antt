@@ -2,7 +2,7 @@ use Rattle.std.proofs.Common.{◌≡◌, ap, ◌∙◌, subst}
 use Rattle.ks_history.specs.Reads.{decided_records}
 use Rattle.ks_log.specs.Written.{slots_in}
 use Rattle.ks_log.specs.Reading.{waiting_in, decided_pairs}
-use Rattle.ks_cluster.specs.Kept.{state_of}
+use Rattle.ks_cluster.specs.View.{state_of}
 use Rattle.ks_cluster.proofs.Readings.{decided-are}
 use Rattle.ks_cluster.proofs.cluster.Cluster.decided.Goals as goal
 

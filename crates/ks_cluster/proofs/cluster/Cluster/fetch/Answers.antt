@@ -2,7 +2,7 @@ use Rattle.std.proofs.Common.{◌≡◌, take, length, cond, ap, ◌∙◌, subs
 use Rattle.std.specs.Prelude.{◌==◌, max}
 use Rattle.ks_history.specs.Partition.{read, read_next, past_last, stable}
 use Rattle.ks_log.specs.Reading.{readable_pairs, at_or_past}
-use Rattle.ks_cluster.specs.Kept.{state_of}
+use Rattle.ks_cluster.specs.View.{state_of}
 use Rattle.ks_cluster.proofs.Readings.{read-is, next-is}
 use Rattle.ks_cluster.proofs.cluster.Cluster.fetch.Goals as goal
 

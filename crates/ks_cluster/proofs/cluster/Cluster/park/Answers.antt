@@ -2,7 +2,7 @@ use Rattle.std.proofs.Common.{refl, sym, subst}
 use Rattle.ks_history.specs.declared.journal.Request.TheVariants.{Park}
 use Rattle.ks_history.specs.declared.journal.Reply.TheVariants.{Done}
 use Rattle.ks_history.specs.History.{Meets}
-use Rattle.ks_cluster.specs.Kept.{setup_of, state_of}
+use Rattle.ks_cluster.specs.View.{setup_of, state_of}
 use Rattle.ks_cluster.proofs.Entries.{moved_kept, answered}
 use Rattle.ks_cluster.proofs.cluster.Cluster.park.Goals as goal
 

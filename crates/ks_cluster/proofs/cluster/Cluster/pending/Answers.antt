@@ -1,7 +1,7 @@
 use Rattle.std.proofs.Common.{◌≡◌, ap, ◌∙◌, subst}
 use Rattle.ks_history.specs.Reads.{pending_producers}
 use Rattle.ks_cluster.specs.Producers.{pending_in}
-use Rattle.ks_cluster.specs.Kept.{state_of}
+use Rattle.ks_cluster.specs.View.{state_of}
 use Rattle.ks_cluster.proofs.Readings.{pending-are}
 use Rattle.ks_cluster.proofs.cluster.Cluster.pending.Goals as goal
 

@@ -1,4 +1,4 @@
-use Rattle.std.proofs.Common.{arith, ◌≡◌, ◌<◌, length, refl, ap, subst, sym}
+use Rattle.std.proofs.Common.{arith, ◌<◌, length, refl, ap, subst, sym}
 use Rattle.ks_edge.proofs.Pieces.{gave, ended, some_size}
 use Rattle.ks_edge.proofs.memory.MemSourceSource.take.Goals as goal
 

@@ -1,37 +1,37 @@
 use Rattle.std.proofs.Common.{◌≤◌, ◌++◌, ◌∷◌, [], length, drop, refl, sym, ap, ap₂, ◌∙◌, subst, arith, length-append, append-nil}
 use Rattle.ks_history.specs.declared.partition.Slot.TheVariants.{Plain}
-use Rattle.ks_log.specs.Index.{marks_in, shown_in}
+use Rattle.ks_log.specs.Index.{marks_in, visible_in}
 use Rattle.ks_log.proofs.Parts.{known_few, passed_more, indexed_more}
 use Rattle.ks_log.proofs.part.Part.append_plain.Goals as goal
 
 pub overflow_sub-room : goal.overflow_sub-room
 overflow_sub-room c =
-    let few = known_few c.self.inside.slots.items c.self.inside.shown.items c.self.invariant.shown_is in
-    omega (arith, few, c.len-end.ensures, c.len.ensures, c.self.inside.slots.ok.0, c.self.inside.shown.ok.0)
+    let few = known_few c.self.inside.slots.items c.self.inside.visible.items c.self.invariant.visible_is in
+    omega (arith, few, c.len-end.ensures, c.len.ensures, c.self.inside.slots.ok.0, c.self.inside.visible.ok.0)
 
-pub show_more-self-inside-requires-clause-known : goal.show_more-self-inside-requires-clause-known
-show_more-self-inside-requires-clause-known c =
-    let few = known_few c.self.inside.slots.items c.self.inside.shown.items c.self.invariant.shown_is in
+pub extend_visible-self-inside-requires-clause-known : goal.extend_visible-self-inside-requires-clause-known
+extend_visible-self-inside-requires-clause-known c =
+    let few = known_few c.self.inside.slots.items c.self.inside.visible.items c.self.invariant.visible_is in
     let grown = ap length (c.as_slice-slots.ensures.value ∙ c.in_ok-push.ensures.items) ∙ length-append c.self.inside.slots.items (Plain c.args.rec ∷ []) in
     omega (arith, few, grown, ap length c.in_ok-reserve.ensures.items)
 
-pub show_more-self-inside-requires-clause-marks : goal.show_more-self-inside-requires-clause-marks
-show_more-self-inside-requires-clause-marks c =
+pub extend_visible-self-inside-requires-clause-marks : goal.extend_visible-self-inside-requires-clause-marks
+extend_visible-self-inside-requires-clause-marks c =
     let slots = c.self.inside.slots.items in
     let more = Plain c.args.rec ∷ [] in
-    let shown = c.self.inside.shown.items in
-    let few = known_few slots shown c.self.invariant.shown_is in
+    let visible = c.self.inside.visible.items in
+    let few = known_few slots visible c.self.invariant.visible_is in
     ap (drop c.self.inside.passed) (c.as_slice-marks.ensures.value ∙ sym (append-nil c.self.inside.marks.items))
-    ∙ passed_more slots more c.self.inside.marks.items [] c.self.inside.passed (length shown) c.self.invariant.within few refl c.self.invariant.passed_is
+    ∙ passed_more slots more c.self.inside.marks.items [] c.self.inside.passed (length visible) c.self.invariant.within few refl c.self.invariant.passed_is
     ∙ ap₂ (λ n l. marks_in (drop n l)) (sym (ap length c.in_ok-reserve.ensures.items)) (sym (c.as_slice-slots.ensures.value ∙ c.in_ok-push.ensures.items))
 
 pub invariant_of-self-2 : goal.invariant_of-self-2
 invariant_of-self-2 c =
-    indexed_more c.self.inside.slots.items c.push.new.self.items (Plain c.args.rec ∷ []) c.self.inside.shown.items c.show_more-self-inside.new.shown.items c.self.inside.marks.items c.self.inside.marks.items []
-    c.self.inside.passed c.show_more-self-inside.result c.self.inside.counts.items c.self.inside.counts.items
+    indexed_more c.self.inside.slots.items c.push.new.self.items (Plain c.args.rec ∷ []) c.self.inside.visible.items c.extend_visible-self-inside.new.visible.items c.self.inside.marks.items c.self.inside.marks.items []
+    c.self.inside.passed c.extend_visible-self-inside.result c.self.inside.counts.items c.self.inside.counts.items
     c.self.invariant c.in_ok-push.ensures.items
-    (c.show_more-self-inside.ensures.shown ∙ ap₂ (λ a b. a ++ shown_in (drop (length a) b)) c.in_ok-reserve.ensures.items c.as_slice-slots.ensures.value)
+    (c.extend_visible-self-inside.ensures.visible ∙ ap₂ (λ a b. a ++ visible_in (drop (length a) b)) c.in_ok-reserve.ensures.items c.as_slice-slots.ensures.value)
     (sym (append-nil c.self.inside.marks.items)) refl
-    (ap (drop c.show_more-self-inside.result) (sym c.as_slice-marks.ensures.value) ∙ c.show_more-self-inside.ensures.marks ∙ ap (λ l. marks_in (drop (length c.show_more-self-inside.new.shown.items) l)) c.as_slice-slots.ensures.value)
-    (subst (λ l. c.show_more-self-inside.result ≤ length l) c.as_slice-marks.ensures.value c.show_more-self-inside.ensures.within)
+    (ap (drop c.extend_visible-self-inside.result) (sym c.as_slice-marks.ensures.value) ∙ c.extend_visible-self-inside.ensures.marks ∙ ap (λ l. marks_in (drop (length c.extend_visible-self-inside.new.visible.items) l)) c.as_slice-slots.ensures.value)
+    (subst (λ l. c.extend_visible-self-inside.result ≤ length l) c.as_slice-marks.ensures.value c.extend_visible-self-inside.ensures.within)
     (λ w e. omega arith)

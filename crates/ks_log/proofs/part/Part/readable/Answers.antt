@@ -1,16 +1,16 @@
 use Rattle.std.proofs.Common.{length, take, drop, ap, ap₂, ◌∙◌, arith}
-use Rattle.ks_log.specs.Reading.{readable_pairs, at_or_past, shown_pairs}
+use Rattle.ks_log.specs.Reading.{readable_pairs, at_or_past, visible_pairs}
 use Rattle.ks_log.proofs.Parts.{known_few, read_from}
 use Rattle.ks_log.proofs.part.Part.readable.Goals as goal
 
-pub shown_from-requires : goal.shown_from-requires
-shown_from-requires c =
-    let few = known_few c.self.inside.slots.items c.self.inside.shown.items c.self.invariant.shown_is in
+pub visible_from-requires : goal.visible_from-requires
+visible_from-requires c =
+    let few = known_few c.self.inside.slots.items c.self.inside.visible.items c.self.invariant.visible_is in
     omega (arith, few, ap length c.as_slice-slots.ensures.value, ap length c.as_slice.ensures.value)
 
 pub returns : goal.returns
 returns c =
     c.in_ok-made.ensures
-    ∙ ap (take c.args.limit) (ap₂ (λ a b. shown_pairs c.args.from (drop c.args.from a) (drop c.args.from b)) c.as_slice.ensures.value c.as_slice-slots.ensures.value
-    ∙ read_from c.args.from c.self.inside.slots.items c.self.inside.shown.items c.self.invariant.shown_is
+    ∙ ap (take c.args.limit) (ap₂ (λ a b. visible_pairs c.args.from (drop c.args.from a) (drop c.args.from b)) c.as_slice.ensures.value c.as_slice-slots.ensures.value
+    ∙ read_from c.args.from c.self.inside.slots.items c.self.inside.visible.items c.self.invariant.visible_is
     ∙ ap (λ l. at_or_past c.args.from (readable_pairs 0 l)) c.self.view_is)

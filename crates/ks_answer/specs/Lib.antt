@@ -1,4 +1,0 @@
-pub mod Built
-pub mod Folded
-pub mod Jobs
-pub mod Plain

@@ -1,0 +1,10 @@
+pub mod Adding
+pub mod Even
+pub mod Homes
+pub mod Moves
+pub mod Others
+pub mod Tables
+pub mod Told
+pub mod Wanted
+pub mod Warmth
+pub mod Whole

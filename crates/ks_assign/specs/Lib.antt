@@ -1,0 +1,4 @@
+pub mod Lag
+pub mod Placement
+pub mod Rows
+pub mod Steps

@@ -1,9 +1,0 @@
-use Rattle.std.proofs.Common.{◌++◌, ◌∷◌, [], take, ap}
-use Rattle.ks_history.specs.declared.journal.Request.TheVariants.{Append}
-use Rattle.ks_replay.specs.Example.{one_commit}
-use Rattle.ks_cluster_tests.specs.Stages.{requests}
-use Rattle.ks_cluster_tests.proofs.Requests.{one_more}
-use Rattle.ks_cluster_tests.proofs.commit.appended.Goals as goal
-
-pub returns : goal.returns
-returns c = one_more 5 c.args.rec.now _ _ _ _ c.in_ok-cluster.ensures c.in_ok-_outcome.ensures.ok (ap (λ l. requests (take 5 (one_commit c.args.rec.now)) ++ Append 0 1 0 (record { sub = 0; part = 0 }) (record { topic = 1; part = 0 }) l ∷ []) c.requires)

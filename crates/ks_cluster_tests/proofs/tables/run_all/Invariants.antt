@@ -1,5 +1,0 @@
-use Rattle.ks_cluster_tests.specs.Ours.{IsOurs}
-use Rattle.ks_cluster_tests.proofs.tables.run_all.Given as goal
-
-abbrev pub invariant-loop-call : goal.invariant-loop-call
-invariant-loop-call g l = IsOurs l.cluster

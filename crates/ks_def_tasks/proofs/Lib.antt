@@ -1,0 +1,17 @@
+pub mod Names
+pub mod Told
+pub mod Each
+pub mod Numbered
+pub mod Numbers
+pub mod Alone
+pub mod Pairs
+pub mod Picked
+pub mod Same
+pub mod Shown
+pub mod Keys
+pub mod Agree
+pub mod Hashes
+pub mod Counts
+pub mod Windowed
+pub mod Drain
+pub mod Examples

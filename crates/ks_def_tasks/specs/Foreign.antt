@@ -1,0 +1,72 @@
+-- Joins on a foreign key: what the left side asks, what the right side keeps and answers, what an answer sets (KIP-213).
+use Rattle.std.specs.Prelude.{ℕ, Bool, List, [], ◌∷◌, ◌++◌, map, Option, Some, None, cond, nat_eq, option_map, option_and_then, is_none}
+use Rattle.ks_expr.specs.declared.terms.JoinKind.{JoinKind}
+use Rattle.ks_expr.specs.Terms.{Set}
+use Rattle.ks_row.specs.FieldKeys.{field_key}
+use Rattle.ks_expr.specs.Eval.{Row, same_bytes, joined}
+use Rattle.ks_query.specs.Streams.{Key}
+use Rattle.ks_wire.specs.declared.values.Response.{Response}
+use Rattle.ks_def_tasks.specs.Messages.{Instruction, Subscription, same_option}
+use Rattle.ks_def_tasks.specs.Messages.Instruction.{Delete, DeleteAndAnswer, Answer, AnswerIfThere}
+
+abbrev pub key_of_row : List ℕ → Option Row → Option Key
+key_of_row fk row = option_and_then (field_key fk) row
+
+-- ---- a left row changes
+abbrev pub subscribe : Option Key → Subscription → List (Key × Subscription)
+subscribe None s = []
+subscribe (Some b) s = (b, s) ∷ []
+
+-- to the old foreign key, where it isn't the new one's; then to the new one. A deletion is told to the old one
+abbrev pub subscriptions : (Row → ℕ) → List ℕ → Option Row → Option Row → List (Key × Subscription)
+subscriptions hash fk old None = subscribe (key_of_row fk old) (record { hash = None; instruction = DeleteAndAnswer })
+subscriptions hash fk old (Some v) =
+    cond (same_option same_bytes (key_of_row fk old) (field_key fk v)) [] (subscribe (key_of_row fk old) (record { hash = Some (hash v); instruction = Delete }))
+    ++ subscribe (field_key fk v) (record { hash = Some (hash v); instruction = Answer })
+
+-- no answer will come where the new row has no foreign key, or the deleted one had none: then the result is set at once
+abbrev pub is_direct : List ℕ → Option Row → Option Row → Bool
+is_direct fk old None = is_none (key_of_row fk old)
+is_direct fk old (Some v) = is_none (field_key fk v)
+
+-- the result that is set at once
+abbrev pub direct_row : JoinKind → Set → Option Row → Option Row
+direct_row kind set None = None
+direct_row kind set (Some v) = joined kind set (Some v) None
+
+-- ---- a subscription comes
+abbrev pub hash_by : Instruction → Option ℕ → Option ℕ
+hash_by Delete hash = None
+hash_by DeleteAndAnswer hash = None
+hash_by Answer hash = hash
+hash_by AnswerIfThere hash = hash
+
+-- the hash that is then kept at the foreign key and the left key
+abbrev pub subscribed : Subscription → Option ℕ
+subscribed s = hash_by s.instruction s.hash
+
+abbrev pub answer_by : Instruction → Option ℕ → Option Row → Option Response
+answer_by Delete hash right = None
+answer_by DeleteAndAnswer hash right = Some (record { hash = None; right = None })
+answer_by Answer hash right = Some (record { hash = hash; right = right })
+answer_by AnswerIfThere hash right = option_map (λ row. record { hash = hash; right = Some row }) right
+
+-- the answer, with the right row of the moment
+abbrev pub answer_to : Subscription → Option Row → Option Response
+answer_to s right = answer_by s.instruction s.hash right
+
+-- ---- a right row changes: an answer to each left key that is kept, in the order of the keys
+abbrev pub answer_all : Option Row → List (Key × ℕ) → List (Key × Response)
+answer_all right es = map (λ e. (e.0, record { hash = Some e.1; right = right })) es
+
+-- ---- an answer comes
+abbrev pub hash_of : (Row → ℕ) → Option Row → Option ℕ
+hash_of hash row = option_map hash row
+
+-- it counts where its hash is that of the present left row, or both are absent
+abbrev pub is_present : (Row → ℕ) → Option Row → Response → Bool
+is_present hash left r = same_option nat_eq (hash_of hash left) r.hash
+
+-- the new result, where it counts
+abbrev pub respond : (Row → ℕ) → JoinKind → Set → Option Row → Response → Option (Option Row)
+respond hash kind set left r = cond (is_present hash left r) (Some (joined kind set left r.right)) None

@@ -1,0 +1,9 @@
+pub mod Messages
+pub mod Windowed
+pub mod Foreign
+pub mod Step
+pub mod Tasks
+pub mod Bytes
+pub mod Collision
+pub mod Rest
+pub mod Laws

@@ -1,5 +1,0 @@
-use Rattle.ks_follow.proofs.Lasting.{last_is_past}
-use Rattle.ks_follow.proofs.laws.last_is_past.Goals as goal
-
-pub returns : goal.returns
-returns c = last_is_past

@@ -1,0 +1,5 @@
+pub mod Labels
+pub mod Exprs
+pub mod Tests
+pub mod Nodes
+pub mod Topology

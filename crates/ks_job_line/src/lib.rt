@@ -1,0 +1,12 @@
+//! The topology's line of a job, once JSON has read it: the topology, or the first thing that is wrong.
+#![tactic(auto)]
+
+mod expr;
+mod field;
+mod labels;
+mod node;
+mod pred;
+mod set;
+mod topology;
+
+pub use topology::{copy_names, read_topology};

@@ -1,0 +1,29 @@
+-- Why an input is no job that can be run: its first faulty line, what is wrong with its topology, or a kind of node that is
+-- not built.
+use Rattle.std.specs.Prelude.{ℕ, List, [], ◌∷◌, Option, Some, None, option_map}
+use Rattle.std.specs.Option.{option_or}
+use Rattle.ks_plan.specs.Built.{first_unbuilt}
+use Rattle.ks_plan.specs.Drafts.{DraftView}
+use Rattle.ks_plan.specs.Faults.{fault_of}
+use Rattle.ks_job.specs.Items.{ItemView, TopologyAt, RecordTo}
+use Rattle.ks_job.specs.Reader.{Reader, Reading, Faulty, Machine}
+use Rattle.ks_job_source.specs.declared.stop.Stop.{Stop}
+use Rattle.ks_job_source.specs.declared.stop.Stop.TheVariants.{BadLine, BadTopology, NotBuilt}
+
+-- what is wrong with a topology comes first, then what is not built
+abbrev pub refusal : ℕ → DraftView → Option Stop
+refusal line d = option_or (option_map (BadTopology line) (fault_of d)) (option_map (NotBuilt line) (first_unbuilt d.nodes))
+
+-- the topology is the first item
+abbrev pub topology_stop : List ItemView → Option Stop
+topology_stop [] = None
+topology_stop (TopologyAt line d ∷ is) = refusal line d
+topology_stop (RecordTo t r ∷ is) = None
+
+abbrev pub line_stop : Reader → Option Stop
+line_stop (Reading s begun) = None
+line_stop (Faulty n k) = Some (BadLine n k)
+
+-- the topology's line comes before every other line that is faulty
+abbrev pub stop_of : Machine → Option Stop
+stop_of m = option_or (topology_stop m.items) (line_stop m.reader)

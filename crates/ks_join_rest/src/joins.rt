@@ -1,9 +1,0 @@
-ghost use Rattle.ks_join_rest.specs.AtRest.{HashesRest, JoinsRest};
-
-/// Joins on a foreign key once nothing waits, where no two rows of a left key collide: each subscription store has exactly the
-/// present rows' hashes, and the join's table is the query's where its inputs are, in every uncrashed run of every well-formed
-/// topology.
-pub fn joins_rest()
-    ensures hashes { HashesRest }
-    ensures tables { JoinsRest }
-{}

@@ -1,5 +1,0 @@
-use Rattle.ks_kinds.proofs.Kept as kept
-use Rattle.ks_kinds.proofs.decided_are_of_kind.Goals as goal
-
-pub returns : goal.returns
-returns c = kept.decided_are_of_kind

@@ -1,5 +1,0 @@
-use Rattle.ks_kinds.proofs.Arriving as arriving
-use Rattle.ks_kinds.proofs.kinds_are_read.Goals as goal
-
-pub returns : goal.returns
-returns c = arriving.kinds_are_read

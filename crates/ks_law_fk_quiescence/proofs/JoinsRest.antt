@@ -1,0 +1,116 @@
+-- Joins on a foreign key at rest.
+use Rattle.std.proofs.Common.{◌≡◌, ℕ, true, false, cond, List, [], slice_get, Option, Some, None, refl, sym, ap, ap₂, ◌∙◌, arith}
+use Rattle.std.specs.Prelude.{option_and_then}
+use Rattle.std.specs.Cmp.Lexicographic.{nat_list_cmp_total}
+use Rattle.std.specs.FinMap.{slice_cmp-IsAntisymmetric, nat_cmp-IsAntisymmetric}
+use Rattle.ks_row.specs.declared.record.TaskId.{TaskId}
+use Rattle.ks_row.specs.Parts.{same_task}
+use Rattle.ks_row.specs.FieldKeys.{field_key}
+use Rattle.ks_expr.specs.declared.terms.JoinKind.{JoinKind}
+use Rattle.ks_expr.specs.Terms.{Set}
+use Rattle.ks_expr.specs.Eval.{Row, same_bytes, joined}
+use Rattle.ks_plan.specs.Plan.{Plan}
+use Rattle.ks_plan.specs.Plan.Kind.{ForeignKeyJoin}
+use Rattle.ks_def_maps.specs.FinMap as fin
+use Rattle.ks_query.specs.Streams.{Key, Input}
+use Rattle.ks_query.specs.Query.{Table, right_row, query}
+use Rattle.ks_def_tasks.specs.Messages.{Place, Rules, same_option}
+use Rattle.ks_def_tasks.specs.Collision.{NoneCollides, NoCollision}
+use Rattle.ks_def_tasks.specs.Rest.{IsDrained, home}
+use Rattle.ks_def_tasks.proofs.Names.{same_task-is}
+use Rattle.ks_law_quiescence.specs.AtRest.{IsQuery}
+use Rattle.ks_law_quiescence.specs.States.{State, state_of, row_at, home_task}
+use Rattle.ks_law_quiescence.specs.Taken.{messages}
+use Rattle.ks_law_quiescence.specs.ForeignJoin as join
+use Rattle.ks_law_quiescence.proofs.AtRest.{everywhere, at_home}
+use Rattle.ks_law_quiescence.proofs.Fits.{Fits, each_at}
+use Rattle.ks_law_quiescence.proofs.Mixed.{Stands_at}
+use Rattle.ks_law_quiescence.proofs.OneKey.{keys_decided, stored_at_rest, result_at_rest}
+use Rattle.ks_query.proofs.Pointwise.{get-map_values}
+use Rattle.ks_law_quiescence.proofs.Queries.{query_at, given_here}
+use Rattle.ks_law_fk_quiescence.specs.Seen.{asked_by, answered_to, asking_place, answers_place, right_task, joined_with, right_part}
+use Rattle.ks_law_fk_quiescence.specs.AtRest.{hash_for}
+use Rattle.ks_law_fk_quiescence.proofs.Waits.{beside, left_home}
+use Rattle.ks_law_fk_quiescence.proofs.Assembled.{Protocol}
+use Rattle.ks_law_fk_quiescence.proofs.Simulated.{see, left_past}
+use Rattle.ks_law_fk_quiescence.proofs.Seeing.{Sees, sees_run, sees_sound, node_is}
+use Rattle.ks_law_fk_quiescence.proofs.HashesPlaced.{hashes_run}
+
+module _ (rules : Rules) (p : Plan) (fits : Fits p) (a l r : ℕ) (fk : List ℕ) (kind : JoinKind) (set : Set) (stands : Stands_at a (ForeignKeyJoin l r fk kind set) 0 p.kinds) (records : List Input) (schedule : List (Option TaskId × Place)) where
+  abbrev st : State
+  st = state_of rules p records schedule
+
+  pub none_here : NoCollision rules p st → (k : Key) → NoneCollides rules.hash (left_past rules p fits a l r fk kind set stands k st)
+  none_here none k =
+      let n = node_is 0 p.kinds a (ForeignKeyJoin l r fk kind set) stands in
+      let is : a ≡ n.0 = (let e = n.1 in omega arith) in
+      none a l r fk kind set (ap (slice_get p.kinds) is ∙ n.2) (home rules p l k) k
+
+  module _ (drained : IsDrained st) (none : NoCollision rules p st) (k : Key) where
+    abbrev sees : Sees rules p fits a l r fk kind set stands k st
+    sees = sees_run rules p fits a l r fk kind set stands k records schedule
+
+    abbrev mine : Protocol rules p r fk kind set
+    mine = see rules p fits a l r fk kind set stands k sees.had st
+
+    no_asking : (b : Key) → mine.subscriptions b ≡ []
+    no_asking b = ap (λ xs. asked_by b k (messages xs)) (drained (Some (home_task rules p a k)) (asking_place rules p a r b) refl)
+
+    no_answers : (j : ℕ) → mine.responses j ≡ []
+    no_answers j = ap (λ xs. answered_to k (messages xs)) (drained (Some (right_task p r j)) (answers_place rules p a k) refl)
+
+    abbrev wanted : Key → Option ℕ
+    wanted b = join.wanted same_bytes (field_key fk) rules.hash (right_part rules p r) (joined_with kind set) mine.row b
+
+    pub stored_rests : (b : Key) → mine.stored b ≡ wanted b
+    stored_rests b = stored_at_rest same_bytes keys_decided (field_key fk) rules.hash (right_part rules p r) (joined_with kind set) mine (sees_sound rules p fits a l r fk kind set stands k st sees (none_here none k)) no_asking b
+
+    pub result_rests : mine.result ≡ join.query same_bytes (field_key fk) rules.hash (right_part rules p r) (joined_with kind set) mine.row mine.right
+    result_rests = result_at_rest same_bytes keys_decided (field_key fk) rules.hash (right_part rules p r) (joined_with kind set) mine (sees_sound rules p fits a l r fk kind set stands k st sees (none_here none k)) no_asking no_answers
+
+  pub wanted_is : (row : Option Row) (b : Key) → join.wanted same_bytes (field_key fk) rules.hash (right_part rules p r) (joined_with kind set) row b ≡ option_and_then (hash_for rules fk b) row
+  wanted_is None b = refl
+  wanted_is (Some v) b = by_key (field_key fk v)
+    where
+      by_key : (c : Option Key) → cond (join.same_key same_bytes c (Some b)) (Some (rules.hash v)) None ≡ cond (same_option same_bytes c (Some b)) (Some (rules.hash v)) None
+      by_key None = refl
+      by_key (Some c) = refl
+
+  -- each hash store
+  pub hashes_rest : IsDrained st → NoCollision rules p st → (u : TaskId) (b k : Key) →
+      fin.get ((st.stores u).hashes a b) k ≡ cond (same_task u (home_task rules p r b)) (option_and_then (hash_for rules fk b) (row_at st (home_task rules p l k) l k)) None
+  hashes_rest drained none u b k =
+      elim (same_task u (home_task rules p r b)) as (λ t. same_task u (home_task rules p r b) ≡ t → fin.get ((st.stores u).hashes a b) k ≡ cond t (option_and_then (hash_for rules fk b) (row_at st (home_task rules p l k) l k)) None) [
+        | true ↦ λ t. ap (λ v. fin.get ((st.stores v).hashes a b) k) ((same_task-is u (home_task rules p r b)).0 t) ∙ stored_rests drained none k b
+            ∙ wanted_is (row_at st (home_task rules p a k) l k) b ∙ ap (λ v. option_and_then (hash_for rules fk b) (row_at st v l k)) (sym (left_home rules p fits a l r fk kind set stands k))
+        | false ↦ λ t. absent t (fin.get ((st.stores u).hashes a b) k) refl
+      ] refl
+    where
+      absent : same_task u (home_task rules p r b) ≡ false → (w : Option ℕ) → fin.get ((st.stores u).hashes a b) k ≡ w → w ≡ None
+      absent t None e = refl
+      absent t (Some h) e =
+          let is : u ≡ home_task rules p r b = (hashes_run rules p fits a l r fk kind set stands records schedule).placed u b k h e in
+          let yes : same_task u (home_task rules p r b) ≡ true = (same_task-is u (home_task rules p r b)).1 is in
+          cc
+
+  -- ---- the table
+  joined_rows : (row : Option Row) (right : Key → Option Row) (t : Table) → ((b : Key) → right b ≡ fin.get t b) →
+      join.query same_bytes (field_key fk) rules.hash (right_part rules p r) (joined_with kind set) row right ≡ option_and_then (λ v. joined kind set (Some v) (right_row t (field_key fk v))) row
+  joined_rows None right t same = refl
+  joined_rows (Some v) right t same = ap (joined kind set (Some v)) (by_key (field_key fk v))
+    where
+      by_key : (c : Option Key) → join.right_of same_bytes (field_key fk) rules.hash (right_part rules p r) (joined_with kind set) right c ≡ right_row t c
+      by_key None = refl
+      by_key (Some c) = same c
+
+  pub join_rests : IsDrained st → NoCollision rules p st → IsQuery rules p records st l → IsQuery rules p records st r → IsQuery rules p records st a
+  join_rests drained none hl hr = everywhere rules p fits records schedule a (λ k.
+      let answer = query_at records p a (ForeignKeyJoin l r fk kind set) stands in
+      let before = beside rules p fits a l r fk kind set stands in
+      let f : Row → Option Row = λ v. joined kind set (Some v) (right_row ((query p records).tables r) (field_key fk v)) in
+      result_rests drained none k
+      ∙ joined_rows (row_at st (home_task rules p a k) l k) (λ b. row_at st (home_task rules p r b) r b) ((query p records).tables r) (λ b. at_home rules p fits records schedule r hr b)
+      ∙ ap (option_and_then f) (ap (λ u. row_at st u l k) (sym (left_home rules p fits a l r fk kind set stands k)) ∙ at_home rules p fits records schedule l hl k)
+      ∙ sym (ap (λ t. fin.get t k) (answer.table ∙ given_here records answer.then.tables a _)
+      ∙ get-map_values nat_list_cmp_total (slice_cmp-IsAntisymmetric nat_cmp-IsAntisymmetric) (λ v. joined kind set (Some v) (right_row (answer.then.tables r) (field_key fk v))) (answer.then.tables l) k
+      ∙ ap₂ (λ t u. option_and_then (λ v. joined kind set (Some v) (right_row u (field_key fk v))) (fin.get t k)) (answer.before.tables l before.before) (answer.before.tables r (each_at p 0 p.kinds a (ForeignKeyJoin l r fk kind set) fits stands).1)))

@@ -1,0 +1,74 @@
+-- What a settled journal of a job answers: the folds of its changelogs are the query.
+use Rattle.std.specs.Prelude.{◌≡◌, ℕ, ◌<◌, ◌≤◌, ◌^◌, length, List, [], ◌∷◌, map}
+use Rattle.std.specs.List.{AllByRecursion}
+use Rattle.ks_row.specs.Texts.{IsKey}
+use Rattle.ks_row.specs.Spelling.{FitsRow}
+use Rattle.ks_row.specs.declared.record.Rec.{Rec}
+use Rattle.ks_row.specs.declared.record.PartId.{PartId}
+use Rattle.ks_plan.specs.Drafts.{DraftView}
+use Rattle.ks_plan.specs.Plan.{Plan, plan_of}
+use Rattle.ks_plan.specs.declared.node.Topic.TheVariants.{Input as InputTopic}
+use Rattle.ks_query.specs.Streams.{Key, Input}
+use Rattle.ks_query.specs.Printed.{job_tables}
+use Rattle.ks_def_tasks.specs.Messages.{Rules}
+use Rattle.ks_def_tasks.specs.Tasks.{part_of_key, item_of_input}
+use Rattle.ks_def_tasks.specs.Bytes.{rec_of}
+use Rattle.ks_history.specs.declared.journal.Request.{Request}
+use Rattle.ks_history.specs.declared.journal.Request.TheVariants.{Produce}
+use Rattle.ks_history.specs.declared.journal.Entry.{Entry}
+use Rattle.ks_history.specs.History.{at, IsHistory}
+use Rattle.ks_history.specs.Settled.{IsSettled}
+use Rattle.ks_history.specs.Count.{records_in}
+use Rattle.ks_law_quiescence.specs.WellFormed.{IsWellFormed}
+use Rattle.ks_law_topology.specs.Spelled.{IfThere}
+use Rattle.ks_law_topology.specs.Work.{setup_of}
+use Rattle.ks_plan.specs.Built.{IsBuilt}
+use Rattle.ks_law_settled.specs.Folded.{folded_tables}
+
+-- ---- the job's records, as they are produced
+-- in the partition of its key, without a key in partition 0
+abbrev pub produced_part : Rules → Plan → Input → PartId
+produced_part rules p r = record { topic = r.topic; part = part_of_key rules p (InputTopic r.topic) r.key }
+
+abbrev pub produced_rec : Input → Rec
+produced_rec r = rec_of (item_of_input r)
+
+abbrev pub produced_of : Rules → Plan → Input → PartId × Rec
+produced_of rules p r = (produced_part rules p r, produced_rec r)
+
+abbrev pub produces_by : Request → List (PartId × Rec) → List (PartId × Rec)
+produces_by (Produce p rec) more = (p, rec) ∷ more
+produces_by request more = more
+
+-- what a journal's entries produce, in their order
+abbrev pub produces : List Entry → List (PartId × Rec)
+produces [] = []
+produces (entry ∷ entries) = produces_by entry.request (produces entries)
+
+-- ---- records that have a spelling
+pub record FitsInput (p : Plan) (r : Input) : Type 0 where
+  pub topic : r.topic < length p.counts
+  pub key : IfThere IsKey r.key
+  pub value : IfThere FitsRow r.value
+  pub time : r.time < 2 ^ 64
+
+abbrev pub FitInputs : Plan → List Input → Type 0
+FitInputs p records = AllByRecursion (FitsInput p) records
+
+-- each key has one of the partitions, where there is one
+abbrev pub HasParts : Rules → Type 0
+HasParts rules = (k : Key) (n : ℕ) → 1 ≤ n → rules.part k n < n
+
+-- ---- the law
+-- a journal over a well-formed topology that is legal and faithful, has produced exactly these records, and is settled
+pub record IsDone (rules : Rules) (d : DraftView) (records : List Input) (journal : List Entry) : Type 0 where
+  pub history : IsHistory (setup_of rules (plan_of d)) journal
+  pub produced : produces journal ≡ map (produced_of rules (plan_of d)) records
+  pub settled : IsSettled (setup_of rules (plan_of d)) (at (setup_of rules (plan_of d)) journal)
+  pub few : records_in (setup_of rules (plan_of d)) journal < 2 ^ 48
+
+-- its folds are the query's tables
+abbrev pub TablesAreTheQuery : Type 0
+TablesAreTheQuery = (rules : Rules) (d : DraftView) (records : List Input) (journal : List Entry) → HasParts rules → IsWellFormed d → IsBuilt (plan_of d) →
+    FitInputs (plan_of d) records → IsDone rules d records journal →
+    folded_tables d (at (setup_of rules (plan_of d)) journal) ≡ job_tables d records

@@ -1,0 +1,4 @@
+pub mod Folded
+pub mod Jobs
+pub mod Plain
+pub mod Routes

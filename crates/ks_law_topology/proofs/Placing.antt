@@ -1,0 +1,478 @@
+-- Each record that a task makes stands at the partition of its key.
+use Rattle.std.proofs.Common.{◌≡◌, ℕ, suc, ◌+◌, ◌<◌, ◌^◌, ◌⊎◌, inl, inr, Bool, true, false, cond, List, length, [], ◌∷◌, ◌++◌, map, get_or, fold, append_assoc, length-append, Option, Some, None, refl, sym, ap, ap₂, subst, ◌∙◌, ⊎_elim, arith, nat_eq}
+use Rattle.std.specs.Prelude.{◌==◌, option_map}
+use Rattle.std.specs.List.{filter}
+use Rattle.std.proofs.lemmas.Bool.{eqb-true, eq-eqb, true≢false}
+use Rattle.std.proofs.lemmas.Bool.Decides.{Decides-eqb}
+use Rattle.ks_row.specs.declared.record.Rec.{Rec}
+use Rattle.ks_row.specs.declared.record.PartId.{PartId}
+use Rattle.ks_row.specs.declared.record.TaskId.{TaskId}
+use Rattle.std.specs.Int.{w32, w64, to_be_bytes}
+use Rattle.ks_row.specs.Texts.{IsKey, key_from}
+use Rattle.ks_row.specs.Reading.{◌>>=◌, row_from}
+use Rattle.ks_row.proofs.Fields.{wide32, number_again, bytes_again}
+use Rattle.ks_row.proofs.Spelled.{key_takes, key_again}
+use Rattle.ks_wire.specs.Reading.{delta_from, response_from, subscription_from, long_key_at}
+use Rattle.ks_plan.specs.declared.node.Topic.{Topic}
+use Rattle.ks_plan.specs.declared.node.Topic.TheVariants.{Input as InputTopic, Repartition, Subscriptions, Responses, Changelog, HashChangelog}
+use Rattle.ks_plan.specs.Plan.{Plan, Kind, Window, plan_of, is_windowed}
+use Rattle.ks_plan.specs.Plan.Kind.{StreamSource, TableSource, StreamFilter, TableFilter, StreamMap, TableMap, KeySelected, StreamAggregate, TableAggregate, Windowed, KeyJoin, ForeignKeyJoin}
+use Rattle.ks_plan.specs.Layout.{topics_of, topic_at, number_of, parts_of_topic, parts_of, kind_at, no_kind, reads, sub_count, same_topic}
+use Rattle.ks_expr.specs.Eval.{same_bytes}
+use Rattle.ks_query.specs.Streams.{Key, StreamItem}
+use Rattle.ks_query.specs.Query.{with_number}
+use Rattle.ks_def_tasks.specs.Messages.{Place, Item, Message, Subscription, Rules, Store, Stored, same_option, same_stored, subscription_of}
+use Rattle.ks_def_tasks.specs.Messages.Message.{Given, Keyed, Moved, Asked, Answered, Kept, KeptCount, KeptTime, KeptHash}
+use Rattle.ks_def_tasks.specs.Tasks.{step, sent_item, written_item, taker, is_changelog}
+use Rattle.ks_def_tasks.specs.Step.{Arrival, Sent, Written, whole_step, step_key, write_all, value_changes, counted_at, hash_changes, changes_at, over_nodes, items_from, item_into, olds_at, news_at, arrived, Values, value_at, values_from, item_keyed}
+use Rattle.ks_def_tasks.specs.Windowed.{Counted, greater, count_window, time_changes, count_group, count_item}
+use Rattle.ks_def_tasks.specs.Foreign.{subscribed}
+use Rattle.ks_def_maps.specs.FinMap as fin
+use Rattle.ks_def_maps.specs.FinMap.{FinMap}
+use Rattle.ks_query.specs.Windows.{by_window, windows}
+use Rattle.ks_query.specs.Grace.{is_open}
+use Rattle.ks_query.specs.Aggregates.{stream_add}
+use Rattle.ks_wire.specs.declared.values.Agg.{Agg}
+use Rattle.ks_wire.specs.Spelling.{long_key, subscription_key, window_key, time_key}
+use Rattle.ks_def_tasks.specs.Bytes.{ByteStores, key_bytes, rec_of, part_id, spelled, is_sent, message_in, given_in, regrouped_in, of_both, if_there, step_at, step_read, outcome_of, nothing_made, store_from}
+use Rattle.ks_def_tasks.proofs.Names.{topic-is}
+use Rattle.ks_def_tasks.proofs.Numbers.{place-is}
+use Rattle.ks_history.specs.Machine.{reader_of}
+use Rattle.ks_law_exactly_once.specs.Keeping.{AllFit, Keeps}
+use Rattle.ks_law_quiescence.proofs.Fits.{Fits, NodeFits, EachFits}
+use Rattle.ks_law_quiescence.proofs.StreamsDirect.{item_key}
+use Rattle.ks_law_quiescence.proofs.Placed.{Owned}
+use Rattle.ks_law_quiescence.proofs.WellFormed.{well_formed_fits}
+use Rattle.ks_law_exactly_once.proofs.Keeping.{all_kept}
+use Rattle.ks_law_topology.specs.Work.{work_of, setup_of}
+use Rattle.ks_law_topology.specs.Placing.{is_at_key, is_at_group, is_at_foreign, is_placed, placed_by, stands, DecidedStand}
+use Rattle.ks_law_topology.proofs.Networks.{works_are_networks}
+use Rattle.ks_law_topology.proofs.Writes.{Through, through_all, owned, kept, nothing_changes}
+
+-- ---- the key that a record has is that of its message
+abbrev came_key : Message → Option Key
+came_key (Given k v) = k
+came_key (Keyed g row) = Some g
+came_key (Moved g d) = Some g
+came_key (Asked b k s) = Some b
+came_key (Answered k r) = Some k
+came_key _ = None
+
+came_at_step : (m : Message) (c : Key) → step_key m ≡ Some c → came_key m ≡ Some c
+came_at_step (Given k v) c e = e
+came_at_step (Keyed g row) c e = e
+came_at_step (Moved g d) c e = e
+came_at_step (Answered k r) c e = e
+came_at_step (Asked b k s) c e = absurd cc
+came_at_step (Kept k w) c e = absurd cc
+came_at_step (KeptCount w a) c e = absurd cc
+came_at_step (KeptTime t) c e = absurd cc
+came_at_step (KeptHash b k h) c e = absurd cc
+
+-- the record has this key, and it is one
+pub record HasKey (r : Rec) (c : Key) : Type 0 where
+  pub has : r.key ≡ Some c
+  pub key : IsKey c
+
+taken_key : (r : Rec) (c : Key) (k : List ℕ) → r.key ≡ Some k → (x : Key) → key_from k ≡ Some x → x ≡ c → HasKey r c
+taken_key r c k is x g e =
+    let t = key_takes k x g in
+    record { has = is ∙ ap (λ (l : List ℕ). Some l) (t.0 ∙ e); key = subst IsKey (t.0 ∙ e) t.1 }
+
+read_key : (r : Rec) (c : Key) (k : Option (List ℕ)) → r.key ≡ k → (key : Option Key) → if_there key_from k ≡ Some key → key ≡ Some c → HasKey r c
+read_key r c None is key e f = absurd cc
+read_key r c (Some k) is key e f = by (key_from k) refl e
+  where
+    by : (o : Option Key) → key_from k ≡ o → option_map (λ (x : Key). Some x) o ≡ Some key → HasKey r c
+    by None g h = absurd cc
+    by (Some x) g h =
+        let same : Some x ≡ key = cc in
+        let there : x ≡ c = cc in
+        taken_key r c k is x g there
+
+given_key : (r : Rec) (m : Message) (c : Key) → given_in r ≡ Some m → came_key m ≡ Some c → HasKey r c
+given_key r m c e f = by (if_there key_from r.key) (if_there row_from r.value) refl e
+  where
+    by : (o : Option (Option Key)) (v : _) → if_there key_from r.key ≡ o → (o >>= (λ key. v >>= (λ value. Some (Given key value)))) ≡ Some m → HasKey r c
+    by None v g h = absurd cc
+    by (Some key) None g h = absurd cc
+    by (Some key) (Some value) g h =
+        let same : Given key value ≡ m = cc in
+        read_key r c r.key refl key g (ap came_key same ∙ f)
+
+both_key : {B : Type 0} (value : List ℕ → Option B) (make : Key → B → Message) (r : Rec) (m : Message) (c : Key) → ((a : Key) (b : B) (c : Key) → came_key (make a b) ≡ Some c → a ≡ c) →
+    of_both key_from value make r ≡ Some m → came_key m ≡ Some c → HasKey r c
+both_key {B} value make r m c keys e f = by r.key r.value refl e
+  where
+    inner : (k v : List ℕ) → r.key ≡ Some k → (x : Option Key) → key_from k ≡ x → (y : Option B) → (x >>= (λ a. y >>= (λ b. Some (make a b)))) ≡ Some m → HasKey r c
+    inner k v is None g y h = absurd cc
+    inner k v is (Some a) g None h = absurd cc
+    inner k v is (Some a) g (Some b) h =
+        let same : make a b ≡ m = cc in
+        let there : a ≡ c = keys a b c (ap came_key same ∙ f) in
+        taken_key r c k is a g there
+
+    by : (k v : Option (List ℕ)) → r.key ≡ k → (k >>= (λ k. v >>= (λ v. key_from k >>= (λ a. value v >>= (λ b. Some (make a b)))))) ≡ Some m → HasKey r c
+    by None v is h = absurd cc
+    by (Some k) None is h = absurd cc
+    by (Some k) (Some v) is h = inner k v is (key_from k) refl (value v) h
+
+regrouped_key : (k : Kind) (r : Rec) (m : Message) (c : Key) → regrouped_in k r ≡ Some m → came_key m ≡ Some c → HasKey r c
+regrouped_key (StreamAggregate f by field through) r m c e g = both_key row_from Keyed r m c (λ a b c e. cc) e g
+regrouped_key (Windowed f by w through) r m c e g = both_key row_from Keyed r m c (λ a b c e. cc) e g
+regrouped_key (TableAggregate f by field) r m c e g = both_key delta_from Moved r m c (λ a b c e. cc) e g
+regrouped_key (StreamSource t) r m c e g = absurd cc
+regrouped_key (TableSource t) r m c e g = absurd cc
+regrouped_key (StreamFilter f x) r m c e g = absurd cc
+regrouped_key (TableFilter f x) r m c e g = absurd cc
+regrouped_key (StreamMap f s) r m c e g = absurd cc
+regrouped_key (TableMap f s) r m c e g = absurd cc
+regrouped_key (KeySelected f k) r m c e g = absurd cc
+regrouped_key (KeyJoin l r' kind s) r m c e g = absurd cc
+regrouped_key (ForeignKeyJoin l r' fk kind s) r m c e g = absurd cc
+
+message_key : (p : Plan) (topic : Topic) (r : Rec) (m : Message) (c : Key) → message_in p topic r ≡ Some m → came_key m ≡ Some c → HasKey r c
+message_key p (InputTopic t) r m c e g = given_key r m c e g
+message_key p (Repartition n) r m c e g = regrouped_key (kind_at p n) r m c e g
+message_key p (Subscriptions n) r m c e g = both_key subscription_from (λ b v. Asked b v.left (subscription_of v)) r m c (λ a b c e. cc) e g
+message_key p (Responses n) r m c e g = both_key response_from Answered r m c (λ a b c e. cc) e g
+message_key p (Changelog n) r m c e g = absurd cc
+message_key p (HashChangelog n) r m c e g = absurd cc
+
+-- ---- a key behind its length is read again
+front_again : (key rest : List ℕ) → IsKey key → long_key_at (long_key key ++ rest) ≡ Some (key, rest)
+unfolding long_key_at
+front_again key rest k =
+    let regrouped : long_key key ++ rest ≡ to_be_bytes w32 (length key) ++ (key ++ rest) = append_assoc (to_be_bytes w32 (length key)) key rest in
+    let lt : length key < 2 ^ 32 = omega (arith, k.most) in
+    ap long_key_at regrouped ∙ rw (number_again w32 (2 ^ 32) wide32 (length key) (key ++ rest) lt, bytes_again key rest, key_again key k) refl
+
+window_front : (g : Key) (s : ℕ) → IsKey g → long_key_at (window_key g s) ≡ Some (g, to_be_bytes w64 s)
+unfolding window_key
+window_front g s k = front_again g (to_be_bytes w64 s) k
+
+foreign_front : (b k : Key) → IsKey b → long_key_at (subscription_key b k) ≡ Some (b, k)
+unfolding subscription_key
+foreign_front b k key = front_again b k key
+
+time_front : long_key_at time_key ≡ None
+unfolding long_key_at
+time_front = refl
+
+-- ---- what a windowed count tells is of windows of one group, or the greatest timestamp
+abbrev IsOfGroup : Key → Message → Type 0
+IsOfGroup g m = (key_bytes m ≡ Some time_key) ⊎ ((s : ℕ) × (key_bytes m ≡ Some (window_key g s)))
+
+abbrev AllOfGroup : Key → List Message → Type 0
+AllOfGroup g [] = Unit {0}
+AllOfGroup g (m ∷ ms) = IsOfGroup g m × AllOfGroup g ms
+
+AllOfGroup-append : (g : Key) (xs ys : List Message) → AllOfGroup g xs → AllOfGroup g ys → AllOfGroup g (xs ++ ys)
+AllOfGroup-append g [] ys a b = b
+AllOfGroup-append g (x ∷ xs) ys a b = (a.0, AllOfGroup-append g xs ys a.1 b)
+
+windows_of : (w : Window) (now : ℕ) (g : Key) (c : Counted) → AllOfGroup g c.changes → (ss : List ℕ) → AllOfGroup g (fold (count_window w now g) c ss).changes
+windows_of w now g c h [] = h
+windows_of w now g c h (s ∷ ss) = windows_of w now g (count_window w now g c s) (one (is_open w now s)) ss
+  where
+    one : (b : Bool) → AllOfGroup g (cond b
+        (record c { counts = fin.insert c.counts (g, s) (stream_add None (fin.get c.counts (g, s)) []); changes = c.changes ++ KeptCount (g, s) (stream_add None (fin.get c.counts (g, s)) []) ∷ [] })
+        (record c { late = c.late + 1 })).changes
+    one true = AllOfGroup-append g c.changes _ h (inr (s, refl), tt)
+    one false = h
+
+time_of_group : (g : Key) (old : Option ℕ) (now : ℕ) → AllOfGroup g (time_changes old now)
+time_of_group g old now = by (same_option nat_eq old (Some now))
+  where
+    by : (b : Bool) → AllOfGroup g (cond b [] (KeptTime now ∷ []))
+    by true = tt
+    by false = (inl refl, tt)
+
+counts_of_group : (w : Window) (old : Option ℕ) (counts : FinMap by_window Agg) (t : ℕ) (g : Key) → AllOfGroup g (count_group w old counts t (Some g)).changes
+counts_of_group w old counts t g = windows_of w (greater old t) g _ (time_of_group g old (greater old t)) (windows w t)
+
+module _ (rules : Rules) (p : Plan) where
+  -- where a record of a key arrives
+  at_key : (topic : Topic) (part : ℕ) (c : Key) → is_changelog topic ≡ false → is_placed rules p topic part (Some c) ≡ true → part ≡ rules.part c (parts_of_topic p topic)
+  at_key (InputTopic t) part c free h = eqb-true part _ h
+  at_key (Repartition n) part c free h = eqb-true part _ h
+  at_key (Subscriptions n) part c free h = eqb-true part _ h
+  at_key (Responses n) part c free h = eqb-true part _ h
+  at_key (Changelog n) part c free h = absurd (true≢false free)
+  at_key (HashChangelog n) part c free h = absurd (true≢false free)
+
+  -- where one is sent
+  sent_to_key : (topic : Topic) (part : ℕ) (c : Key) → is_changelog topic ≡ false → part ≡ rules.part c (parts_of_topic p topic) → is_placed rules p topic part (Some c) ≡ true
+  sent_to_key (InputTopic t) part c free h = eq-eqb part _ h
+  sent_to_key (Repartition n) part c free h = eq-eqb part _ h
+  sent_to_key (Subscriptions n) part c free h = eq-eqb part _ h
+  sent_to_key (Responses n) part c free h = eq-eqb part _ h
+  sent_to_key (Changelog n) part c free h = absurd (true≢false free)
+  sent_to_key (HashChangelog n) part c free h = absurd (true≢false free)
+
+  -- a topic's number is no other's
+  by_number : (t : Topic) (part : ℕ) (key : Option (List ℕ)) → is_placed rules p t part key ≡ true → placed_by rules p part key (topic_at p (number_of p t)) ≡ true
+  by_number t part key h = by (topic_at p (number_of p t)) refl
+    where
+      by : (o : Option Topic) → topic_at p (number_of p t) ≡ o → placed_by rules p part key o ≡ true
+      by None e = refl
+      by (Some w) e = ap (λ v. is_placed rules p v part key) (place-is (topics_of p) t w e) ∙ h
+
+  abbrev EachStands : List (Place × Item) → Type 0
+  EachStands [] = Unit {0}
+  EachStands (x ∷ xs) = (stands rules p (part_id p x.0) (rec_of x.1) ≡ true) × EachStands xs
+
+  EachStands-append : (xs ys : List (Place × Item)) → EachStands xs → EachStands ys → EachStands (xs ++ ys)
+  EachStands-append [] ys a b = b
+  EachStands-append (x ∷ xs) ys a b = (a.0, EachStands-append xs ys a.1 b)
+
+  all_fit : (f : Place × Item → Bool) (xs : List (Place × Item)) → EachStands xs → AllFit (stands rules p) (spelled p (filter f xs))
+  all_fit f [] h = tt
+  all_fit f (x ∷ xs) h = by (f x) (all_fit f xs h.1)
+    where
+      by : (b : Bool) → AllFit (stands rules p) (spelled p (filter f xs)) → AllFit (stands rules p) (spelled p (cond b (x ∷ filter f xs) (filter f xs)))
+      by true g = (h.0, g)
+      by false g = g
+
+  sent_stand : (time : ℕ) (xs : List Sent) → Through xs → EachStands (map (sent_item rules p time) xs)
+  sent_stand time [] h = tt
+  sent_stand time (s ∷ xs) h = (
+    by_number s.topic (rules.part s.key (parts_of_topic p s.topic)) (key_bytes s.message)
+        (subst (λ k. is_placed rules p s.topic (rules.part s.key (parts_of_topic p s.topic)) k ≡ true) (sym h.0.1) (sent_to_key s.topic _ s.key h.0.0 refl)),
+    sent_stand time xs h.1,
+  )
+
+  abbrev AllPlaced : ℕ → List Written → Type 0
+  AllPlaced part [] = Unit {0}
+  AllPlaced part (w ∷ ws) = (is_placed rules p w.topic part (key_bytes w.message) ≡ true) × AllPlaced part ws
+
+  AllPlaced-append : (part : ℕ) (xs ys : List Written) → AllPlaced part xs → AllPlaced part ys → AllPlaced part (xs ++ ys)
+  AllPlaced-append part [] ys a b = b
+  AllPlaced-append part (x ∷ xs) ys a b = (a.0, AllPlaced-append part xs ys a.1 b)
+
+  written_stand : (part time : ℕ) (ws : List Written) → AllPlaced part ws → EachStands (map (written_item part time) ws)
+  written_stand part time [] h = tt
+  written_stand part time (w ∷ ws) h = (by_number w.topic part (key_bytes w.message) h.0, written_stand part time ws h.1)
+
+  write_all-append : (part : ℕ) (t : Topic) (xs ys : List Message) → AllPlaced part (write_all t xs) → AllPlaced part (write_all t ys) → AllPlaced part (write_all t (xs ++ ys))
+  write_all-append part t [] ys a b = b
+  write_all-append part t (x ∷ xs) ys a b = (a.0, write_all-append part t xs ys a.1 b)
+
+  of_group : (part n : ℕ) (g : Key) → is_windowed (kind_at p n) ≡ true → IsKey g → part ≡ rules.part g (parts_of p n) → (m : Message) → IsOfGroup g m → is_placed rules p (Changelog n) part (key_bytes m) ≡ true
+  of_group part n g is key here m h = ⊎_elim
+      (λ (e : key_bytes m ≡ Some time_key).
+      subst (λ k. is_placed rules p (Changelog n) part k ≡ true) (sym e) (ap (λ b. cond b (is_at_group rules p n part time_key (long_key_at time_key)) (is_at_key rules p (Changelog n) part time_key)) is ∙ ap (is_at_group rules p n part time_key) time_front ∙ time_itself))
+      (λ (e : (s : ℕ) × (key_bytes m ≡ Some (window_key g s))).
+      subst (λ k. is_placed rules p (Changelog n) part k ≡ true) (sym e.1)
+      (ap (λ b. cond b (is_at_group rules p n part (window_key g e.0) (long_key_at (window_key g e.0))) (is_at_key rules p (Changelog n) part (window_key g e.0))) is ∙ ap (is_at_group rules p n part (window_key g e.0)) (window_front g e.0 key) ∙ eq-eqb part _ here))
+      h
+    where
+      time_itself : same_bytes time_key time_key ≡ true
+      time_itself = refl
+
+  of_windows : (part n : ℕ) (g : Key) → is_windowed (kind_at p n) ≡ true → IsKey g → part ≡ rules.part g (parts_of p n) → (ms : List Message) → AllOfGroup g ms → AllPlaced part (write_all (Changelog n) ms)
+  of_windows part n g is key here [] h = tt
+  of_windows part n g is key here (m ∷ ms) h = (of_group part n g is key here m h.0, of_windows part n g is key here ms h.1)
+
+  of_hashes : (part n : ℕ) (st : Store) (m : Option Message) → ((b k : Key) (s : Subscription) → m ≡ Some (Asked b k s) → IsKey b × (part ≡ rules.part b (parts_of_topic p (HashChangelog n)))) →
+      AllPlaced part (write_all (HashChangelog n) (hash_changes st n m))
+  of_hashes part n st None here = tt
+  of_hashes part n st (Some (Asked b q s)) here = by (same_option nat_eq (fin.get (st.hashes n b) q) (subscribed s)) (here b q s refl)
+    where
+      by : (c : Bool) → IsKey b × (part ≡ rules.part b (parts_of_topic p (HashChangelog n))) → AllPlaced part (write_all (HashChangelog n) (cond c [] (KeptHash b q (subscribed s) ∷ [])))
+      by true h = tt
+      by false h = (ap (is_at_foreign rules p n part) (foreign_front b q h.0) ∙ eq-eqb part _ h.1, tt)
+  of_hashes part n st (Some _) here = tt
+
+  -- the kinds of the nodes from one on
+  abbrev pub AtPlace : ℕ → List Kind → Type 0
+  AtPlace n [] = Unit {0}
+  AtPlace n (k ∷ ks) = (kind_at p n ≡ k) × AtPlace (suc n) ks
+
+  pub at_places : (before ks : List Kind) → p.kinds ≡ before ++ ks → (n : ℕ) → n ≡ length before → AtPlace n ks
+  at_places before [] is n e = tt
+  at_places before (k ∷ ks) is n e = (
+    ap₂ (λ (l : List Kind) (i : ℕ). get_or l i no_kind) is e ∙ there before,
+    at_places (before ++ k ∷ []) ks (is ∙ sym (append_assoc before (k ∷ []) ks)) (suc n) (omega (arith, e, length-append before (k ∷ []))),
+  )
+    where
+      there : (xs : List Kind) → get_or (xs ++ k ∷ ks) (length xs) no_kind ≡ k
+      there [] = refl
+      there (x ∷ xs) = there xs
+
+  module _ (fits : Fits p) (a : Arrival) (sub : ℕ) (takes : taker p a.topic ≡ sub) (st : Store) (part : ℕ)
+      (here : (c : Key) → came_key a.item.message ≡ Some c → IsKey c × (part ≡ rules.part c (parts_of_topic p a.topic))) where
+    abbrev items : ℕ → Option StreamItem
+    items = items_from a (λ n. None) 0 p.kinds
+
+    -- a windowed count has no table whose rows change
+    own_value : (olds news : Values) (n : ℕ) (k : Kind) → is_windowed k ≡ true → value_at rules a items olds news n k ≡ olds n
+    own_value olds news n (Windowed f by w through) is = refl
+    own_value olds news n (StreamSource t) is = absurd cc
+    own_value olds news n (TableSource t) is = absurd cc
+    own_value olds news n (StreamFilter f x) is = absurd cc
+    own_value olds news n (TableFilter f x) is = absurd cc
+    own_value olds news n (StreamMap f s) is = absurd cc
+    own_value olds news n (TableMap f s) is = absurd cc
+    own_value olds news n (KeySelected f k) is = absurd cc
+    own_value olds news n (StreamAggregate f by field through) is = absurd cc
+    own_value olds news n (TableAggregate f by field) is = absurd cc
+    own_value olds news n (KeyJoin l r kind s) is = absurd cc
+    own_value olds news n (ForeignKeyJoin l r fk kind s) is = absurd cc
+
+    same_values : (olds news : Values) (n : ℕ) (ks : List Kind) → AtPlace n ks → ((c : ℕ) → is_windowed (kind_at p c) ≡ true → news c ≡ olds c) →
+        (c : ℕ) → is_windowed (kind_at p c) ≡ true → values_from rules a items olds news n ks c ≡ olds c
+    same_values olds news n [] at h = h
+    same_values olds news n (k ∷ ks) at h = same_values olds (with_number news n (value_at rules a items olds news n k)) (suc n) ks at.1 (λ c is. one c is (nat_eq c n) refl)
+      where
+        one : (c : ℕ) → is_windowed (kind_at p c) ≡ true → (b : Bool) → nat_eq c n ≡ b → cond b (value_at rules a items olds news n k) (news c) ≡ olds c
+        one c is true e =
+            let same : c ≡ n = (Decides-eqb c n).0 e in
+            own_value olds news n k (ap is_windowed (sym at.0) ∙ (ap (λ m. is_windowed (kind_at p m)) (sym same) ∙ is)) ∙ ap olds (sym same)
+        one c is false e = h c is
+
+    of_values : (n : ℕ) (key : Option Key) → step_key a.item.message ≡ key → AllPlaced part (write_all (Changelog n) (value_changes key (olds_at st key n) (news_at rules p a items (olds_at st key) key n)))
+    of_values n None is = tt
+    of_values n (Some c) is = by (is_windowed (kind_at p n)) refl
+      where
+        olds : Values
+        olds = olds_at st (Some c)
+
+        still : news_at rules p a items olds (Some c) n ≡ olds n → AllPlaced part (write_all (Changelog n) (value_changes (Some c) (olds n) (news_at rules p a items olds (Some c) n)))
+        still e = subst (λ ms. AllPlaced part (write_all (Changelog n) ms)) (sym (ap (value_changes (Some c) (olds n)) e ∙ nothing_changes (Some c) (olds n))) tt
+
+        changes : (b : Bool) (new : Option Stored) → is_placed rules p (Changelog n) part (Some c) ≡ true → AllPlaced part (write_all (Changelog n) (cond b [] (Kept c new ∷ [])))
+        changes true new h = tt
+        changes false new h = (h, tt)
+
+        by : (b : Bool) → is_windowed (kind_at p n) ≡ b → AllPlaced part (write_all (Changelog n) (value_changes (Some c) (olds n) (news_at rules p a items olds (Some c) n)))
+        by true e = still (same_values olds olds 0 p.kinds (at_places [] p.kinds refl 0 refl) (λ m w. refl) n e)
+        by false e = ⊎_elim still
+            (λ (o : Owned rules p a.topic n). changes (same_option same_stored (olds n) (news_at rules p a items olds (Some c) n)) _
+            (ap (λ b. cond b (is_at_group rules p n part c (long_key_at c)) (part == rules.part c (parts_of p n))) e ∙ eq-eqb part _ ((here c (came_at_step a.item.message c is)).1 ∙ ap (rules.part c) o.parts)))
+            (kept rules p fits a sub takes st (Some c) n)
+
+    -- where an item with a group comes to a windowed count
+    item_place : (n f : ℕ) (by : Option (List ℕ)) (w : Window) (through : Bool) → NodeFits p n (Windowed f by w through) → (x : StreamItem) → item_into a items n f through ≡ Some x → (g : Key) → x.key ≡ Some g →
+        IsKey g × (part ≡ rules.part g (parts_of p n))
+    item_place n f by w true fit x is g key = at_topic (same_topic a.topic (Repartition n)) refl is
+      where
+        keyed : (m : Message) → item_keyed a.item.time (Some m) ≡ Some x → came_key m ≡ Some g
+        keyed (Keyed h row) e = let same : Some h ≡ x.key = cc in same ∙ key
+        keyed (Given k v) e = absurd cc
+        keyed (Moved h d) e = absurd cc
+        keyed (Asked b k s) e = absurd cc
+        keyed (Answered k r) e = absurd cc
+        keyed (Kept k v) e = absurd cc
+        keyed (KeptCount k v) e = absurd cc
+        keyed (KeptTime t) e = absurd cc
+        keyed (KeptHash b k h) e = absurd cc
+
+        at_topic : (b : Bool) → same_topic a.topic (Repartition n) ≡ b → item_keyed a.item.time (cond b (Some a.item.message) None) ≡ Some x → IsKey g × (part ≡ rules.part g (parts_of p n))
+        at_topic false b e = absurd cc
+        at_topic true b e = let h = here g (keyed a.item.message e) in (h.0, h.1 ∙ ap (λ t. rules.part g (parts_of_topic p t)) (topic-is a.topic (Repartition n) b))
+    item_place n f by w false fit x is g key = ⊎_elim
+        (λ (e : items f ≡ None). absurd (let no : None ≡ Some x = sym e ∙ is in cc))
+        (λ (o : Owned rules p a.topic f).
+        let own : step_key a.item.message ≡ x.key = item_key a p f (fit.2 refl).1 x is in
+        let h = here g (came_at_step a.item.message g (own ∙ key)) in
+        (h.0, h.1 ∙ ap (rules.part g) (o.parts ∙ (fit.1 refl).parts)))
+        (owned rules p fits a sub takes st f)
+
+    of_item : (n f : ℕ) (by : Option (List ℕ)) (w : Window) (through : Bool) → kind_at p n ≡ Windowed f by w through → NodeFits p n (Windowed f by w through) → (x : Option StreamItem) → item_into a items n f through ≡ x →
+        AllPlaced part (write_all (Changelog n) (count_item w (st.times n) (st.counts n) x).changes)
+    of_item n f by w through is fit None e = tt
+    of_item n f by w through is fit (Some x) e = group x.key refl
+      where
+        group : (k : Option Key) → x.key ≡ k → AllPlaced part (write_all (Changelog n) (count_group w (st.times n) (st.counts n) x.time k).changes)
+        group None key = tt
+        group (Some g) key =
+            let h = item_place n f by w through fit x e g key in
+            of_windows part n g (ap is_windowed is) h.0 h.1 _ (counts_of_group w (st.times n) (st.counts n) x.time g)
+
+    of_counts : (n : ℕ) (k : Kind) → kind_at p n ≡ k → NodeFits p n k → AllPlaced part (write_all (Changelog n) (counted_at a items st n k).changes)
+    of_counts n (Windowed f by w through) is fit = of_item n f by w through is fit (item_into a items n f through) refl
+    of_counts n (StreamSource t) is fit = tt
+    of_counts n (TableSource t) is fit = tt
+    of_counts n (StreamFilter f x) is fit = tt
+    of_counts n (TableFilter f x) is fit = tt
+    of_counts n (StreamMap f s) is fit = tt
+    of_counts n (TableMap f s) is fit = tt
+    of_counts n (KeySelected f k) is fit = tt
+    of_counts n (StreamAggregate f by field through) is fit = tt
+    of_counts n (TableAggregate f by field) is fit = tt
+    of_counts n (KeyJoin l r kind s) is fit = tt
+    of_counts n (ForeignKeyJoin l r fk kind s) is fit = tt
+
+    -- where a subscription comes
+    asked_place : (n : ℕ) (b k : Key) (s : Subscription) → arrived a (Subscriptions n) ≡ Some (Asked b k s) → IsKey b × (part ≡ rules.part b (parts_of_topic p (HashChangelog n)))
+    asked_place n b k s e = by (same_topic a.topic (Subscriptions n)) refl e
+      where
+        by : (c : Bool) → same_topic a.topic (Subscriptions n) ≡ c → cond c (Some a.item.message) None ≡ Some (Asked b k s) → IsKey b × (part ≡ rules.part b (parts_of_topic p (HashChangelog n)))
+        by false c f = absurd cc
+        by true c f =
+            let is : a.item.message ≡ Asked b k s = cc in
+            let h = here b (ap came_key is) in
+            (h.0, h.1 ∙ ap (λ t. rules.part b (parts_of_topic p t)) (topic-is a.topic (Subscriptions n) c))
+
+    all_written : (n : ℕ) (ks : List Kind) → AtPlace n ks → EachFits p n ks →
+        AllPlaced part (over_nodes (changes_at a items st (olds_at st (step_key a.item.message)) (news_at rules p a items (olds_at st (step_key a.item.message)) (step_key a.item.message))) n ks)
+    all_written n [] at fit = tt
+    all_written n (k ∷ ks) at fit = AllPlaced-append part _ _
+        (AllPlaced-append part (write_all (Changelog n) _) _
+        (write_all-append part (Changelog n) _ _ (of_values n (step_key a.item.message) refl) (of_counts n k at.0 fit.0))
+        (of_hashes part n st (arrived a (Subscriptions n)) (asked_place n)))
+        (all_written (suc n) ks at.1 fit.1)
+
+  -- ---- one step
+  module _ (fits : Fits p) (t : TaskId) where
+    of_step : (stores : ByteStores) (topic : Topic) (x : Item) → taker p topic ≡ t.sub → ((c : Key) → came_key x.message ≡ Some c → IsKey c × (t.part ≡ rules.part c (parts_of_topic p topic))) →
+        AllFit (stands rules p) (outcome_of p t stores (step rules p t (store_from p t.sub stores) (record { topic = topic; part = t.part }) x)).made
+    of_step stores topic x takes here =
+        let st = store_from p t.sub stores in
+        let a : Arrival = record { topic = topic; item = x } in
+        let made = whole_step rules p st a in
+        let key = step_key x.message in
+        let items = items_from a (λ n. None) 0 p.kinds in
+        let olds = olds_at st key in
+        let news = news_at rules p a items olds key in
+        all_fit (is_sent p t) (map (sent_item rules p x.time) made.sends ++ map (written_item t.part x.time) made.changes)
+        (EachStands-append (map (sent_item rules p x.time) made.sends) _
+        (sent_stand x.time made.sends (through_all rules a items st olds news 0 p.kinds))
+        (written_stand t.part x.time made.changes (all_written fits a t.sub takes st t.part here 0 p.kinds (at_places [] p.kinds refl 0 refl) fits)))
+
+    plain_message : (topic : Topic) (r : Rec) (m : Message) → message_in p topic r ≡ Some m → is_changelog topic ≡ false
+    plain_message (InputTopic i) r m h = refl
+    plain_message (Repartition i) r m h = refl
+    plain_message (Subscriptions i) r m h = refl
+    plain_message (Responses i) r m h = refl
+    plain_message (Changelog i) r m h = absurd cc
+    plain_message (HashChangelog i) r m h = absurd cc
+
+    of_read : (stores : ByteStores) (q : PartId) (topic : Topic) (r : Rec) → q.part ≡ t.part → is_placed rules p topic q.part r.key ≡ true → reads p topic ≡ t.sub →
+        (m : Option Message) → message_in p topic r ≡ m → AllFit (stands rules p) (step_read rules p t stores q topic r.ts m).made
+    of_read stores q topic r same placed is None e = tt
+    of_read stores q topic r same placed is (Some m) e =
+        let free = plain_message topic r m e in
+        subst (λ i. AllFit (stands rules p) (outcome_of p t stores (step rules p t (store_from p t.sub stores) (record { topic = topic; part = i }) (record { message = m; time = r.ts }))).made) (sym same)
+        (of_step stores topic (record { message = m; time = r.ts }) (ap (λ b. cond b (sub_count p) (reads p topic)) free ∙ is)
+        (λ c k. let h = message_key p topic r m c e k in (h.key, sym same ∙ at_key topic q.part c free (ap (is_placed rules p topic q.part) (sym h.has) ∙ placed))))
+
+    of_topic : (stores : ByteStores) (q : PartId) (r : Rec) → q.part ≡ t.part → (o : Option Topic) → placed_by rules p q.part r.key o ≡ true → AllFit (stands rules p) (step_at rules p t stores q r o).made
+    of_topic stores q r same None placed = tt
+    of_topic stores q r same (Some topic) placed = by (nat_eq (reads p topic) t.sub) refl
+      where
+        by : (b : Bool) → nat_eq (reads p topic) t.sub ≡ b → AllFit (stands rules p) (cond b (step_read rules p t stores q topic r.ts (message_in p topic r)) (nothing_made stores)).made
+        by true is = of_read stores q topic r same placed ((Decides-eqb (reads p topic) t.sub).0 is) (message_in p topic r) refl
+        by false is = tt
+
+  keeps : Fits p → Keeps (work_of rules p) (stands rules p) (λ q store. true)
+  keeps fits = record {
+    start = λ q. refl;
+    stores = λ stores q r reads held fit topic. refl;
+    made = λ stores q r reads held fit. of_topic fits (reader_of (work_of rules p) q) stores q r refl (topic_at p q.topic) fit;
+  }
+
+pub decided_stand : DecidedStand
+decided_stand rules d journal well history produced =
+    (all_kept (setup_of rules (plan_of d)) journal (works_are_networks rules (plan_of d)) history (stands rules (plan_of d)) (λ q store. true) (keeps rules (plan_of d) (well_formed_fits d well)) produced).0

@@ -1,0 +1,5 @@
+pub mod Work
+pub mod Placing
+pub mod Spelled
+pub mod Order
+pub mod Projections

@@ -1,0 +1,47 @@
+-- The tasks of a topology as the work of a cluster: topics by number, records and stores as bytes.
+use Rattle.std.specs.Prelude.{List, ◌≡◌, map, length}
+use Rattle.std.specs.List.{filter}
+use Rattle.ks_row.specs.declared.record.TaskId.{TaskId}
+use Rattle.ks_plan.specs.Drafts.{DraftView}
+use Rattle.ks_plan.specs.Plan.{Plan, plan_of}
+use Rattle.ks_plan.specs.Layout.{topics_of, parts_of_topic, tasks}
+use Rattle.ks_plan.specs.Infos.{input_numbers, changelog_numbers}
+use Rattle.ks_def_tasks.specs.Messages.{Place, Item, Store, Rules}
+use Rattle.ks_def_tasks.specs.Tasks.{step, taker}
+use Rattle.ks_def_tasks.specs.Bytes.{byte_step, reader_number, is_sent}
+use Rattle.ks_history.specs.declared.journal.Entry.{Entry}
+use Rattle.ks_history.specs.Machine.{TaskPlan as Work, IsNetwork}
+use Rattle.ks_history.specs.History.{IsHistory}
+use Rattle.ks_history.specs.State.{Setup, IsSetup}
+use Rattle.ks_law_quiescence.specs.WellFormed.{IsWellFormed}
+
+abbrev pub work_of : Rules → Plan → Work
+work_of rules p = record {
+  sources = length p.counts;
+  inputs = input_numbers p;
+  changelogs = changelog_numbers p;
+  reader = reader_number p;
+  step = byte_step rules p;
+}
+
+-- a cluster of a topology: its topics' partition counts by number, and its tasks
+abbrev pub setup_of : Rules → Plan → Setup
+setup_of rules p = record { plan = work_of rules p; counts = map (parts_of_topic p) (topics_of p); tasks = tasks p }
+
+-- the tasks of a topology make a network, whatever the rules by which keys are spread and rows hashed
+abbrev pub WorksAreNetworks : Type 0
+WorksAreNetworks = (rules : Rules) (p : Plan) → IsNetwork (work_of rules p)
+
+-- where a topology is well formed, a task that takes a record writes its own changelogs alone: nothing that it makes is held back
+abbrev pub NothingIsHeldBack : Type 0
+NothingIsHeldBack = (rules : Rules) (d : DraftView) → IsWellFormed d → let p = plan_of d in (t : TaskId) (st : Store) (q : Place) (x : Item) → taker p q.topic ≡ t.sub →
+    filter (is_sent p t) (step rules p t st q x).made ≡ (step rules p t st q x).made
+
+-- a cluster of a well-formed topology can be made: no task stands twice, and each input and each changelog of a task has the task's
+-- partition
+abbrev pub SetupsAreMade : Type 0
+SetupsAreMade = (rules : Rules) (d : DraftView) → IsWellFormed d → IsSetup (setup_of rules (plan_of d))
+
+-- what holds of every legal, faithful journal of a topology
+abbrev pub OfJobs : (Setup → List Entry → Type 0) → Type 0
+OfJobs P = (rules : Rules) (p : Plan) (journal : List Entry) → IsHistory (setup_of rules p) journal → P (setup_of rules p) journal

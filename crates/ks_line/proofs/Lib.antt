@@ -1,5 +1,0 @@
-pub mod Trees
-pub mod Verdicts
-pub mod Nodes
-pub mod Texts
-pub mod Ordered

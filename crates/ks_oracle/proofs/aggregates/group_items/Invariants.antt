@@ -1,0 +1,13 @@
+use Rattle.std.proofs.Common.{◌≡◌, fold, length}
+use Rattle.ks_def_maps.specs.Bytes.{by_bytes}
+use Rattle.ks_def_maps.specs.FinMap as fin
+use Rattle.ks_query.specs.Query.{add_to, item_rows}
+use Rattle.ks_query.specs.Streams.{grouped}
+use Rattle.std.specs.Prelude.{option_copied}
+use Rattle.ks_oracle.proofs.aggregates.group_items.Given as goal
+
+abbrev pub invariant-loop-rest : goal.invariant-loop-rest
+invariant-loop-rest l = fold (add_to {R = by_bytes} (option_copied l.field)) l.groups (item_rows (grouped (option_copied l.by) l.rest)) ≡ fold (add_to {R = by_bytes} (option_copied l.field)) fin.empty (item_rows (grouped (option_copied l.by) l.items))
+
+abbrev pub decreases-loop-rest : goal.decreases-loop-rest
+decreases-loop-rest l = length l.rest

@@ -1,6 +1,0 @@
-use Rattle.std.proofs.Common.{refl}
-use Rattle.ks_replay.proofs.Written.{zombie_history}
-use Rattle.ks_replay.proofs.examples.zombie_is_history.Goals as goal
-
-pub returns : goal.returns
-returns c = record { history = zombie_history; unstable = λ rec. refl; answered = λ rec. refl; committed = λ rec. refl; fetched = λ rec. refl; ends = λ rec. refl; replay = λ rec. refl }

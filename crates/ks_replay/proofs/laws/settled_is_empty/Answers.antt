@@ -1,5 +1,0 @@
-use Rattle.ks_replay.proofs.Replays.{settled_is_empty}
-use Rattle.ks_replay.proofs.laws.settled_is_empty.Goals as goal
-
-pub returns : goal.returns
-returns c = settled_is_empty

@@ -1,0 +1,19 @@
+//! How a run ends, as a number.
+
+/// The tables were written.
+pub const SETTLED: u8 = 0;
+
+/// The words say nothing.
+pub const BAD_WORDS: u8 = 1;
+
+/// The source holds no job that can be run.
+pub const BAD_JOB: u8 = 2;
+
+/// The source failed.
+pub const READ_FAULT: u8 = 6;
+
+/// The sink failed.
+pub const WRITE_FAULT: u8 = 7;
+
+/// There was no memory.
+pub const NO_MEMORY: u8 = 8;

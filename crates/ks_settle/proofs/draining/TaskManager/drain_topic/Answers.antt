@@ -1,0 +1,12 @@
+use Rattle.std.proofs.Common.{ap}
+use Rattle.ks_history.specs.Machine.{TaskPlan}
+use Rattle.ks_settle.proofs.draining.TaskManager.drain_topic.Goals as goal
+
+pub read_tasks-requires-clause-may : goal.read_tasks-requires-clause-may
+read_tasks-requires-clause-may g c κs within = record { of = c.requires.of; idle = c.requires.resting.ready.alone.idle }
+
+pub publish-requires-clause-may : goal.publish-requires-clause-may
+publish-requires-clause-may g c = c.requires.of.may
+
+pub publish-requires-clause-logs : goal.publish-requires-clause-logs
+publish-requires-clause-logs g c = λ sub. ap (λ (q : TaskPlan). q.changelogs sub) c.requires.of.work

@@ -1,7 +1,0 @@
-use Rattle.ks_topo.specs.Topologies.{draft_of}
-use Rattle.ks_settle.specs.Drained.{IsDraining}
-use Rattle.ks_settle.proofs.draining.drain_all.Given as goal
-
--- the topics so far were drained
-abbrev pub invariant-loop-i : goal.invariant-loop-i
-invariant-loop-i g l = IsDraining g.W.Work.plan l.fn.cluster l.cluster l.publisher (draft_of l.topology) l.order l.i l.tasks.items

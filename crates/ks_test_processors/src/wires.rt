@@ -1,0 +1,168 @@
+//! What tasks say to one another and keep, as bytes.
+use ks_row::Blob;
+use ks_wire::{
+    read_agg, read_delta, read_hash, read_response, read_subscription, read_subscription_key,
+    read_time, read_window_key, write_agg, write_delta, write_hash, write_response,
+    write_subscription, write_subscription_key, write_time, write_window_key,
+};
+use std::alloc::{AllocError, Global};
+use std::test::Fail;
+
+/// What bytes are read as.
+#[derive(Clone, Copy)]
+enum Kind {
+    Subscription,
+    Response,
+    Delta,
+    Aggregate,
+    Hash,
+    Time,
+    SubscriptionKey,
+    WindowKey,
+}
+
+fn message(alloc: Global, kind: Kind, bytes: &[u8]) -> Result<Option<Blob>, AllocError> {
+    match kind {
+        Kind::Subscription => match read_subscription(alloc, bytes)? {
+            Some(subscription) => Ok(Some(write_subscription(alloc, &subscription)?)),
+            None => Ok(None),
+        },
+        Kind::Response => match read_response(alloc, bytes)? {
+            Some(response) => Ok(Some(write_response(alloc, &response)?)),
+            None => Ok(None),
+        },
+        Kind::Delta => match read_delta(bytes) {
+            Some(delta) => Ok(Some(write_delta(alloc, &delta)?)),
+            None => Ok(None),
+        },
+        _ => Ok(None),
+    }
+}
+
+fn entry(alloc: Global, kind: Kind, bytes: &[u8]) -> Result<Option<Blob>, AllocError> {
+    match kind {
+        Kind::Aggregate => match read_agg(bytes) {
+            Some(agg) => Ok(Some(write_agg(alloc, &agg)?)),
+            None => Ok(None),
+        },
+        Kind::Hash => match read_hash(bytes) {
+            Some(hash) => Ok(Some(write_hash(alloc, hash)?)),
+            None => Ok(None),
+        },
+        Kind::Time => match read_time(bytes) {
+            Some(time) => Ok(Some(write_time(alloc, time)?)),
+            None => Ok(None),
+        },
+        Kind::SubscriptionKey => match read_subscription_key(alloc, bytes)? {
+            Some((foreign, left)) => Ok(Some(write_subscription_key(alloc, &foreign, &left)?)),
+            None => Ok(None),
+        },
+        Kind::WindowKey => match read_window_key(alloc, bytes)? {
+            Some((key, start)) => Ok(Some(write_window_key(alloc, &key, start)?)),
+            None => Ok(None),
+        },
+        _ => Ok(None),
+    }
+}
+
+// The bytes of what these bytes are read as; no byte where they are none.
+fn again(alloc: Global, kind: Kind, bytes: &[u8]) -> Result<Vec<u8>, AllocError> {
+    let found = match message(alloc, kind, bytes)? {
+        Some(found) => Some(found),
+        None => entry(alloc, kind, bytes)?,
+    };
+    match found {
+        Some(found) => Vec::from_slice(alloc, found.as_slice()),
+        None => Ok(Vec::new(alloc)),
+    }
+}
+
+/// Bytes that are of their kind.
+const VALUES: &[(Kind, &[u8])] = &[
+    (Kind::Subscription, b"\x80\x01o1"),
+    (Kind::Subscription, b"\x80\x03o1"),
+    (
+        Kind::Subscription,
+        b"\x00\x00\x00\x00\x00\x00\x00\x00\x00\x00\x00\x00\x00\x00\x00\x00\x00\x00o1",
+    ),
+    (
+        Kind::Subscription,
+        b"\x00\x02\x01\x02\x03\x04\x05\x06\x07\x08\x09\x0a\x0b\x0c\x0d\x0e\x0f\x10o1",
+    ),
+    (Kind::Response, b"\x80"),
+    (
+        Kind::Response,
+        b"\x80\x01\x01n\x00\x00\x00\x00\x00\x00\x00\x00\x01",
+    ),
+    (
+        Kind::Response,
+        b"\x00\x01\x02\x03\x04\x05\x06\x07\x08\x09\x0a\x0b\x0c\x0d\x0e\x0f\x10",
+    ),
+    (
+        Kind::Response,
+        b"\x00\x01\x02\x03\x04\x05\x06\x07\x08\x09\x0a\x0b\x0c\x0d\x0e\x0f\x10\x01\x01n\x00\x00\x00\x00\x00\x00\x00\x00\x01",
+    ),
+    (Kind::Delta, b"\x01\x00\x00\x00\x00\x00\x00\x00\x00"),
+    (Kind::Delta, b"\x00\xff\xff\xff\xff\xff\xff\xff\xfe"),
+    (
+        Kind::Aggregate,
+        b"\x00\x00\x00\x00\x00\x00\x00\x01\xff\xff\xff\xff\xff\xff\xff\xff",
+    ),
+    (
+        Kind::Hash,
+        b"\x01\x02\x03\x04\x05\x06\x07\x08\x09\x0a\x0b\x0c\x0d\x0e\x0f\x10",
+    ),
+    (Kind::Time, b"\x00\x00\x00\x00\x00\x00\x01\x02"),
+    (Kind::SubscriptionKey, b"\x00\x00\x00\x02c2o1"),
+    (
+        Kind::WindowKey,
+        b"\x00\x00\x00\x02c2\x00\x00\x00\x00\x00\x00\x00\x05",
+    ),
+];
+
+/// Bytes that are not.
+const NO_VALUES: &[(Kind, &[u8])] = &[
+    (Kind::Subscription, b""),
+    (Kind::Subscription, b"\x01"),
+    (Kind::Subscription, b"\x80\x04o1"),
+    (Kind::Subscription, b"\x80\x00"),
+    (Kind::Subscription, b"\x01\x00o1"),
+    (Kind::Subscription, b"\x81\x00o1"),
+    (Kind::Response, b""),
+    (Kind::Response, b"\x01"),
+    (Kind::Response, b"\x81"),
+    (Kind::Response, b"\x00\x00"),
+    (Kind::Response, b"\x80\x01"),
+    (Kind::Delta, b""),
+    (Kind::Delta, b"\x01"),
+    (Kind::Delta, b"\x02\x00\x00\x00\x00\x00\x00\x00\x00"),
+    (Kind::Delta, b"\x01\x00\x00\x00\x00\x00\x00\x00\x00\x00"),
+    (Kind::Aggregate, b""),
+    (
+        Kind::Aggregate,
+        b"\x00\x00\x00\x00\x00\x00\x00\x01\xff\xff\xff\xff\xff\xff\xff",
+    ),
+    (Kind::Hash, b""),
+    (
+        Kind::Hash,
+        b"\x01\x02\x03\x04\x05\x06\x07\x08\x09\x0a\x0b\x0c\x0d\x0e\x0f",
+    ),
+    (Kind::Time, b""),
+    (Kind::Time, b"\x01\x00\x00\x00\x00\x00\x00\x00\x00"),
+    (Kind::SubscriptionKey, b""),
+    (Kind::SubscriptionKey, b"\x00\x00\x00\x02c2"),
+    (Kind::WindowKey, b""),
+    (Kind::WindowKey, b"T"),
+];
+
+#[test]
+fn bytes_and_values(rt: HostRuntime) -> Result<(), Fail> {
+    let alloc = rt.alloc();
+    for (kind, bytes) in VALUES {
+        assert_eq!(rt; again(alloc, *kind, bytes)?.as_slice(), *bytes);
+    }
+    for (kind, bytes) in NO_VALUES {
+        assert_eq!(rt; again(alloc, *kind, bytes)?.len(), 0);
+    }
+    Ok(())
+}

@@ -1,0 +1,7 @@
+//! Tests over the top call: worked runs, with devices that fail. The crate has nothing else; whole jobs stand in tests/jobs.
+#![tactic(auto)]
+
+#[cfg(test)]
+mod rows;
+#[cfg(test)]
+mod runs;

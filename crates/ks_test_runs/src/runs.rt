@@ -1,0 +1,90 @@
+//! A run of the top call over devices of memory.
+ghost use Rattle.std.specs.Prelude.{◌≡◌, IfOk, length};
+
+use ks_edge::{Gate, MemSink, MemSource, ScriptGate};
+use ks_run::top;
+use std::alloc::{AllocError, Global};
+use std::process::Abort;
+use std::sync::Wait;
+use std::test::Fail;
+use std::thread::Threads;
+
+/// What a run is given, and what it has to give.
+#[derive(Clone, Copy)]
+pub struct Run<'a> {
+    pub words: &'a [&'a str],
+    pub input: &'a str,
+    /// The spaces that follow the input.
+    pub spaces: usize,
+    pub devices: Devices<'a>,
+    pub status: u8,
+    pub output: &'a str,
+}
+
+/// How the input comes and the output goes: the sizes of the first pieces, and the numbers of the takes and puts that fail.
+#[derive(Clone, Copy)]
+pub struct Devices<'a> {
+    pub sizes: &'a [usize],
+    pub takes: &'a [u64],
+    pub puts: &'a [u64],
+}
+
+/// The input in one piece, and no fault.
+pub const WHOLE: Devices<'static> = Devices {
+    sizes: &[],
+    takes: &[],
+    puts: &[],
+};
+
+// Sixteen gates without acts.
+fn gates(alloc: Global) -> Result<Vec<Box<dyn Gate + Send>>, AllocError>
+    ensures { IfOk result (λ gates. length gates.items ≡ 16) }
+{
+    let mut gates: Vec<Box<dyn Gate + Send>> = Vec::new(alloc);
+    for _ in 0..16usize {
+        gates.push(Box::new(alloc, ScriptGate::new(Vec::new(alloc), Vec::new(alloc)))?)?;
+    }
+    Ok(gates)
+}
+
+fn texts(alloc: Global, words: &[&str]) -> Result<Vec<String>, AllocError> {
+    let mut texts = Vec::new(alloc);
+    for word in words {
+        texts.push(String::from_str(alloc, word)?)?;
+    }
+    Ok(texts)
+}
+
+fn source_of(alloc: Global, run: &Run, sizes: Vec<usize>) -> Result<MemSource, AllocError> {
+    let mut bytes = Vec::from_slice(alloc, run.input.as_bytes())?;
+    bytes.extend_from_slice(&vec![in alloc; b' '; run.spaces]?)?;
+    Ok(MemSource::new(bytes, sizes, run.devices.takes.to_vec(alloc)?))
+}
+
+fn expect_by<R: Threads + Wait + Sync + Abort>(
+    rt: &R,
+    alloc: Global,
+    run: &Run,
+    sizes: Vec<usize>,
+) -> Result<(), Fail> {
+    let words = texts(alloc, run.words)?;
+    let mut input = source_of(alloc, run, sizes)?;
+    let mut out = MemSink::new(alloc, run.devices.puts.to_vec(alloc)?);
+    let ended = top(rt, alloc, &words, &mut input, &mut out, gates(alloc)?);
+    assert_eq!(rt; out.held(), run.output.as_bytes());
+    assert_eq!(rt; ended.status, run.status);
+    Ok(())
+}
+
+/// The run gives its output; so it does with the input cut into single bytes, where the devices don't fail.
+pub fn expect<R: Threads + Wait + Sync + Abort>(
+    rt: &R,
+    alloc: Global,
+    run: &Run,
+) -> Result<(), Fail> {
+    expect_by(rt, alloc, run, run.devices.sizes.to_vec(alloc)?)?;
+    if run.devices.sizes.is_empty() && run.devices.takes.is_empty() {
+        expect_by(rt, alloc, run, vec![in alloc; 1usize; 70_000]?)?;
+    }
+    Ok(())
+}

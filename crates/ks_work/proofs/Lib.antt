@@ -1,9 +1,0 @@
-pub mod Writes
-pub mod Networks
-pub mod Kept
-pub mod Placing
-pub mod Labels
-pub mod Setups
-pub mod Rows
-pub mod Order
-pub mod Caused

@@ -1,5 +1,0 @@
-use Rattle.ks_work.proofs.Setups.{setups_are_made}
-use Rattle.ks_work.proofs.setups_are_made.Goals as goal
-
-pub returns : goal.returns
-returns c = setups_are_made

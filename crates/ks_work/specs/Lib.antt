@@ -1,4 +1,0 @@
-pub mod Work
-pub mod Placing
-pub mod Spelled
-pub mod Order
