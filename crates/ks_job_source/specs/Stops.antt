@@ -1,18 +1,16 @@
--- Why an input is no job that can be run: its first faulty line, what is wrong with its topology, or a kind of node that is
--- not built.
+-- Why an input is no job that can be run: what is wrong with its topology, or its first faulty line.
 use Rattle.std.specs.Prelude.{ℕ, List, [], ◌∷◌, Option, Some, None, option_map}
 use Rattle.std.specs.Option.{option_or}
-use Rattle.ks_plan.specs.Built.{first_unbuilt}
 use Rattle.ks_plan.specs.Drafts.{DraftView}
 use Rattle.ks_plan.specs.Faults.{fault_of}
 use Rattle.ks_job.specs.Items.{ItemView, TopologyAt, RecordTo}
 use Rattle.ks_job.specs.Reader.{Reader, Reading, Faulty, Machine}
 use Rattle.ks_job_source.specs.declared.stop.Stop.{Stop}
-use Rattle.ks_job_source.specs.declared.stop.Stop.TheVariants.{BadLine, BadTopology, NotBuilt}
+use Rattle.ks_job_source.specs.declared.stop.Stop.TheVariants.{BadLine, BadTopology}
 
--- what is wrong with a topology comes first, then what is not built
+-- a topology's first fault
 abbrev pub refusal : ℕ → DraftView → Option Stop
-refusal line d = option_or (option_map (BadTopology line) (fault_of d)) (option_map (NotBuilt line) (first_unbuilt d.nodes))
+refusal line d = option_map (BadTopology line) (fault_of d)
 
 -- the topology is the first item
 abbrev pub topology_stop : List ItemView → Option Stop

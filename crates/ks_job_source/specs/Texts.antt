@@ -4,7 +4,7 @@ use Rattle.ks_plan.specs.declared.fault.TopoFault.{TopoFault}
 use Rattle.ks_plan.specs.declared.fault.TopoFault.TheVariants.{UnknownInput, WrongKind, DuplicateName, NotCopartitioned, TooMany, BadWindow, SinkOnly}
 use Rattle.ks_record_line.specs.Texts.{name_text, limit_text, fault_text}
 use Rattle.ks_job_source.specs.declared.stop.Stop.{Stop}
-use Rattle.ks_job_source.specs.declared.stop.Stop.TheVariants.{BadLine, BadTopology, NotBuilt}
+use Rattle.ks_job_source.specs.declared.stop.Stop.TheVariants.{BadLine, BadTopology}
 
 abbrev pub topology_text : TopoFault → List ℕ
 topology_text (UnknownInput name) = codes "10 UnknownInput " ++ name_text name
@@ -18,12 +18,10 @@ topology_text (SinkOnly name) = codes "16 SinkOnly " ++ name_text name
 abbrev pub stop_line : Stop → ℕ
 stop_line (BadLine line kind) = line
 stop_line (BadTopology line fault) = line
-stop_line (NotBuilt line name) = line
 
 abbrev pub stop_fault : Stop → List ℕ
 stop_fault (BadLine line kind) = fault_text kind
 stop_fault (BadTopology line fault) = topology_text fault
-stop_fault (NotBuilt line name) = codes "0 NotBuilt " ++ name_text name
 
 unfoldable pub bad_job_text : Stop → List ℕ
 bad_job_text s = codes "bad job line " ++ decimal (stop_line s) ++ codes ": " ++ stop_fault s ++ 10 ∷ []

@@ -54,7 +54,6 @@ fn line_of(stop: &Stop) -> u64
     match stop {
         Stop::BadLine { line, .. } => *line,
         Stop::BadTopology { line, .. } => *line,
-        Stop::NotBuilt { line, .. } => *line,
     }
 }
 
@@ -64,7 +63,6 @@ fn print_fault(alloc: Global, stop: &Stop) -> Result<Vec<u8>, AllocError>
     match stop {
         Stop::BadLine { kind, .. } => fault_text(alloc, kind),
         Stop::BadTopology { fault, .. } => print_topology_fault(alloc, fault),
-        Stop::NotBuilt { name, .. } => print_named(alloc, "0 NotBuilt ", name.as_slice()),
     }
 }
 

@@ -5,8 +5,6 @@ ghost use Rattle.ks_job.specs.Items.{item_views};
 ghost use Rattle.ks_job_source.specs.Stops.{refusal, topology_stop};
 
 use ks_job::{JobItem, JobKind};
-use ks_plan::first_unbuilt;
-use ks_row::Blob;
 use ks_topo::{Draft, TopoFault, first_fault};
 use std::alloc::{AllocError, Global};
 
@@ -17,22 +15,16 @@ pub enum Stop {
     BadLine { line: u64, kind: JobKind },
     /// What is wrong with the topology of this line.
     BadTopology { line: u64, fault: TopoFault },
-    /// The first node of a kind that isn't built, of the topology of this line.
-    NotBuilt { line: u64, name: Blob },
 }
 
-// Why a topology is refused: what is wrong with it comes first, then what isn't built.
+// Why a topology is refused: its first fault.
 fn refuse(alloc: Global, line: u64, draft: &Draft) -> Result<Option<Stop>, AllocError>
     ensures { IfOk result (λ o. o ≡ refusal line (draft_view draft.now)) }
 {
     if let Some(fault) = first_fault(alloc, draft)? {
         return Ok(Some(Stop::BadTopology { line, fault }));
     }
-    let Some(name) = first_unbuilt(draft.nodes.as_slice()) else {
-        return Ok(None);
-    };
-    let name = Blob::from_slice(alloc, name.as_str().as_bytes())?;
-    Ok(Some(Stop::NotBuilt { line, name }))
+    Ok(None)
 }
 
 /// Why the topology among these items is refused, where it has come and is.

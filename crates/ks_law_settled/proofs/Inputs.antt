@@ -1,5 +1,5 @@
 -- The records that a journal produces, and the input lists of a job.
-use Rattle.std.proofs.Common.{◌≡◌, ℕ, zero, suc, ◌+◌, ◌<◌, Bool, true, false, cond, ◌&&◌, List, length, [], ◌∷◌, map, slice_get, Some, refl, sym, ap, ap₂, subst, ◌∙◌, arith, nat_eq, ⊎_elim}
+use Rattle.std.proofs.Common.{◌≡◌, ℕ, suc, ◌+◌, ◌<◌, Bool, true, false, cond, ◌&&◌, List, length, [], ◌∷◌, map, Some, refl, sym, ap, ap₂, subst, ◌∙◌, arith, nat_eq, ⊎_elim}
 use Rattle.std.specs.Prelude.{◌==◌, slice_index}
 use Rattle.std.specs.List.{filter, AllByRecursion}
 use Rattle.std.proofs.lemmas.Option.{get_or_from_slice_get}
@@ -21,7 +21,7 @@ use Rattle.ks_history.specs.State.{State, Setup, IsPart, has_task}
 use Rattle.ks_history.specs.Step.{after}
 use Rattle.ks_history.specs.History.{Each, IsStep, Meets}
 use Rattle.ks_history.specs.Replay.{produced, produced_by}
-use Rattle.ks_def_tasks.specs.Messages.{Place, Rules}
+use Rattle.ks_def_tasks.specs.Messages.{Place, Rules, Item}
 use Rattle.ks_def_tasks.specs.Tasks.{part_of_key, item_of_input, stands_at, inputs_of}
 use Rattle.ks_def_tasks.specs.Bytes.{rec_of, part_id, records_at}
 use Rattle.ks_def_tasks.proofs.Names.{topic-is}
@@ -29,9 +29,8 @@ use Rattle.ks_law_quiescence.proofs.Fits.{Fits, NodeFits, EachFits, Sourced}
 use Rattle.ks_law_topology.specs.Work.{setup_of}
 use Rattle.ks_law_settled.specs.Jobs.{produced_part, produced_rec, produced_of, produces_by, produces, FitsInput, FitInputs}
 use Rattle.ks_def_tasks.proofs.Each.{AllOf, all_both}
-use Rattle.ks_law_settled.proofs.Topics.{IsTopic, same_part-is, input_number, input_topic}
+use Rattle.ks_law_settled.proofs.Topics.{IsTopic, IsPlace, same_part-is, input_number, input_topic}
 use Rattle.ks_law_settled.proofs.Tasks.{has_node_task}
-use Rattle.ks_law_settled.proofs.Steps.{FitsItem}
 use Rattle.ks_def_tasks.proofs.Numbered.{get_map}
 
 -- ---- what is produced at a partition
@@ -83,7 +82,7 @@ unmapped : (setup : Setup) (f : Input → PartId × Rec) (records : List Input) 
 unmapped setup f [] h = tt
 unmapped setup f (r ∷ rs) h = (h.0, unmapped setup f rs h.1)
 
-by_recursion : {A : Type 0} (P : A → Type 0) (xs : List A) → AllByRecursion P xs → AllOf P xs
+pub by_recursion : {A : Type 0} (P : A → Type 0) (xs : List A) → AllByRecursion P xs → AllOf P xs
 by_recursion P [] h = tt
 by_recursion P (x ∷ xs) h = (h.0, by_recursion P xs h.1)
 
@@ -167,45 +166,49 @@ module _ (rules : Rules) (p : Plan) where
   pub inputs_are : (journal : List Entry) (records : List Input) → produces journal ≡ map (produced_of rules p) records → FitInputs p records → (q : Place) → IsTopic p q.topic → produced journal (part_id p q) ≡ map rec_of (inputs_of rules p records q)
   inputs_are journal records made h q topic = produced_is journal (part_id p q) ∙ ap (records_at (part_id p q)) made ∙ same_inputs q topic records (by_recursion (FitsInput p) records h)
 
-  -- ---- they fit
-  module _ (all_fit : Fits p) where
-    abbrev stands_in : Input → Place
-    stands_in r = record { topic = InputTopic r.topic; part = part_of_key rules p (InputTopic r.topic) r.key }
+  -- ---- where one goes
+  abbrev pub stands_in : Input → Place
+  stands_in r = record { topic = InputTopic r.topic; part = part_of_key rules p (InputTopic r.topic) r.key }
 
-    one_fits : (r : Input) → FitsInput p r → IsPart (setup_of rules p) (produced_part rules p r) → is_read p r.topic ≡ true → FitsItem rules p (stands_in r) (item_of_input r)
-    one_fits r h part read =
+  -- ---- they hold what follows of each record, of the place where it stands and of what else is known of it
+  module _ (all_fit : Fits p) (Holds : Place → Item → Type 0) (Known : Input → Type 0) (holds : (r : Input) → FitsInput p r → Known r → IsPlace p (stands_in r) → Holds (stands_in r) (item_of_input r)) where
+    one_place : (r : Input) → FitsInput p r → IsPart (setup_of rules p) (produced_part rules p r) → is_read p r.topic ≡ true → IsPlace p (stands_in r)
+    one_place r h part read =
         let source = find_source p r.topic 0 p.kinds all_fit read in
         let topic : IsTopic p (InputTopic r.topic) = input_topic p r.topic h.topic read in
         let here : topic_at p r.topic ≡ Some (InputTopic r.topic) = ap (topic_at p) (sym (input_number p r.topic h.topic)) ∙ topic.there in
         let value : slice_index (map (parts_of_topic p) (topics_of p)) r.topic ≡ at p.counts r.topic =
         get_or_from_slice_get (map (parts_of_topic p) (topics_of p)) r.topic (at p.counts r.topic) 0 (get_map (parts_of_topic p) (topics_of p) r.topic (InputTopic r.topic) here) in
         let below : part_of_key rules p (InputTopic r.topic) r.key < at p.counts r.topic = omega (arith, part.part, value) in
-        let sub : reads p (InputTopic r.topic) ≡ sub_of p source.node = ap (λ b. cond b (sub_of p (source_of p r.topic)) (sub_count p)) read ∙ source.sub in (
-          record {
-            topic = topic;
-            task = subst (λ s. has_task (record { sub = s; part = part_of_key rules p (InputTopic r.topic) r.key }) (tasks p) ≡ true) (sym sub)
-                (has_node_task p all_fit source.node (part_of_key rules p (InputTopic r.topic) r.key) (omega (arith, source.below)) (omega (arith, below, source.parts)));
-            part = below;
-          },
-          (h.key, h.value),
-        )
+        let sub : reads p (InputTopic r.topic) ≡ sub_of p source.node = ap (λ b. cond b (sub_of p (source_of p r.topic)) (sub_count p)) read ∙ source.sub in
+        record {
+          topic = topic;
+          task = subst (λ s. has_task (record { sub = s; part = part_of_key rules p (InputTopic r.topic) r.key }) (tasks p) ≡ true) (sym sub)
+              (has_node_task p all_fit source.node (part_of_key rules p (InputTopic r.topic) r.key) (omega (arith, source.below)) (omega (arith, below, source.parts)));
+          part = below;
+        }
 
-    all_fits : (q : Place) (records : List Input) → AllOf (λ r. FitsInput p r × IsPart (setup_of rules p) (produced_part rules p r)) records → AllOf (FitsItem rules p q) (inputs_of rules p records q)
-    all_fits q [] h = tt
-    all_fits q (r ∷ rs) h = by (stands_at rules p q r) refl (all_fits q rs h.1)
+    abbrev Produced : Input → Type 0
+    Produced r = (FitsInput p r × Known r) × IsPart (setup_of rules p) (produced_part rules p r)
+
+    all_hold : (q : Place) (records : List Input) → AllOf Produced records → AllOf (Holds q) (inputs_of rules p records q)
+    all_hold q [] h = tt
+    all_hold q (r ∷ rs) h = by (stands_at rules p q r) refl (all_hold q rs h.1)
       where
-        by : (b : Bool) → stands_at rules p q r ≡ b → AllOf (FitsItem rules p q) (map item_of_input (filter (stands_at rules p q) rs)) →
-            AllOf (FitsItem rules p q) (map item_of_input (cond b (r ∷ filter (stands_at rules p q) rs) (filter (stands_at rules p q) rs)))
+        by : (b : Bool) → stands_at rules p q r ≡ b → AllOf (Holds q) (map item_of_input (filter (stands_at rules p q) rs)) →
+            AllOf (Holds q) (map item_of_input (cond b (r ∷ filter (stands_at rules p q) rs) (filter (stands_at rules p q) rs)))
         by true e more =
             let both = and_parts (same_topic (InputTopic r.topic) q.topic && is_read p r.topic) (nat_eq (part_of_key rules p (InputTopic r.topic) r.key) q.part) e in
             let first = and_parts (same_topic (InputTopic r.topic) q.topic) (is_read p r.topic) both.0 in
             let topic : InputTopic r.topic ≡ q.topic = topic-is (InputTopic r.topic) q.topic first.0 in
             let part : part_of_key rules p (InputTopic r.topic) r.key ≡ q.part = (Decides-eqb _ _).0 both.1 in
             let is : stands_in r ≡ q = λ i. record { topic = topic i; part = part i } in
-            (subst (λ (w : Place). FitsItem rules p w (item_of_input r)) is (one_fits r h.0.0 h.0.1 first.1), more)
+            (subst (λ (w : Place). Holds w (item_of_input r)) is (holds r h.0.0.0 h.0.0.1 (one_place r h.0.0.0 h.0.1 first.1)), more)
         by false e more = more
 
-    pub inputs_fit : (journal : List Entry) (s : State) (records : List Input) → Each IsStep (setup_of rules p) s journal → produces journal ≡ map (produced_of rules p) records → FitInputs p records → (q : Place) → AllOf (FitsItem rules p q) (inputs_of rules p records q)
-    inputs_fit journal s records legal made h q =
-        all_fits q records (all_both (FitsInput p) (λ r. IsPart (setup_of rules p) (produced_part rules p r)) records (by_recursion (FitsInput p) records h)
+    pub inputs_hold : (journal : List Entry) (s : State) (records : List Input) → Each IsStep (setup_of rules p) s journal → produces journal ≡ map (produced_of rules p) records → FitInputs p records → AllOf Known records →
+        (q : Place) → AllOf (Holds q) (inputs_of rules p records q)
+    inputs_hold journal s records legal made h known q =
+        all_hold q records (all_both (λ r. FitsInput p r × Known r) (λ r. IsPart (setup_of rules p) (produced_part rules p r)) records
+        (all_both (FitsInput p) Known records (by_recursion (FitsInput p) records h) known)
         (unmapped (setup_of rules p) (produced_of rules p) records (subst (ProducedParts (setup_of rules p)) made (produced_parts (setup_of rules p) s journal legal))))

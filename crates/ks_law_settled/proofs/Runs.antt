@@ -1,5 +1,5 @@
 -- A run over bytes and the decoded run of the same choices: the same stores and the same lists, spelled.
-use Rattle.std.proofs.Common.{◌≡◌, ◌+◌, ◌≤◌, Bool, true, false, cond, ◌&&◌, List, length, [], ◌∷◌, ◌++◌, map, Option, Some, None, fold, refl, sym, ap, ap₂, subst, ◌∙◌, arith, length-append}
+use Rattle.std.proofs.Common.{◌≡◌, ◌+◌, Bool, true, false, cond, ◌&&◌, List, [], ◌∷◌, ◌++◌, map, Option, Some, None, fold, refl, sym, ap, ap₂, subst, ◌∙◌}
 use Rattle.std.specs.List.{filter}
 use Rattle.std.proofs.lemmas.Bool.{and_parts}
 use Rattle.std.proofs.lemmas.Bool.Decides.{Decides-eqb}
@@ -8,7 +8,6 @@ use Rattle.ks_row.specs.declared.record.PartId.{PartId}
 use Rattle.ks_row.specs.declared.record.TaskId.{TaskId}
 use Rattle.ks_row.specs.Parts.{same_task}
 use Rattle.ks_plan.specs.declared.node.Topic.{Topic}
-use Rattle.ks_plan.specs.declared.node.Topic.TheVariants.{Input}
 use Rattle.ks_plan.specs.Plan.{Plan}
 use Rattle.ks_plan.specs.Layout.{topic_at, reads, sub_count}
 use Rattle.ks_plan.specs.Infos.{input_numbers}
@@ -25,51 +24,9 @@ use Rattle.ks_def_tasks.proofs.Told.{tells}
 use Rattle.ks_law_topology.specs.Work.{work_of}
 use Rattle.ks_def_tasks.proofs.Each.{AllOf, all_append}
 use Rattle.ks_law_settled.proofs.Topics.{At, IsTopic, same_part-is, read_topic}
+use Rattle.ks_law_settled.specs.Replayed.{topic_or, place_at, decoded_choice, decoded_choices}
 use Rattle.ks_law_settled.proofs.Agreeing.{IsNeat, MadeFits, StepAgrees, Agrees}
-
--- ---- the decoded choice
-abbrev pub topic_or : Option Topic → Topic
-topic_or None = Input 0
-topic_or (Some t) = t
-
-abbrev pub place_at : Plan → PartId → Place
-place_at p q = record { topic = topic_or (topic_at p q.topic); part = q.part }
-
-abbrev pub decoded_choice : Plan → (Option TaskId × PartId) → (Option TaskId × Place)
-decoded_choice p c = (c.0, place_at p c.1)
-
-abbrev pub decoded_choices : Plan → List (Option TaskId × PartId) → List (Option TaskId × Place)
-decoded_choices p cs = map {B = Option TaskId × Place} (decoded_choice p) cs
-
--- ---- one step, with its task named
-module _ {Task Place Store Item : Type 0} (m : Machine Task Place Store Item) where
-  abbrev took_by : RunState Task Place Store Item → Option Task → Place → Item → List Item → Task → RunState Task Place Store Item
-  took_by st s q x rest t =
-      let out = m.step t (st.stores t) q x in
-      record {
-        stores = λ u. cond (m.same_task u t) out.store (st.stores u);
-        waiting = λ r w. cond (same_channel m r w s q) rest (st.waiting r w) ++ cond (is_from m.same_task r t) (sent_to m w out.made) [];
-        given = λ r w. st.given r w ++ cond (is_from m.same_task r t) (sent_to m w out.made) [];
-        taken = st.taken ++ record { sender = s; place = q; item = x } ∷ [];
-        late = st.late + out.late;
-      }
-
-  -- each choice takes at most one record
-  taken_one : (st : RunState Task Place Store Item) (s : Option Task) (q : Place) (xs : List Item) → length (take_first m st s q xs).taken ≤ length st.taken + 1
-  taken_one st s q [] = omega arith
-  taken_one st s q (x ∷ rest) = omega (arith, length-append st.taken (record { sender = s; place = q; item = x } ∷ []))
-
-  pub taken_few : (st : RunState Task Place Store Item) (cs : List (Option Task × Place)) → length (fold (advance m) st cs).taken ≤ length st.taken + length cs
-  taken_few st [] = omega arith
-  taken_few st (c ∷ cs) = omega (arith, taken_few (advance m st c) cs, taken_one st c.0 c.1 (st.waiting c.0 c.1))
-
-map-append : {A B : Type 0} (f : A → B) (xs ys : List A) → map f (xs ++ ys) ≡ map f xs ++ map f ys
-map-append f [] ys = refl
-map-append f (x ∷ xs) ys = ap (λ l. f x ∷ l) (map-append f xs ys)
-
-map-cond : {A B : Type 0} (f : A → B) (b : Bool) (xs ys : List A) → map f (cond b xs ys) ≡ cond b (map f xs) (map f ys)
-map-cond f true xs ys = refl
-map-cond f false xs ys = refl
+use Rattle.ks_law_settled.proofs.Choices.{took_by, map-append, map-cond}
 
 abbrev ByteState : Type 0
 ByteState = RunState TaskId PartId ByteStores Rec
@@ -92,26 +49,40 @@ module _ (rules : Rules) (p : Plan) where
       ∙ ap (λ l. cond (same_place q e.0) (rec_of e.1 ∷ l) l) (bytes_sent q there es)
       ∙ sym (map-cond rec_of (same_place q e.0) (e.1 ∷ sent_to decoded q es) (sent_to decoded q es))
 
-  module _ (Fits : Place → Item → Type 0) (Held : TaskId → Store → Type 0) where
+  module _ (Fits Kept : Place → Item → Type 0) (Held : TaskId → ByteStores → Type 0) where
     -- the two states say the same of the lists that tasks read
     pub record Same (b : ByteState) (d : State) : Type 0 where
       pub stores : (t : TaskId) → d.stores t ≡ store_from p t.sub (b.stores t)
       pub neat : (t : TaskId) → IsNeat p t.sub (b.stores t)
-      pub held : (t : TaskId) → Held t (d.stores t)
+      pub held : (t : TaskId) → Held t (b.stores t)
+      -- what was ever written to a changelog, and how many pairs were late
+      pub logged : (r : Option TaskId) (q : Place) → At p q.topic → is_changelog q.topic ≡ true → b.given r (part_id p q) ≡ map rec_of (d.given r q)
+      pub kept : (r : Option TaskId) (q : Place) → is_changelog q.topic ≡ true → AllOf (Kept q) (d.given r q)
+      pub late : b.late ≡ d.late
       pub waits : (r : Option TaskId) (q : Place) → IsTopic p q.topic → b.waiting r (part_id p q) ≡ map rec_of (d.waiting r q)
       pub fit : (r : Option TaskId) (q : Place) → is_changelog q.topic ≡ false → AllOf (Fits q) (d.waiting r q)
 
-    sent_fits : (q : Place) → is_changelog q.topic ≡ false → (made : List (Place × Item)) → AllOf (MadeFits Fits) made → AllOf (Fits q) (sent_to decoded q made)
+    sent_fits : (q : Place) → is_changelog q.topic ≡ false → (made : List (Place × Item)) → AllOf (MadeFits Fits Kept) made → AllOf (Fits q) (sent_to decoded q made)
     sent_fits q log [] h = tt
     sent_fits q log (e ∷ es) h = by (same_place q e.0) refl (sent_fits q log es h.1)
       where
         by : (b : Bool) → same_place q e.0 ≡ b → AllOf (Fits q) (sent_to decoded q es) → AllOf (Fits q) (cond b (e.1 ∷ sent_to decoded q es) (sent_to decoded q es))
         by true f more =
             let is : q ≡ e.0 = (same_place-is q e.0).0 f in
-            (subst (λ (w : Place). Fits w e.1) (sym is) (h.0 (ap (λ (w : Place). is_changelog w.topic) (sym is) ∙ log)), more)
+            (subst (λ (w : Place). Fits w e.1) (sym is) (h.0.0 (ap (λ (w : Place). is_changelog w.topic) (sym is) ∙ log)), more)
         by false f more = more
 
-    module _ (agrees : Agrees rules p Fits Held)
+    sent_kept : (q : Place) → is_changelog q.topic ≡ true → (made : List (Place × Item)) → AllOf (MadeFits Fits Kept) made → AllOf (Kept q) (sent_to decoded q made)
+    sent_kept q log [] h = tt
+    sent_kept q log (e ∷ es) h = by (same_place q e.0) refl (sent_kept q log es h.1)
+      where
+        by : (b : Bool) → same_place q e.0 ≡ b → AllOf (Kept q) (sent_to decoded q es) → AllOf (Kept q) (cond b (e.1 ∷ sent_to decoded q es) (sent_to decoded q es))
+        by true f more =
+            let is : q ≡ e.0 = (same_place-is q e.0).0 f in
+            (subst (λ (w : Place). Kept w e.1) (sym is) (h.0.1 (ap (λ (w : Place). is_changelog w.topic) (sym is) ∙ log)), more)
+        by false f more = more
+
+    module _ (agrees : Agrees rules p Fits Kept Held)
         (held_back : (t : TaskId) (st : Store) (q : Place) (x : Item) → taker p q.topic ≡ t.sub → filter (is_sent p t) (step rules p t st q x).made ≡ (step rules p t st q x).made) where
       module _ (b : ByteState) (d : State) (h : Same b d) (s : Option TaskId) (q : Place) (topic : IsTopic p q.topic) (x : Item) (rest : List Item) (there : d.waiting s q ≡ x ∷ rest) where
         abbrev t : TaskId
@@ -129,8 +100,8 @@ module _ (rules : Rules) (p : Plan) where
         list_fits : AllOf (Fits q) (x ∷ rest)
         list_fits = subst (AllOf (Fits q)) there (h.fit s q topic.log)
 
-        one : StepAgrees rules p Fits Held t (b.stores t) q x
-        one = agrees.each t (b.stores t) q x topic refl refl (h.neat t) (subst (Held t) (h.stores t) (h.held t)) list_fits.0
+        one : StepAgrees rules p Fits Kept Held t (b.stores t) q x
+        one = agrees.each t (b.stores t) q x topic refl refl (h.neat t) (h.held t) list_fits.0
 
         same_out : out ≡ step rules p t st q x
         same_out = ap (λ (l : Store). step rules p t l q x) (h.stores t)
@@ -161,12 +132,32 @@ module _ (rules : Rules) (p : Plan) where
                 (tells rules p t (b.stores t) (part_id p q) (rec_of x) n).other here ∙ h.neat t n here
             by false e n own = h.neat u n own
 
-        held : (u : TaskId) → Held u (cond (same_task u t) out.store (d.stores u))
+        held : (u : TaskId) → Held u (cond (same_task u t) byte_out.store (b.stores u))
         held u = by (same_task u t) refl
           where
-            by : (c : Bool) → same_task u t ≡ c → Held u (cond c out.store (d.stores u))
-            by true e = subst (λ v. Held v out.store) (sym ((same_task-is u t).0 e)) (subst (λ (o : Outcome Place Store Item). Held t o.store) (sym same_out) one.held)
+            by : (c : Bool) → same_task u t ≡ c → Held u (cond c byte_out.store (b.stores u))
+            by true e = subst (λ v. Held v byte_out.store) (sym ((same_task-is u t).0 e)) one.held
             by false e = h.held u
+
+        logged : (r : Option TaskId) (w : Place) → At p w.topic → is_changelog w.topic ≡ true →
+            b.given r (part_id p w) ++ cond (is_from same_task r t) (sent_to bytes (part_id p w) byte_out.made) [] ≡ map rec_of (d.given r w ++ cond (is_from same_task r t) (sent_to decoded w out.made) [])
+        logged r w there log =
+            let sent : sent_to bytes (part_id p w) byte_out.made ≡ map rec_of (sent_to decoded w out.made) = ap (sent_to bytes (part_id p w)) made_is ∙ bytes_sent w there out.made in
+            let from = is_from same_task r t in
+            ap₂ (λ (k l : List Rec). k ++ cond from l []) (h.logged r w there log) sent
+            ∙ ap (λ (l : List Rec). map rec_of (d.given r w) ++ l) (sym (map-cond rec_of from (sent_to decoded w out.made) []))
+            ∙ sym (map-append rec_of (d.given r w) (cond from (sent_to decoded w out.made) []))
+
+        kept : (r : Option TaskId) (w : Place) → is_changelog w.topic ≡ true → AllOf (Kept w) (d.given r w ++ cond (is_from same_task r t) (sent_to decoded w out.made) [])
+        kept r w log = all_append (Kept w) (d.given r w) (cond (is_from same_task r t) (sent_to decoded w out.made) []) (h.kept r w log) (by (is_from same_task r t))
+          where
+            by : (c : Bool) → AllOf (Kept w) (cond c (sent_to decoded w out.made) [])
+            by true = sent_kept w log out.made (subst (λ (o : Outcome Place Store Item). AllOf (MadeFits Fits Kept) o.made) (sym same_out) one.fit)
+            by false = tt
+
+        late : b.late + byte_out.late ≡ d.late + out.late
+        late = ap₂ (λ m n. m + n) h.late
+            (ap (λ (o : Outcome PartId ByteStores Rec). o.late) (is_decoded rules p t (b.stores t) (part_id p q) (rec_of x) q.topic x.message taken) ∙ ap (λ (o : Outcome Place Store Item). o.late) (sym same_out))
 
         waits : (r : Option TaskId) (w : Place) → IsTopic p w.topic →
             cond (same_channel bytes r (part_id p w) s (part_id p q)) (map rec_of rest) (b.waiting r (part_id p w)) ++ cond (is_from same_task r t) (sent_to bytes (part_id p w) byte_out.made) []
@@ -190,11 +181,11 @@ module _ (rules : Rules) (p : Plan) where
             first false e = h.fit r w log
 
             second : (c : Bool) → AllOf (Fits w) (cond c (sent_to decoded w out.made) [])
-            second true = sent_fits w log out.made (subst (λ (o : Outcome Place Store Item). AllOf (MadeFits Fits) o.made) (sym same_out) one.fit)
+            second true = sent_fits w log out.made (subst (λ (o : Outcome Place Store Item). AllOf (MadeFits Fits Kept) o.made) (sym same_out) one.fit)
             second false = tt
 
         same_taken : Same (took_by bytes b s (part_id p q) (rec_of x) (map rec_of rest) t) (took_by decoded d s q x rest t)
-        same_taken = record { stores = stores; neat = neat; held = held; waits = waits; fit = fit }
+        same_taken = record { stores = stores; neat = neat; held = held; logged = logged; kept = kept; late = late; waits = waits; fit = fit }
 
       same_reader : (q : Place) → At p q.topic → reader_of (work_of rules p) (part_id p q) ≡ decoded.reader q
       same_reader q there = ap (λ (o : Option Topic). record { sub = taker_at p o; part = q.part }) there
@@ -224,13 +215,17 @@ module _ (rules : Rules) (p : Plan) where
 
       -- at the start, where the inputs are the same
       pub same_start : (byte_inputs : PartId → List Rec) (inputs : Place → List Item) → ((q : Place) → IsTopic p q.topic → byte_inputs (part_id p q) ≡ map rec_of (inputs q)) → ((q : Place) → AllOf (Fits q) (inputs q)) →
+          ((q : Place) → At p q.topic → is_changelog q.topic ≡ true → byte_inputs (part_id p q) ≡ []) → ((q : Place) → is_changelog q.topic ≡ true → inputs q ≡ []) →
           Same (initial bytes byte_inputs) (initial decoded inputs)
-      same_start byte_inputs inputs same fits = record {
+      same_start byte_inputs inputs same fits no_bytes no_items = record {
         stores = λ t. agrees.begin t.sub;
         neat = λ t n e. refl;
         held = agrees.start;
         waits = waiting;
         fit = fitting;
+        logged = logs;
+        kept = none_kept;
+        late = refl;
       }
         where
           waiting : (r : Option TaskId) (q : Place) → IsTopic p q.topic → of_input bytes r (byte_inputs (part_id p q)) ≡ map rec_of (of_input decoded r (inputs q))
@@ -240,3 +235,11 @@ module _ (rules : Rules) (p : Plan) where
           fitting : (r : Option TaskId) (q : Place) → is_changelog q.topic ≡ false → AllOf (Fits q) (of_input decoded r (inputs q))
           fitting None q log = fits q
           fitting (Some u) q log = tt
+
+          logs : (r : Option TaskId) (q : Place) → At p q.topic → is_changelog q.topic ≡ true → of_input bytes r (byte_inputs (part_id p q)) ≡ map rec_of (of_input decoded r (inputs q))
+          logs None q there log = no_bytes q there log ∙ sym (ap (map rec_of) (no_items q log))
+          logs (Some u) q there log = refl
+
+          none_kept : (r : Option TaskId) (q : Place) → is_changelog q.topic ≡ true → AllOf (Kept q) (of_input decoded r (inputs q))
+          none_kept None q log = subst (AllOf (Kept q)) (sym (no_items q log)) tt
+          none_kept (Some u) q log = tt

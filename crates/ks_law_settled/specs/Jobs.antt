@@ -1,5 +1,5 @@
--- What a settled journal of a job answers: the folds of its changelogs are the query.
-use Rattle.std.specs.Prelude.{◌≡◌, ℕ, ◌<◌, ◌≤◌, ◌^◌, length, List, [], ◌∷◌, map}
+-- A job with its rules, and the journals that have done it.
+use Rattle.std.specs.Prelude.{◌≡◌, ℕ, ◌<◌, ◌≤◌, ◌^◌, true, length, List, [], ◌∷◌, map}
 use Rattle.std.specs.List.{AllByRecursion}
 use Rattle.ks_row.specs.Texts.{IsKey}
 use Rattle.ks_row.specs.Spelling.{FitsRow}
@@ -7,9 +7,9 @@ use Rattle.ks_row.specs.declared.record.Rec.{Rec}
 use Rattle.ks_row.specs.declared.record.PartId.{PartId}
 use Rattle.ks_plan.specs.Drafts.{DraftView}
 use Rattle.ks_plan.specs.Plan.{Plan, plan_of}
+use Rattle.ks_plan.specs.Layout.{parts_of}
 use Rattle.ks_plan.specs.declared.node.Topic.TheVariants.{Input as InputTopic}
 use Rattle.ks_query.specs.Streams.{Key, Input}
-use Rattle.ks_query.specs.Printed.{job_tables}
 use Rattle.ks_def_tasks.specs.Messages.{Rules}
 use Rattle.ks_def_tasks.specs.Tasks.{part_of_key, item_of_input}
 use Rattle.ks_def_tasks.specs.Bytes.{rec_of}
@@ -22,8 +22,8 @@ use Rattle.ks_history.specs.Count.{records_in}
 use Rattle.ks_law_quiescence.specs.WellFormed.{IsWellFormed}
 use Rattle.ks_law_topology.specs.Spelled.{IfThere}
 use Rattle.ks_law_topology.specs.Work.{setup_of}
-use Rattle.ks_plan.specs.Built.{IsBuilt}
-use Rattle.ks_law_settled.specs.Folded.{folded_tables}
+use Rattle.ks_law_kinds.specs.OfKind.{is_in_range}
+use Rattle.ks_law_kinds.specs.Fitting.{FitsPlan, FitsRules}
 
 -- ---- the job's records, as they are produced
 -- in the partition of its key, without a key in partition 0
@@ -59,16 +59,27 @@ FitInputs p records = AllByRecursion (FitsInput p) records
 abbrev pub HasParts : Rules → Type 0
 HasParts rules = (k : Key) (n : ℕ) → 1 ≤ n → rules.part k n < n
 
--- ---- the law
+-- each node has a partition
+abbrev pub NodesHaveParts : Plan → Type 0
+NodesHaveParts p = (n : ℕ) → n < length p.kinds → 1 ≤ parts_of p n
+
+-- times of a job's range
+abbrev pub InRange : List Input → Type 0
+InRange records = AllByRecursion (λ (r : Input). is_in_range r.time ≡ true) records
+
+-- ---- a job with its rules: keys and rows have a spelling, hashes have 128 bits, and each key has a partition
+pub record IsJob (rules : Rules) (d : DraftView) (records : List Input) : Type 0 where
+  pub parts : HasParts rules
+  pub hashes : FitsRules rules
+  pub well : IsWellFormed d
+  pub have : NodesHaveParts (plan_of d)
+  pub spelled : FitsPlan (plan_of d)
+  pub inputs : FitInputs (plan_of d) records
+  pub range : InRange records
+
 -- a journal over a well-formed topology that is legal and faithful, has produced exactly these records, and is settled
 pub record IsDone (rules : Rules) (d : DraftView) (records : List Input) (journal : List Entry) : Type 0 where
   pub history : IsHistory (setup_of rules (plan_of d)) journal
   pub produced : produces journal ≡ map (produced_of rules (plan_of d)) records
   pub settled : IsSettled (setup_of rules (plan_of d)) (at (setup_of rules (plan_of d)) journal)
   pub few : records_in (setup_of rules (plan_of d)) journal < 2 ^ 48
-
--- its folds are the query's tables
-abbrev pub TablesAreTheQuery : Type 0
-TablesAreTheQuery = (rules : Rules) (d : DraftView) (records : List Input) (journal : List Entry) → HasParts rules → IsWellFormed d → IsBuilt (plan_of d) →
-    FitInputs (plan_of d) records → IsDone rules d records journal →
-    folded_tables d (at (setup_of rules (plan_of d)) journal) ≡ job_tables d records

@@ -1,4 +1,6 @@
 pub mod Folded
 pub mod Jobs
-pub mod Plain
+pub mod Collision
+pub mod Replayed
+pub mod Settled
 pub mod Routes

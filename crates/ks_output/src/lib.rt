@@ -4,5 +4,5 @@
 mod printing;
 mod writing;
 
-pub use printing::{print_bad_words, print_read_fault, print_settled};
+pub use printing::{print_bad_words, print_collision, print_late, print_read_fault, print_settled};
 pub use writing::write_output;

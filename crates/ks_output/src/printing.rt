@@ -3,9 +3,10 @@ ghost use Rattle.std.specs.Prelude.{◌≡◌, ◌++◌, IfOk, string_bytes};
 ghost use Rattle.std.specs.List.{flat_map};
 ghost use Rattle.std.specs.Thread.{IsSync};
 ghost use Rattle.ks_query.specs.Printed.{row_line, table_text, tables_text};
-ghost use Rattle.ks_output.specs.Texts.{settled_text, bad_words_text, read_fault_text};
+ghost use Rattle.ks_output.specs.Texts.{settled_text, late_text, collision_text, bad_words_text, read_fault_text};
 
 use ks_query::{Table, TableRow, print_head, print_rows};
+use ks_record_line::name_text;
 use std::alloc::{AllocError, Global};
 use std::thread::{Threads, join};
 
@@ -92,6 +93,47 @@ pub fn print_settled<R: Threads + Sync>(
 {
     let mut text = String::from_str(alloc, "settled\n")?;
     text.push_str(&print_tables(rt, alloc, tables)?)?;
+    Ok(text.into_bytes())
+}
+
+/// How many pairs of a record and a window were late, and then the tables, which are let go. Want of memory is the one error.
+#[tactic(auto, unfolding(crate::specs::Texts::late_text))]
+pub fn print_late<R: Threads + Sync>(
+    rt: &R,
+    alloc: Global,
+    late: u64,
+    tables: Vec<Table>,
+) -> Result<Vec<u8>, AllocError>
+    ensures { IfOk result (λ v. v.items ≡ late_text late tables.items) }
+{
+    let mut text = String::from_str(alloc, "late ")?;
+    text.push_str(&late.to_string(alloc)?)?;
+    text.push_str("\n")?;
+    text.push_str(&print_tables(rt, alloc, tables)?)?;
+    Ok(text.into_bytes())
+}
+
+/// That two rows of a left key of a join on a foreign key have one hash: the join's name, the key, and the offsets of the two records in
+/// the left table's changelog. Want of memory is the one error.
+#[tactic(auto, unfolding(crate::specs::Texts::collision_text))]
+pub fn print_collision(
+    alloc: Global,
+    node: &str,
+    key: &[u8],
+    first: u64,
+    second: u64,
+) -> Result<Vec<u8>, AllocError>
+    ensures { IfOk result (λ v. v.items ≡ collision_text node.now key.now first second) }
+{
+    let mut text = String::from_str(alloc, "collision ")?;
+    text.push_str(node)?;
+    text.push_str(" ")?;
+    text.push_str(&name_text(alloc, key)?)?;
+    text.push_str(" ")?;
+    text.push_str(&first.to_string(alloc)?)?;
+    text.push_str(" ")?;
+    text.push_str(&second.to_string(alloc)?)?;
+    text.push_str("\n")?;
     Ok(text.into_bytes())
 }
 

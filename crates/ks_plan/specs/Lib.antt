@@ -3,6 +3,5 @@ pub mod Plan
 pub mod Layout
 pub mod Infos
 pub mod Faults
-pub mod Built
 pub mod Resolve
 pub mod Wired

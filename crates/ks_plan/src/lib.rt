@@ -4,7 +4,6 @@
 mod draft;
 mod fault;
 mod internal;
-mod kinds;
 mod layout;
 mod names;
 mod node;
@@ -16,7 +15,6 @@ mod topics;
 pub use draft::{Draft, NodeDraft, Op};
 pub use fault::TopoFault;
 pub use internal::{internal_name, push_changelogs, push_through};
-pub use kinds::{drafts_are_built, first_unbuilt, is_built};
 pub use layout::{number_at, push_parts, shape_of, sub_of};
 pub use names::{is_before, is_listed, is_node, is_source, is_topic};
 pub use node::{Node, Role, Topic, TopicInfo, Wiring};

@@ -56,7 +56,7 @@ have_sorted ys [] h g = h
 have_sorted ys (t ∷ ts) h g = have_sorted (with_topic ys t) ts (have_with ys t h g.0) g.1
 
 -- ---- counts
-record IsCount (n : ℕ) : Type 0 where
+pub record IsCount (n : ℕ) : Type 0 where
   pub some : 1 ≤ n
   pub most : n ≤ 64
 
@@ -72,7 +72,7 @@ count_at (t ∷ ts) (suc i) h e l = count_at ts i h.1 (neither (is_past t.1) (an
 pub counts_length : (d : DraftView) → length (plan_of d).counts ≡ length d.topics
 counts_length d = let e = sorted_length_from [] d.topics in let f = length-map (sorted_topics d) (λ (x : Name × ℤ). natural x.1) in omega arith
 
-plan_count : (d : DraftView) (i : ℕ) → fault_of d ≡ None → HavePartitions d.topics → i < length (plan_of d).counts → IsCount (at (plan_of d).counts i)
+pub plan_count : (d : DraftView) (i : ℕ) → fault_of d ≡ None → HavePartitions d.topics → i < length (plan_of d).counts → IsCount (at (plan_of d).counts i)
 plan_count d i e h l =
     let sizes = (none_of (first_fitting (size_lines d)) (parts_fault d) e).0 in
     let topics = no_line (nat_lt 64 (length d.topics)) (TooMany (codes "topics") 64) ((first_fitting ((any_past d.topics, TooMany (codes "partitions") 64) ∷ (nat_lt 64 (length d.nodes), TooMany (codes "nodes") 64) ∷ []))) sizes in

@@ -4,7 +4,11 @@ use Rattle.std.specs.Prelude.{Option, Some, None, IfSome, Ok, Err}
 use Rattle.std.specs.Io.KnownBytes.{IsAtEnd}
 use Rattle.std.specs.declared.vec.Vec.{Vec}
 use Rattle.std.specs.declared.alloc.Global.{Global}
+use Rattle.ks_edge.specs.Causes.{Rose}
 use Rattle.ks_plan.specs.Drafts.{DraftView}
+use Rattle.ks_plan.specs.Plan.{plan_of}
+use Rattle.ks_query.specs.Streams.{Input}
+use Rattle.ks_query.specs.Grace.{IsWithinGrace}
 use Rattle.ks_def_tasks.specs.Messages.{Rules}
 use Rattle.ks_history.specs.State.{Setup}
 use Rattle.ks_history.specs.declared.journal.Entry.{Entry}
@@ -14,13 +18,15 @@ use Rattle.ks_job.specs.declared.judge.JobItem.{JobItem}
 use Rattle.ks_job.specs.Reader.{whole}
 use Rattle.ks_law_inputs.specs.Records.{records_of}
 use Rattle.ks_law_settled.specs.Jobs.{produces}
-use Rattle.ks_run.specs.Journals.{draft_in, placed_records, IsSettledRun, HasJournal}
+use Rattle.ks_run.specs.Told.{TellsLate, TellsCollision}
+use Rattle.ks_run.specs.Journals.{draft_in, placed_records, SettlesBytes, HasJournal, IsInTime, IsWithoutCollision}
 use Rattle.ks_job_source.specs.declared.stop.Stop.{Stop}
 use Rattle.ks_job_source.specs.Stops.{stop_of}
 use Rattle.ks_job_source.specs.Texts.{bad_job_text}
 use Rattle.ks_job_source.specs.Reading.{Read}
 use Rattle.ks_run.specs.Settling.{SettlesItems}
 use Rattle.ks_run.specs.Answers.{IsRefused, IsJudged}
+use Rattle.ks_run.proofs.Told.{Tells, tells}
 
 abbrev some_draft : Option DraftView → DraftView
 some_draft None = record { app = []; topics = []; nodes = []; print = [] }
@@ -62,13 +68,13 @@ no_journal rules left journal e = subst (HasJournal rules left) (sym e) (nothing
 is_topology : (o : Option DraftView) (d : DraftView) → o ≡ Some d → IfSome o (λ e. e ≡ d)
 is_topology o d h = rw h refl
 
-settled_journal : (rules : Rules) (left : Option (List ℕ)) (text : List ℕ) (journal : List Entry) → IsSettledRun rules left text journal → HasJournal rules left journal
-settled_journal rules left text journal h = record {
+settled_journal : (rules : Rules) (left : Option (List ℕ)) (d : DraftView) (records : List Input) (journal : List Entry) → SettlesBytes rules left d records journal → HasJournal rules left journal
+settled_journal rules left d records journal h = record {
   bytes = h.bytes;
   known = h.known;
-  draft = h.draft;
-  topology = is_topology (draft_in (whole h.bytes).items) h.draft h.topology;
-  records = h.records;
+  draft = d;
+  topology = is_topology (draft_in (whole h.bytes).items) d h.topology;
+  records = records;
   inputs = h.inputs;
   history = h.kept.history;
   front = ([], sym h.kept.produced ∙ sym (append-nil (produces journal)));
@@ -77,36 +83,101 @@ settled_journal rules left text journal h = record {
 pub judged_journal : (rules : Rules) (old new : Option (List ℕ)) (before now status : ℕ) (text : List ℕ) (journal : List Entry) → IsJudged rules old new before now status text journal → HasJournal rules old journal
 judged_journal rules old new before now status text journal h = by h.only
   where
-    by : (status ≡ 0) ⊎ (status ≡ 2) ⊎ (status ≡ 6) → HasJournal rules old journal
-    by (inl e) = settled_journal rules old text journal (h.settled e).2
+    by : (status ≡ 0) ⊎ (status ≡ 2) ⊎ (status ≡ 3) ⊎ (status ≡ 5) ⊎ (status ≡ 6) → HasJournal rules old journal
+    by (inl e) = let k = (h.settled e).2 in settled_journal rules old k.draft k.records journal k.settles
     by (inr (inl e)) = no_journal rules old journal (h.bad_job e).2
-    by (inr (inr e)) = no_journal rules old journal (h.read_fault e).3
+    by (inr (inr (inl e))) = let k = (h.late e).2 in settled_journal rules old k.draft k.records journal k.settles
+    by (inr (inr (inr (inl e)))) = let k = (h.collision e).2 in settled_journal rules old k.draft k.records journal k.settles
+    by (inr (inr (inr (inr e)))) = no_journal rules old journal (h.read_fault e).3
 
 pub bad_job_read : (left : Option (List ℕ)) (stop : Stop) (text : List ℕ) → Read left (Err stop) → text ≡ bad_job_text stop → IsRefused left text
 bad_job_read left stop text h e = record { bytes = h.bytes; known = h.known; bad = (stop, h.ends, e) }
 
-pub settled_read : (rules : Rules) (left : Option (List ℕ)) (r : Vec JobItem Global) (text : List ℕ) (journal : List Entry) → Read left (Ok r) → SettlesItems rules (item_views r.items) text journal →
-    IsSettledRun rules left text journal
-settled_read rules left r text journal h a = by (item_views r.items) h.ends.1 a
+-- ---- what is judged
+pub judged_bad_job : (rules : Rules) (old new : Option (List ℕ)) (before now : ℕ) (text : List ℕ) (journal : List Entry) → now ≡ before → IsRefused old text → journal ≡ [] → IsJudged rules old new before now 2 text journal
+judged_bad_job rules old new before now text journal k h j =
+    record { read_fault = λ e. absurd (cc); bad_job = λ e. (k, h, j); settled = λ e. absurd (cc); late = λ e. absurd (cc); collision = λ e. absurd (cc); only = inr (inl refl) }
+
+judged_told : (rules : Rules) (old new : Option (List ℕ)) (before now : ℕ) (d : DraftView) (records : List Input) (status : ℕ) (text : List ℕ) (journal : List Entry) → now ≡ before → IsAtEnd new →
+    SettlesBytes rules old d records journal → Tells rules d records status text journal → IsJudged rules old new before now status text journal
+judged_told rules old new before now d records status text journal k z h (inl t) = subst (λ s. IsJudged rules old new before now s text journal) (sym t.0) (record {
+  read_fault = λ e. absurd (cc);
+  bad_job = λ e. absurd (cc);
+  settled = λ e. (k, z, record { draft = d; records = records; settles = h; query = t.1 });
+  late = λ e. absurd (cc);
+  collision = λ e. absurd (cc);
+  only = inl refl;
+})
+judged_told rules old new before now d records status text journal k z h (inr (inl t)) = subst (λ s. IsJudged rules old new before now s text journal) (sym t.0) (record {
+  read_fault = λ e. absurd (cc);
+  bad_job = λ e. absurd (cc);
+  settled = λ e. absurd (cc);
+  late = λ e. (k, z, record { draft = d; records = records; settles = h; late = t.1 });
+  collision = λ e. absurd (cc);
+  only = inr (inr (inl refl));
+})
+judged_told rules old new before now d records status text journal k z h (inr (inr t)) = subst (λ s. IsJudged rules old new before now s text journal) (sym t.0) (record {
+  read_fault = λ e. absurd (cc);
+  bad_job = λ e. absurd (cc);
+  settled = λ e. absurd (cc);
+  late = λ e. absurd (cc);
+  collision = λ e. (k, z, record { draft = d; records = records; settles = h; collision = t.1 });
+  only = inr (inr (inr (inl refl)));
+})
+
+-- a job that was read to its end, and what its run answers
+pub judged_settled : (rules : Rules) (old new : Option (List ℕ)) (before now : ℕ) (r : Vec JobItem Global) (status : ℕ) (text : List ℕ) (journal : List Entry) → now ≡ before → IsAtEnd new → Read old (Ok r) →
+    SettlesItems rules (item_views r.items) status text journal → IsJudged rules old new before now status text journal
+judged_settled rules old new before now r status text journal k z h a = by (item_views r.items) h.ends.1 a
   where
-    by : (is : List ItemView) → is ≡ (whole h.bytes).items → SettlesItems rules is text journal → IsSettledRun rules left text journal
+    by : (is : List ItemView) → is ≡ (whole h.bytes).items → SettlesItems rules is status text journal → IsJudged rules old new before now status text journal
     by [] i a = absurd a
     by (RecordTo t r ∷ is) i a = absurd a
-    by (TopologyAt line d ∷ is) i a = record {
+    by (TopologyAt line d ∷ is) i a = judged_told rules old new before now d (records_of is) status text journal k z (record {
       bytes = h.bytes;
       known = h.known;
       unstopped = h.ends.0;
-      draft = d;
       topology = ap draft_in (sym i);
-      records = records_of is;
       inputs = ap records_of i;
-      printed = a.printed;
       kept = a.kept;
-    }
+    }) (tells rules d (records_of is) status text journal a.kept a.told)
 
--- ---- what is judged
-pub judged_settled : (rules : Rules) (old new : Option (List ℕ)) (before now : ℕ) (text : List ℕ) (journal : List Entry) → now ≡ before → IsAtEnd new → IsSettledRun rules old text journal → IsJudged rules old new before now 0 text journal
-judged_settled rules old new before now text journal k z h = record { read_fault = λ e. absurd (cc); bad_job = λ e. absurd (cc); settled = λ e. (k, z, h); only = inl refl }
+-- ---- jobs that are always answered by their query
+of_known : {x y : List ℕ} → Some x ≡ Some y → x ≡ y
+of_known e = cc
 
-pub judged_bad_job : (rules : Rules) (old new : Option (List ℕ)) (before now : ℕ) (text : List ℕ) (journal : List Entry) → now ≡ before → IsRefused old text → journal ≡ [] → IsJudged rules old new before now 2 text journal
-judged_bad_job rules old new before now text journal k h j = record { read_fault = λ e. absurd (cc); bad_job = λ e. (k, h, j); settled = λ e. absurd (cc); only = inr (inl refl) }
+known_is : (left : Option (List ℕ)) (bytes known : List ℕ) → left ≡ Some bytes → IfSome left (λ b. b ≡ known) → known ≡ bytes
+known_is None bytes known e k = absurd (cc)
+known_is (Some b) bytes known e k = sym k ∙ of_known e
+
+not_some : {A : Type 0} {o : Option A} {x : A} → o ≡ None → o ≡ Some x → ⊥
+not_some e f = absurd (cc)
+
+module _ (rules : Rules) (left : Option (List ℕ)) (valid : IsInTime left) where
+  none_refused : (text : List ℕ) → IsRefused left text → ⊥
+  none_refused text h = not_some (subst (λ b. stop_of (whole b) ≡ None) (sym (known_is left valid.bytes h.bytes valid.known h.known)) valid.unstopped) h.bad.1
+
+  module _ (d : DraftView) (records : List Input) (journal : List Entry) (h : SettlesBytes rules left d records journal) where
+    same : h.bytes ≡ valid.bytes
+    same = known_is left valid.bytes h.bytes valid.known h.known
+
+    topology : draft_in (whole valid.bytes).items ≡ Some d
+    topology = subst (λ b. draft_in (whole b).items ≡ Some d) same h.topology
+
+    none_late : (text : List ℕ) → TellsLate rules d records text journal → ⊥
+    none_late text t = t.over (subst (IsWithinGrace (plan_of d)) (sym (h.inputs ∙ ap (λ b. records_of (whole b).items) same)) (valid.in_time d topology))
+
+    none_collide : IsWithoutCollision rules left journal → (text : List ℕ) → TellsCollision rules d text journal → ⊥
+    none_collide alone text t = not_some (alone valid.bytes valid.known d topology) t.first
+
+-- a device's count of faults did not rise, all that else could have been answered
+pub judged_query : (rules : Rules) (old new : Option (List ℕ)) (before now status : ℕ) (text : List ℕ) (journal : List Entry) → IsInTime old → IsWithoutCollision rules old journal → (Rose before now → ⊥) →
+    IsJudged rules old new before now status text journal → status ≡ 0
+judged_query rules old new before now status text journal valid alone calm h = by h.only
+  where
+    by : (status ≡ 0) ⊎ (status ≡ 2) ⊎ (status ≡ 3) ⊎ (status ≡ 5) ⊎ (status ≡ 6) → status ≡ 0
+    by (inl e) = e
+    by (inr (inl e)) = absurd (none_refused rules old valid text (h.bad_job e).1)
+    by (inr (inr (inl e))) = let k = (h.late e).2 in absurd (none_late rules old valid k.draft k.records journal k.settles text k.late)
+    by (inr (inr (inr (inl e)))) = let k = (h.collision e).2 in absurd (none_collide rules old valid k.draft k.records journal k.settles alone text k.collision)
+    by (inr (inr (inr (inr e)))) = absurd (calm (h.read_fault e).0)

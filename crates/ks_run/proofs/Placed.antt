@@ -1,7 +1,8 @@
 -- A job's records as the cluster produces them.
-use Rattle.std.proofs.Common.{◌≡◌, ℕ, ◌<◌, List, [], ◌∷◌, length, map, refl, sym, ap, ap₂, subst, ◌∙◌, arith}
+use Rattle.std.proofs.Common.{◌≡◌, ℕ, ◌<◌, ◌≤◌, ◌^◌, true, List, [], ◌∷◌, length, map, refl, sym, ap, ap₂, subst, ◌∙◌, arith}
 use Rattle.std.specs.Prelude.{Option, Some, None, IfSome, option_map, slice_index, bit_and}
 use Rattle.std.proofs.Math.Nat.{mod-lt}
+use Rattle.std.proofs.lemmas.Bool.{le-leb}
 use Rattle.ks_row.specs.Texts.{IsKey}
 use Rattle.ks_row.specs.Spelling.{spelling, FitsRow}
 use Rattle.ks_row.specs.Reading.{row_from}
@@ -15,8 +16,9 @@ use Rattle.ks_plan.specs.Layout.{topics_of, parts_of_topic}
 use Rattle.ks_law_topology.specs.Spelled.{IfThere}
 use Rattle.ks_job.specs.Items.{ItemView, TopologyAt, RecordTo}
 use Rattle.ks_law_inputs.specs.Records.{row_in, input_of, records_of, IsRowBytes, IsRecord, AreRecords}
-use Rattle.ks_task.specs.Built.{rules_of}
-use Rattle.ks_law_settled.specs.Jobs.{produced_of, FitInputs, HasParts}
+use Rattle.ks_nodes.specs.Rules.{rules_of}
+use Rattle.ks_law_kinds.specs.OfKind.{is_in_range}
+use Rattle.ks_law_settled.specs.Jobs.{produced_of, FitInputs, InRange, HasParts}
 use Rattle.ks_run.specs.Producing.{part_at, placed, placed_all}
 use Rattle.ks_run.specs.Journals.{placed_records}
 use Rattle.ks_run.proofs.Counts.{part_count, counts_length}
@@ -64,3 +66,13 @@ all_fit p (RecordTo topic r ∷ is) h =
 
 pub records_fit : (d : DraftView) (is : List ItemView) → AreRecords (length d.topics) is → FitInputs (plan_of d) (records_of is)
 records_fit d is h = all_fit (plan_of d) is (subst (λ n. AreRecords n is) (sym (counts_length d)) h)
+
+-- ---- their timestamps
+time_in_range : (t : ℕ) → t ≤ 2 ^ 53 → is_in_range t ≡ true
+unfolding is_in_range
+time_in_range t h = le-leb t (2 ^ 53) h
+
+pub records_in_range : (topics : ℕ) (is : List ItemView) → AreRecords topics is → InRange (records_of is)
+records_in_range topics [] h = tt
+records_in_range topics (TopologyAt line d ∷ is) h = absurd h
+records_in_range topics (RecordTo topic r ∷ is) h = (time_in_range r.ts h.0.range, records_in_range topics is h.1)

@@ -11,7 +11,7 @@ use Rattle.ks_job_source.specs.Reading.{TookNoFault}
 use Rattle.ks_output.specs.Texts.{bad_words_text, read_fault_text}
 use Rattle.ks_job_source.specs.Texts.{bad_job_text}
 use Rattle.ks_run.specs.Asked.{is_run}
-use Rattle.ks_run.specs.Journals.{IsSettledRun}
+use Rattle.ks_run.specs.Journals.{IsSettledRun, IsLateRun, IsCollidedRun}
 
 -- the bytes are no job that can be run, for this reason
 abbrev pub IsStopped : List ℕ → Stop → Type 0
@@ -33,7 +33,9 @@ pub record IsJudged (rules : Rules) (old new : Option (List ℕ)) (before now : 
   pub read_fault : status ≡ 6 → Rose before now × TookNoFault old new × (text ≡ read_fault_text) × (journal ≡ [])
   pub bad_job : status ≡ 2 → (now ≡ before) × IsRefused old text × (journal ≡ [])
   pub settled : status ≡ 0 → (now ≡ before) × IsAtEnd new × IsSettledRun rules old text journal
-  pub only : (status ≡ 0) ⊎ (status ≡ 2) ⊎ (status ≡ 6)
+  pub late : status ≡ 3 → (now ≡ before) × IsAtEnd new × IsLateRun rules old text journal
+  pub collision : status ≡ 5 → (now ≡ before) × IsAtEnd new × IsCollidedRun rules old text journal
+  pub only : (status ≡ 0) ⊎ (status ≡ 2) ⊎ (status ≡ 3) ⊎ (status ≡ 5) ⊎ (status ≡ 6)
 
 -- the same by the words first
 abbrev pub IsJudgedBy : List (List ℕ) → Rules → Option (List ℕ) → Option (List ℕ) → ℕ → ℕ → ℕ → List ℕ → List Entry → Type 0
@@ -43,4 +45,4 @@ IsJudgedBy words rules old new before now status text journal =
 
 -- one of the statuses of a run
 abbrev pub IsStatus : ℕ → Type 0
-IsStatus s = (s ≡ 0) ⊎ (s ≡ 1) ⊎ (s ≡ 2) ⊎ (s ≡ 6) ⊎ (s ≡ 7) ⊎ (s ≡ 8)
+IsStatus s = (s ≡ 0) ⊎ (s ≡ 1) ⊎ (s ≡ 2) ⊎ (s ≡ 3) ⊎ (s ≡ 5) ⊎ (s ≡ 6) ⊎ (s ≡ 7) ⊎ (s ≡ 8)

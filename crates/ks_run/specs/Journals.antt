@@ -3,10 +3,10 @@ use Rattle.std.specs.Prelude.{◌≡◌, ◌<◌, ◌^◌, ℕ, List, [], ◌∷
 use Rattle.ks_plan.specs.Drafts.{DraftView}
 use Rattle.ks_plan.specs.Plan.{plan_of}
 use Rattle.ks_query.specs.Streams.{Input}
-use Rattle.ks_query.specs.Printed.{job_tables}
+use Rattle.ks_query.specs.Grace.{IsWithinGrace}
 use Rattle.ks_def_tasks.specs.Messages.{Rules}
 use Rattle.ks_history.specs.declared.journal.Entry.{Entry}
-use Rattle.ks_history.specs.History.{at, IsHistory}
+use Rattle.ks_history.specs.History.{IsHistory}
 use Rattle.ks_history.specs.Count.{records_in}
 use Rattle.ks_history.specs.Settled.{IsSettled as IsAtRest}
 use Rattle.ks_row.specs.declared.record.Rec.{Rec}
@@ -16,10 +16,11 @@ use Rattle.ks_law_topology.specs.Work.{setup_of}
 use Rattle.ks_job.specs.Items.{ItemView, TopologyAt, RecordTo}
 use Rattle.ks_job.specs.Reader.{whole}
 use Rattle.ks_law_inputs.specs.Records.{records_of}
-use Rattle.ks_law_settled.specs.Folded.{folded_tables}
-use Rattle.ks_law_settled.specs.Jobs.{produced_of, produces}
+use Rattle.ks_law_settled.specs.Collision.{first_pair}
+use Rattle.ks_law_settled.specs.Jobs.{IsJob, produced_of, produces}
+use Rattle.ks_law_settled.specs.Settled.{end_of}
 use Rattle.ks_job_source.specs.Stops.{stop_of}
-use Rattle.ks_output.specs.Texts.{settled_text}
+use Rattle.ks_run.specs.Told.{TellsQuery, TellsLate, TellsCollision}
 
 -- the topology is the first item
 abbrev pub draft_in : List ItemView → Option DraftView
@@ -33,30 +34,60 @@ placed_records rules d records = map (produced_of rules (plan_of d)) records
 
 -- what a settled run of a job leaves
 pub record IsJournal (rules : Rules) (d : DraftView) (records : List Input) (journal : List Entry) : Type 0 where
+  -- the topology is well formed, each of its nodes has a partition, and its records' keys and rows have a spelling
+  pub job : IsJob rules d records
   -- legal and faithful
   pub history : IsHistory (setup_of rules (plan_of d)) journal
   -- it has produced the job's records and no other
   pub produced : produces journal ≡ placed_records rules d records
   -- nothing of them is left to take, and each commit is complete
-  pub settled : IsAtRest (setup_of rules (plan_of d)) (at (setup_of rules (plan_of d)) journal)
+  pub settled : IsAtRest (setup_of rules (plan_of d)) (end_of rules d journal)
   -- what its commits took is one uncrashed run
   pub run : IsRun (setup_of rules (plan_of d)) journal
-  -- the folds of its changelogs are the query's tables
-  pub folds : folded_tables d (at (setup_of rules (plan_of d)) journal) ≡ job_tables d records
   pub few : records_in (setup_of rules (plan_of d)) journal < 2 ^ 48
 
--- some bytes, which are those that the source has left where it tells them, are a job; the text has its tables by its query; and
--- the journal settles it
-pub record IsSettledRun (rules : Rules) (left : Option (List ℕ)) (text : List ℕ) (journal : List Entry) : Type 0 where
+-- some bytes, which are those that the source has left where it tells them, are a job, and the journal settles it
+pub record SettlesBytes (rules : Rules) (left : Option (List ℕ)) (d : DraftView) (records : List Input) (journal : List Entry) : Type 0 where
   pub bytes : List ℕ
   pub known : IfSome left (λ b. b ≡ bytes)
   pub unstopped : stop_of (whole bytes) ≡ None
-  pub draft : DraftView
-  pub topology : draft_in (whole bytes).items ≡ Some draft
-  pub records : List Input
+  pub topology : draft_in (whole bytes).items ≡ Some d
   pub inputs : records ≡ records_of (whole bytes).items
-  pub printed : text ≡ settled_text (job_tables draft records)
-  pub kept : IsJournal rules draft records journal
+  pub kept : IsJournal rules d records journal
+
+-- ---- status 0: the source held a job, and the text has its tables by its query
+pub record IsSettledRun (rules : Rules) (left : Option (List ℕ)) (text : List ℕ) (journal : List Entry) : Type 0 where
+  pub draft : DraftView
+  pub records : List Input
+  pub settles : SettlesBytes rules left draft records journal
+  pub query : TellsQuery rules draft records text journal
+
+-- ---- status 3: the source held a job some of whose records are not within grace, and the text has its tables without the late ones
+pub record IsLateRun (rules : Rules) (left : Option (List ℕ)) (text : List ℕ) (journal : List Entry) : Type 0 where
+  pub draft : DraftView
+  pub records : List Input
+  pub settles : SettlesBytes rules left draft records journal
+  pub late : TellsLate rules draft records text journal
+
+-- ---- status 5: the source held a job in whose journal two rows of a key have one hash, and the text names them
+pub record IsCollidedRun (rules : Rules) (left : Option (List ℕ)) (text : List ℕ) (journal : List Entry) : Type 0 where
+  pub draft : DraftView
+  pub records : List Input
+  pub settles : SettlesBytes rules left draft records journal
+  pub collision : TellsCollision rules draft text journal
+
+-- ---- jobs that are always answered by their query
+-- the bytes that the source has left are a valid job, whose records are within grace
+pub record IsInTime (left : Option (List ℕ)) : Type 0 where
+  pub bytes : List ℕ
+  pub known : left ≡ Some bytes
+  pub unstopped : stop_of (whole bytes) ≡ None
+  pub in_time : (d : DraftView) → draft_in (whole bytes).items ≡ Some d → IsWithinGrace (plan_of d) (records_of (whole bytes).items)
+
+-- no two rows of a left key collide in the changelogs that a journal of their job leaves
+abbrev pub IsWithoutCollision : Rules → Option (List ℕ) → List Entry → Type 0
+IsWithoutCollision rules left journal = (bytes : List ℕ) → left ≡ Some bytes → (d : DraftView) → draft_in (whole bytes).items ≡ Some d →
+    first_pair rules.hash (plan_of d) (end_of rules d journal) ≡ None
 
 -- a journal that is legal and faithful, and has produced a front of the records that some bytes have before their first faulty
 -- line; the bytes are those that the source has left where it tells them

@@ -3,11 +3,11 @@ ghost use Rattle.std.specs.Prelude.{◌≡◌, ◌⊎◌, ℕ, List, [], true, f
 ghost use Rattle.std.specs.Io.KnownBytes.{Appends, IsAtEnd};
 ghost use Rattle.ks_edge.specs.Causes.{Rose};
 ghost use Rattle.ks_hash.specs.Murmur3.{murmur3_of};
-ghost use Rattle.ks_task.specs.Built.{rules_of};
+ghost use Rattle.ks_nodes.specs.Rules.{rules_of};
 ghost use Rattle.ks_output.specs.Bytes.{AppendsFront};
 ghost use Rattle.ks_output.specs.Texts.{bad_words_text, read_fault_text};
 ghost use Rattle.ks_run.specs.Asked.{usual, words_of, is_run};
-ghost use Rattle.ks_run.specs.Journals.{IsSettledRun, HasJournal};
+ghost use Rattle.ks_run.specs.Journals.{IsSettledRun, IsLateRun, IsCollidedRun, HasJournal, IsInTime, IsWithoutCollision};
 ghost use Rattle.ks_job_source.specs.Reading.{TookNoFault};
 ghost use Rattle.ks_run.specs.Answers.{IsRefused, IsJudged, IsJudgedBy, IsStatus};
 
@@ -34,11 +34,16 @@ pub struct Ended {
 ///
 /// | Status | Comes | Written | Journal |
 /// |---|---|---|---|
-/// | 0 | the source did not fail and was read to its end, and its bytes are a job of the kinds of nodes that are built | `settled`, and the tables in the order of `print`: the topology's query over the job's records | has produced the job's records, is settled, and its replay is one uncrashed run |
-/// | 2 | the bytes have a faulty line, or a topology with a fault or a node that isn't built, before the source failed | `bad job line L: FAULT`, the first such line | empty |
+/// | 0 | the source did not fail and was read to its end, its bytes are a job, no two rows of a left key of a join on a foreign key have one hash, and nothing was late | `settled`, and the tables in the order of `print`: the topology's query over the job's records | has produced the job's records, is settled, and its replay is one uncrashed run |
+/// | 2 | the bytes have a faulty line, or a topology with a fault, before the source failed | `bad job line L: FAULT`, the first such line | empty |
+/// | 3 | as 0, but so many pairs of a record and a window were late, which comes only where the records are not within grace | `late N`, and the tables as the changelogs keep them: each is the query's but those of windowed counts, which lack exactly the late pairs | as of 0 |
+/// | 5 | as 0, but two rows of a left key have one hash | `collision NODE KEY FIRST SECOND`: the join, the key, and the offsets of the first two such records | as of 0 |
 /// | 6 | the source failed before that | `read fault` | empty |
 /// | 7 | the sink failed, in place of each of these | a front of what they write | as theirs |
 /// | 8 | there was no memory | nothing | |
+///
+/// So a job whose records are within grace is answered by its query, unless a device fails, memory runs out, or rows of one key have one
+/// hash.
 ///
 /// A line is whole at its line feed, at its byte 65,537, or at the end of the input; the source isn't asked again once a faulty
 /// line is whole, nor after its end. The text is built whole before its first byte is written. The gates are dropped unasked.
@@ -66,6 +71,14 @@ pub fn run_job<H: Hash128 + Send + Sync, R: Threads + Wait + Sync, S: Source, K:
         × IsAtEnd (S.left input.new)
         × ((text : List ℕ) × IsSettledRun (rules_of H.hash_of) (S.left input.old) text result.journal
         × Appends (K.held out.old) (K.held out.new) text) }
+    ensures late { result.status ≡ 3 → (S.faults input.new ≡ S.faults input.old)
+        × IsAtEnd (S.left input.new)
+        × ((text : List ℕ) × IsLateRun (rules_of H.hash_of) (S.left input.old) text result.journal
+        × Appends (K.held out.old) (K.held out.new) text) }
+    ensures collision { result.status ≡ 5 → (S.faults input.new ≡ S.faults input.old)
+        × IsAtEnd (S.left input.new)
+        × ((text : List ℕ) × IsCollidedRun (rules_of H.hash_of) (S.left input.old) text result.journal
+        × Appends (K.held out.old) (K.held out.new) text) }
     ensures write_fault { result.status ≡ 7 → Rose (K.faults out.old) (K.faults out.new)
         × ((status : ℕ) × (text : List ℕ)
         × IsJudged (rules_of H.hash_of) (S.left input.old) (S.left input.new) (S.faults input.old) (S.faults input.new) status text result.journal
@@ -73,6 +86,11 @@ pub fn run_job<H: Hash128 + Send + Sync, R: Threads + Wait + Sync, S: Source, K:
 
     // The journal is legal and faithful, and what it has produced is a front of the job's records.
     ensures journal { (result.status ≡ 8 → ⊥) → HasJournal (rules_of H.hash_of) (S.left input.old) result.journal }
+
+    // A valid job whose records are within grace and whose rows don't collide is answered by its query.
+    ensures complete { IsInTime (S.left input.old) → IsWithoutCollision (rules_of H.hash_of) (S.left input.old) result.journal
+        → (Rose (S.faults input.old) (S.faults input.new) → ⊥) → (Rose (K.faults out.old) (K.faults out.new) → ⊥)
+        → (result.status ≡ 0) ⊎ (result.status ≡ 8) }
 
     // At every other status the sink did not fail.
     ensures written { (result.status ≡ 7 → ⊥) → K.faults out.new ≡ K.faults out.old }
@@ -165,11 +183,25 @@ pub fn top<R: Threads + Wait + Sync, S: Source, K: Sink>(
         × IsAtEnd (S.left input.new)
         × ((text : List ℕ) × IsSettledRun (rules_of murmur3_of) (S.left input.old) text result.journal
         × Appends (K.held out.old) (K.held out.new) text) }
+    ensures late { result.status ≡ 3 → (is_run (words_of words.now) ≡ true)
+        × (S.faults input.new ≡ S.faults input.old)
+        × IsAtEnd (S.left input.new)
+        × ((text : List ℕ) × IsLateRun (rules_of murmur3_of) (S.left input.old) text result.journal
+        × Appends (K.held out.old) (K.held out.new) text) }
+    ensures collision { result.status ≡ 5 → (is_run (words_of words.now) ≡ true)
+        × (S.faults input.new ≡ S.faults input.old)
+        × IsAtEnd (S.left input.new)
+        × ((text : List ℕ) × IsCollidedRun (rules_of murmur3_of) (S.left input.old) text result.journal
+        × Appends (K.held out.old) (K.held out.new) text) }
     ensures write_fault { result.status ≡ 7 → Rose (K.faults out.old) (K.faults out.new)
         × ((status : ℕ) × (text : List ℕ)
         × IsJudgedBy (words_of words.now) (rules_of murmur3_of) (S.left input.old) (S.left input.new) (S.faults input.old) (S.faults input.new) status text result.journal
         × AppendsFront (K.held out.old) (K.held out.new) text) }
     ensures journal { (result.status ≡ 8 → ⊥) → HasJournal (rules_of murmur3_of) (S.left input.old) result.journal }
+    ensures complete { is_run (words_of words.now) ≡ true → IsInTime (S.left input.old)
+        → IsWithoutCollision (rules_of murmur3_of) (S.left input.old) result.journal
+        → (Rose (S.faults input.old) (S.faults input.new) → ⊥) → (Rose (K.faults out.old) (K.faults out.new) → ⊥)
+        → (result.status ≡ 0) ⊎ (result.status ≡ 8) }
     ensures written { (result.status ≡ 7 → ⊥) → K.faults out.new ≡ K.faults out.old }
     ensures memory { result.status ≡ 8 → out.new ≡ out.old }
     ensures only { IsStatus result.status }

@@ -8,50 +8,53 @@ ghost use Rattle.ks_cluster.specs.View.{setup_of};
 ghost use Rattle.ks_job.specs.Items.{item_views};
 ghost use Rattle.ks_law_inputs.specs.Records.{HavePartitions, AreRecords, records_of};
 ghost use Rattle.ks_law_topology.specs.Work.{work_of};
-ghost use Rattle.ks_task.specs.Built.{IsBuilt, rules_of};
-ghost use Rattle.ks_output.specs.Texts.{settled_text};
+ghost use Rattle.ks_law_kinds.specs.Fitting.{FitsRules};
+ghost use Rattle.ks_nodes.specs.Rules.{rules_of};
+ghost use Rattle.ks_run.specs.Verdict.{told_as};
 ghost use Rattle.ks_run.specs.Settling.{IsReadJob, split, SettlesJob, SettlesItems};
 
+use crate::answer::Answer;
 use crate::producing::{counts_of, produce_all};
+use crate::verdict::{Verdict, judge, print_verdict};
 use ks_cluster::{Cluster, Work};
 use ks_hash::Hash128;
-use ks_history::Journal;
 use ks_job::JobItem;
-use ks_output::print_settled;
-use ks_query::Table;
+use ks_law_kinds::topology_fits;
 use ks_settle::drain;
-use ks_tables::tables;
 use ks_task::TaskWork;
 use ks_topo::{Draft, Topology, share_topology};
 use std::alloc::{AllocError, Global};
 use std::thread::{Threads, join};
 
-/// The text of a job's printed tables, and the journal of its run.
-#[derive(Drop)]
-pub struct Settled {
-    pub text: Vec<u8>,
-    pub journal: Journal,
-}
-
-// The text of a run's tables and its journal, made side by side.
+// The answer of a run that came to this: its text and its journal are made side by side.
 fn end_run<R: Threads + Sync, W: Work + Send>(
     rt: &R,
     alloc: Global,
     cluster: Cluster<W>,
-    tables: Vec<Table>,
-) -> Result<Settled, AllocError>
-    ensures made { IfOk result (λ s. (s.text.items ≡ settled_text tables.items) × (s.journal ≡ cluster.journal)) }
+    verdict: Verdict,
+) -> Result<Answer, AllocError>
+    ensures made { IfOk result (λ a. ((a.status, a.text.items) ≡ told_as verdict) × (a.journal ≡ cluster.journal)) }
     ensures history { IsHistory (setup_of W.plan cluster) cluster.journal }
     ensures few { records_in (setup_of W.plan cluster) cluster.journal < 2 ^ 48 }
 {
+    let status = verdict.status();
     let (text, journal) = join(
         rt,
-        move || print_settled(rt, alloc, tables),
+        move || print_verdict(rt, alloc, verdict),
         move || cluster.into_journal_wide(rt),
     );
     let text = text?;
-    Ok(Settled { text, journal })
+    Ok(Answer {
+        status,
+        text,
+        journal,
+    })
 }
+
+// Hashes have 128 bits, as a fact for what follows; does nothing.
+fn hashes_fit<H: Hash128>()
+    ensures { FitsRules (rules_of H.hash_of) }
+{}
 
 // The run of a job's tasks.
 fn settle<H: Hash128 + Send + Sync, R: Threads + Sync, W: Work + Send + Sync>(
@@ -60,13 +63,15 @@ fn settle<H: Hash128 + Send + Sync, R: Threads + Sync, W: Work + Send + Sync>(
     topology: &Topology,
     work: W,
     records: Vec<JobItem>,
-) -> Result<Settled, AllocError>
+) -> Result<Answer, AllocError>
     requires work { W.plan work ≡ work_of (rules_of H.hash_of) (plan_in topology.now) }
-    requires built { IsBuilt (plan_in topology.now) }
     requires partitions { HavePartitions (draft_of topology.now).topics }
     requires records { AreRecords (length (draft_of topology.now).topics) (item_views records.items) }
-    ensures { IfOk result (λ s. SettlesJob (rules_of H.hash_of) (draft_of topology.now) (records_of (item_views records.items)) s.text.items s.journal) }
+    ensures { IfOk result (λ a. SettlesJob (rules_of H.hash_of) (draft_of topology.now) (records_of (item_views records.items)) a.status a.text.items a.journal) }
 {
+    // Its names and constants can be written, and it is well formed: the law on settled journals asks for both.
+    topology_fits(topology);
+    hashes_fit::<H>();
     let _nodes = topology.nodes();
     let counts = counts_of(alloc, topology.topics())?;
     let kept = Vec::from_slice(alloc, counts.as_slice())?;
@@ -74,8 +79,8 @@ fn settle<H: Hash128 + Send + Sync, R: Threads + Sync, W: Work + Send + Sync>(
     let mut cluster = Cluster::new(alloc, work, kept, tasks)?;
     produce_all(alloc, &mut cluster, counts.as_slice(), records)?;
     drain::<H, R, W>(rt, alloc, topology, &mut cluster)?;
-    let tables = tables(rt, alloc, topology, &cluster)?;
-    end_run(rt, alloc, cluster, tables)
+    let verdict = judge::<H, R, W>(rt, alloc, topology, &cluster)?;
+    end_run(rt, alloc, cluster, verdict)
 }
 
 // The topology of a job, and its other items.
@@ -97,9 +102,9 @@ pub fn settle_job<H: Hash128 + Send + Sync, R: Threads + Sync>(
     rt: &R,
     alloc: Global,
     items: Vec<JobItem>,
-) -> Result<Settled, AllocError>
+) -> Result<Answer, AllocError>
     requires { IsReadJob (item_views items.items) }
-    ensures { IfOk result (λ s. SettlesItems (rules_of H.hash_of) (item_views items.items) s.text.items s.journal) }
+    ensures { IfOk result (λ a. SettlesItems (rules_of H.hash_of) (item_views items.items) a.status a.text.items a.journal) }
 {
     let Some((draft, records)) = split_job(items) else {
         unreachable!()

@@ -1,13 +1,19 @@
 //! How a run ends, as a number.
 
-/// The tables were written.
+/// The tables were written: they are the query's.
 pub const SETTLED: u8 = 0;
 
 /// The words say nothing.
 pub const BAD_WORDS: u8 = 1;
 
-/// The source holds no job that can be run.
+/// The source holds no job.
 pub const BAD_JOB: u8 = 2;
+
+/// Records were late: the tables were written without them.
+pub const LATE: u8 = 3;
+
+/// Two rows of a key have one hash.
+pub const COLLISION: u8 = 5;
 
 /// The source failed.
 pub const READ_FAULT: u8 = 6;

@@ -28,7 +28,9 @@ use Rattle.ks_law_settled.proofs.Inside.{topologies_send_inside}
 use Rattle.ks_law_settled.specs.Routes.{JoinsHaveParts}
 use Rattle.ks_cluster.specs.View.{ClusterView, setup_of, state_of}
 use Rattle.ks_commit.specs.declared.publisher.Publisher.{Publisher}
-use Rattle.ks_task.specs.Built.{IsBuilt, are_built, is_built_kind, rules_of}
+use Rattle.ks_nodes.specs.Rules.{HaveParts, rules_of}
+use Rattle.ks_law_quiescence.proofs.Fits.{each_at, node_stands}
+use Rattle.ks_law_quiescence.proofs.WellFormed.{well_formed_fits}
 use Rattle.ks_task.specs.declared.task.Task.{Task}
 use Rattle.ks_task.specs.Tasks.{task_view}
 use Rattle.ks_settle.specs.Drained.{MayDrain, ids, IsDrainedTo, AreResting, IsDraining, Extends}
@@ -36,27 +38,24 @@ use Rattle.ks_settle.proofs.Topics.{raised, settled}
 use Rattle.ks_settle.proofs.Publishing.{extends_none, extends_both, same_setup}
 
 -- ---- a topology's tasks keep what draining asks
-built_both : (k : Kind) (ks : List Kind) → are_built (k ∷ ks) ≡ true → (is_built_kind k ≡ true) × (are_built ks ≡ true)
-built_both k ks e = by (is_built_kind k) e
-  where
-    by : (b : Bool) → (b && are_built ks) ≡ true → (b ≡ true) × (are_built ks ≡ true)
-    by true h = (refl, h)
-    by false h = absurd (true≢false (sym h))
+within_there : (ks : List Kind) (i : ℕ) (k : Kind) → slice_get ks i ≡ Some k → i < length ks
+within_there [] i k e = absurd cc
+within_there (x ∷ ks) zero k e = omega arith
+within_there (x ∷ ks) (suc i) k e = omega (arith, within_there ks i k e)
 
-built_at : (ks : List Kind) (n : ℕ) (k : Kind) → are_built ks ≡ true → slice_get ks n ≡ Some k → is_built_kind k ≡ true
-built_at [] n k b e = absurd (cc)
-built_at (x ∷ ks) zero k b e = let same : x ≡ k = cc in subst (λ y. is_built_kind y ≡ true) same (built_both x ks b).0
-built_at (x ∷ ks) (suc n) k b e = built_at ks n k (built_both x ks b).1 e
+joins_have : (d : DraftView) → IsWellFormed d → HaveParts (plan_of d) → JoinsHaveParts (plan_of d)
+joins_have d well have n l r fk kind set e =
+    let p = plan_of d in
+    let node = each_at p 0 p.kinds n (ForeignKeyJoin l r fk kind set) (well_formed_fits d well) (node_stands p n (ForeignKeyJoin l r fk kind set) e) in
+    let within : n < length p.kinds = within_there p.kinds n (ForeignKeyJoin l r fk kind set) e in
+    (have n within, have r (omega (arith, within, node.1)))
 
-no_joins : (p : Topology) → IsBuilt p → JoinsHaveParts p
-no_joins p built n l r fk kind set e = absurd (true≢false (sym (built_at p.kinds n (ForeignKeyJoin l r fk kind set) built e)))
-
-pub may_drain : (hash : List ℕ → ℕ) (d : DraftView) → IsWellFormed d → IsBuilt (plan_of d) → MayDrain (topology_setup (rules_of hash) (plan_of d))
+pub may_drain : (hash : List ℕ → ℕ) (d : DraftView) → IsWellFormed d → HaveParts (plan_of d) → MayDrain (topology_setup (rules_of hash) (plan_of d))
 may_drain hash d well built = record {
   made = setups_are_made (rules_of hash) d well;
   network = works_are_networks (rules_of hash) (plan_of d);
   sends = made_in_order (rules_of hash) d well;
-  inside = topologies_send_inside (rules_of hash) d well (λ key n h. mod-lt _ h) (no_joins (plan_of d) built);
+  inside = topologies_send_inside (rules_of hash) d well (λ key n h. mod-lt _ h) (joins_have d well built);
   once = inputs_once (plan_of d);
 }
 

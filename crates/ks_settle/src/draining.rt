@@ -9,7 +9,7 @@ ghost use Rattle.ks_law_topology.specs.Work.{setup_of as topology_setup};
 ghost use Rattle.ks_cluster.specs.View.{setup_of, state_of};
 ghost use Rattle.ks_commit.specs.Committed.{works_of, tasks_in as worked_in, IsReady};
 ghost use Rattle.ks_commit.specs.Work.{work_view};
-ghost use Rattle.ks_task.specs.Built.{IsBuilt, rules_of};
+ghost use Rattle.ks_nodes.specs.Rules.{HaveParts, rules_of};
 ghost use Rattle.ks_settle.specs.Drained.{MayDrain, IsOfTopology, MayRead, with_work, IsRead, Rests, tasks_in, AreTried, AreReading, AreResting, AreFresh, Extends, OnlyProduces};
 
 use crate::reading::read_task;
@@ -152,7 +152,7 @@ fn workers(alloc: Global, works: &[Frozen]) -> Result<Vec<TaskId>, AllocError>
 
 // A new task for each that the topology has.
 fn fresh_tasks(alloc: Global, topology: &Topology) -> Result<Vec<Task>, AllocError>
-    requires { IsBuilt (plan_in topology.now) }
+    requires { HaveParts (plan_in topology.now) }
     ensures { IfOk result (λ v. AreFresh (draft_of topology.now) (all_tasks (plan_in topology.now))
         v.items) }
 {
@@ -180,7 +180,7 @@ impl TaskManager {
     ) -> Result<TaskManager, AllocError>
         requires may { MayDrain (setup_of W.plan cluster.old) }
         requires tasks { cluster.old.tasks ≡ all_tasks (plan_in topology.now) }
-        requires built { IsBuilt (plan_in topology.now) }
+        requires parts { HaveParts (plan_in topology.now) }
         requires produced { OnlyProduces cluster.old.journal }
         ensures { IfOk result (λ m.
             AreResting W.plan cluster.new m.publisher (draft_of topology.now) 0 m.tasks.items
@@ -287,7 +287,7 @@ pub fn drain<H: Hash128 + Sync, R: Threads + Sync, W: Work + Sync>(
 ) -> Result<(), AllocError>
     requires setup { setup_of W.plan cluster.old
         ≡ topology_setup (rules_of H.hash_of) (plan_in topology.now) }
-    requires built { IsBuilt (plan_in topology.now) }
+    requires parts { HaveParts (plan_in topology.now) }
     requires produced { OnlyProduces cluster.old.journal }
     ensures settled { OnOk result (IsSettled (setup_of W.plan cluster.new)
         (state_of W.plan cluster.new)) }

@@ -1,2 +1,4 @@
 pub mod Trees
+pub mod Fronts
 pub mod Applied
+pub mod Called

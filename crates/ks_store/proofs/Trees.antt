@@ -20,10 +20,10 @@ use Rattle.ks_row.specs.Spelling.{IsBytes}
 use Rattle.std.specs.Prelude.{Result, Ok, Err, OnOk, OnErr, ⊤}
 use Rattle.std.specs.declared.alloc.AllocError.{AllocError}
 
-abbrev Entry : Type 0
+abbrev pub Entry : Type 0
 Entry = Vec ℕ × Vec ℕ
 
-abbrev by_items : Vec ℕ → Vec ℕ → Ordering
+abbrev pub by_items : Vec ℕ → Vec ℕ → Ordering
 by_items a b = slice_cmp nat_cmp a.items b.items
 
 -- ---- in order
@@ -32,18 +32,18 @@ both : (a b : Bool) → T a → T b → T (a && b)
 both true b p q = q
 both false b p q = absurd p
 
-first : (a b : Bool) → T (a && b) → T a
+pub first : (a b : Bool) → T (a && b) → T a
 first true b p = tt
 first false b p = absurd p
 
-second : (a b : Bool) → T (a && b) → T b
+pub second : (a b : Bool) → T (a && b) → T b
 second true b p = p
 second false b p = absurd p
 
 less : (o : Ordering) → o ≡ Less → T (is_lt o)
 less o e = subst (λ p. T (is_lt p)) (sym e) tt
 
-less_is : (o : Ordering) → T (is_lt o) → o ≡ Less
+pub less_is : (o : Ordering) → T (is_lt o) → o ≡ Less
 less_is Less p = refl
 less_is Equal p = absurd p
 less_is Greater p = absurd p

@@ -1,3 +1,4 @@
 pub mod Prefixes
 pub mod Restored
 pub mod Pairs
+pub mod Calls

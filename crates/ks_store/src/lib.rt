@@ -1,11 +1,16 @@
 //! Stores: finite maps from bytes to bytes, and what a changelog makes of one.
 #![tactic(auto)]
 
+mod calls;
+mod ordered;
 mod pairs;
 mod plain;
 mod restoring;
 mod store;
+mod tree;
 
+pub use calls::{StoreCall, StoreReply, run_calls};
+pub use ordered::OrderedStore;
 pub use plain::PlainStore;
 pub use restoring::restore;
 pub use store::KvStore;

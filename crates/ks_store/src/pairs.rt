@@ -55,3 +55,24 @@ pub fn pairs_with(
     }
     Ok(found)
 }
+
+/// The same; looks up the first key that isn't below the front, and stops at the first that doesn't begin so.
+pub fn pairs_from(
+    alloc: Global,
+    pairs: &Pairs,
+    front: &[u8],
+) -> Result<Vec<(Blob, Blob)>, AllocError>
+    ensures { IfOk result (λ v. v.items ≡ filter (λ e. starts_with ◌==◌ e.0 front.now) (pairs_of pairs.now.entries)) }
+{
+    let start = Vec::from_slice(alloc, front)?;
+    let mut found = Vec::new(alloc);
+    for (key, value) in pairs.range(&start..) {
+        if !key.starts_with(front) {
+            return Ok(found);
+        }
+        let key = Blob::from_slice(alloc, key.as_slice())?;
+        let value = Blob::from_slice(alloc, value.as_slice())?;
+        found.push((key, value))?;
+    }
+    Ok(found)
+}

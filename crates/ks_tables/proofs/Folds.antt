@@ -1,6 +1,6 @@
 -- The rows that are read from a changelog are the rows of its folds.
-use Rattle.std.proofs.Common.{◌≡◌, ℕ, suc, ◌+◌, ◌<◌, ◌≤◌, List, [], ◌∷◌, ◌++◌, length, map, fold, Option, Some, None, refl, sym, ap, ◌∙◌, arith, take, drop, get_or, add-one, zero}
-use Rattle.std.specs.Prelude.{slice_index}
+use Rattle.std.proofs.Common.{◌≡◌, ℕ, suc, ◌+◌, ◌<◌, ◌≤◌, List, [], ◌∷◌, ◌++◌, length, map, fold, cond, true, Option, Some, None, refl, sym, ap, ap₂, ◌∙◌, arith, take, drop, get_or, add-one, zero}
+use Rattle.std.specs.Prelude.{slice_index, option_map}
 use Rattle.std.specs.declared.cmp.Ordering.{Ordering}
 use Rattle.std.specs.declared.cmp.Ordering.TheVariants.{Less, Equal, Greater}
 use Rattle.std.specs.BTreeMap.{insert_entry}
@@ -20,11 +20,17 @@ use Rattle.ks_def_maps.specs.FinMap.{FinMap, entries-insert}
 use Rattle.ks_history.specs.State.{State, Setup, IsPart}
 use Rattle.ks_query.specs.declared.table.Table.{Table}
 use Rattle.ks_query.specs.declared.table.TableRow.{TableRow}
-use Rattle.ks_query.specs.Printed.{plain_row}
+use Rattle.ks_query.specs.Printed.{plain_row, window_row}
+use Rattle.ks_query.specs.Windows.{WindowKey, by_window}
+use Rattle.ks_query.specs.Aggregates.{agg_row}
+use Rattle.ks_wire.specs.Reading.{agg_from, window_key_from}
+use Rattle.ks_def_tasks.proofs.Counts.{window_total}
 use Rattle.ks_query.specs.Streams.{Key}
 use Rattle.ks_def_tasks.specs.Bytes.{with_pair}
 use Rattle.ks_law_settled.specs.Folded as folded
-use Rattle.ks_tables.specs.Rows.{Rows, row_by, put_row, put_pairs, pairs_in, part_in, put_parts, IsKept, IsPrinted}
+use Rattle.ks_tables.specs.Rows.{Rows, row_by, put_row, put_pairs, pairs_in, part_in, put_parts, counts_windows, IsKept, IsPrinted}
+use Rattle.ks_tables.specs.Windows as windows
+use Rattle.ks_tables.specs.Windows.{Windows, put_window}
 
 put_first : (o : Ordering) (k : Key) (v : Row) (e : Key × Row) (es : Rows) → by_bytes k e.0 ≡ o → insert_entry by_bytes es k v ≡ put by_bytes k v es →
     match_ordering o ((k, v) ∷ e ∷ es) ((e.0, v) ∷ es) (e ∷ insert_entry by_bytes es k v) ≡ put by_bytes k v (e ∷ es)
@@ -58,7 +64,7 @@ no_rows : fin.entries {K = Key} {X = Row} {R = by_bytes} fin.empty ≡ []
 unfolding fin.entries fin.empty
 no_rows = refl
 
-pub rows_are : (d : DraftView) (s : State) (name : Name) (node : Node) (topic : ℕ) → IsKept d name node topic →
+rows_are : (d : DraftView) (s : State) (name : Name) (node : Node) (topic : ℕ) → IsKept d name node topic →
     put_parts (op_view node.op) s topic [] (up_to node.parts) ≡ fin.entries (folded.node_rows (plan_of d) s (node_number (known_nodes d) name))
 rows_are d s name node topic k =
     let p = plan_of d in
@@ -68,10 +74,68 @@ rows_are d s name node topic k =
     ∙ ap (λ t. fin.entries (fold (λ rows part. folded.with_rows (kind_at p n) rows (pairs_in s (part_in t part))) fin.empty (up_to node.parts))) k.number
     ∙ ap (λ c. fin.entries (folded.rows_of p s n (up_to c))) k.parts
 
+-- ---- windows
+put_first_window : (o : Ordering) (k : WindowKey) (v : Row) (e : WindowKey × Row) (es : Windows) → by_window k e.0 ≡ o → insert_entry by_window es k v ≡ put by_window k v es →
+    match_ordering o ((k, v) ∷ e ∷ es) ((e.0, v) ∷ es) (e ∷ insert_entry by_window es k v) ≡ put by_window k v (e ∷ es)
+put_first_window Less k v e es o h = rw o refl
+put_first_window Equal k v e es o h = rw o refl
+put_first_window Greater k v e es o h = rw o (ap (λ l. e ∷ l) h)
+
+put_window_is : (es : Windows) (k : WindowKey) (v : Row) → insert_entry by_window es k v ≡ put by_window k v es
+put_window_is [] k v = refl
+put_window_is (e ∷ es) k v = put_first_window (by_window k e.0) k v e es refl (put_window_is es k v)
+
+window_is : (m : FinMap by_window Row) (k : Option WindowKey) (r : Option Row) → fin.entries (with_pair by_window m k r) ≡ put_window (fin.entries m) k r
+window_is m (Some k) (Some r) = entries-insert window_total m k r ∙ sym (put_window_is (fin.entries m) k r)
+window_is m (Some k) None = refl
+window_is m None (Some r) = refl
+window_is m None None = refl
+
+windows_in : (m : FinMap by_window Row) (es : List (List ℕ × List ℕ)) → fin.entries (folded.with_windows m es) ≡ windows.put_pairs (fin.entries m) es
+windows_in m [] = refl
+windows_in m (e ∷ es) =
+    windows_in (with_pair by_window m (window_key_from e.0) (option_map (agg_row true) (agg_from e.1))) es
+    ∙ ap (λ rows. windows.put_pairs rows es) (window_is m (window_key_from e.0) (option_map (agg_row true) (agg_from e.1)))
+
+windows_parts : (s : State) (topic : ℕ) (m : FinMap by_window Row) (parts : List ℕ) → fin.entries (fold (λ rows part. folded.with_windows rows (pairs_in s (part_in topic part))) m parts) ≡ windows.put_parts s topic (fin.entries m) parts
+windows_parts s topic m [] = refl
+windows_parts s topic m (part ∷ parts) =
+    windows_parts s topic (folded.with_windows m (pairs_in s (part_in topic part))) parts ∙ ap (λ rows. windows.put_parts s topic rows parts) (windows_in m (pairs_in s (part_in topic part)))
+
+no_windows : fin.entries {K = WindowKey} {X = Row} {R = by_window} fin.empty ≡ []
+unfolding fin.entries fin.empty
+no_windows = refl
+
+windows_are : (d : DraftView) (s : State) (name : Name) (node : Node) (topic : ℕ) → IsKept d name node topic →
+    windows.put_parts s topic [] (up_to node.parts) ≡ fin.entries (folded.node_windows (plan_of d) s (node_number (known_nodes d) name))
+windows_are d s name node topic k =
+    let p = plan_of d in
+    let n = node_number (known_nodes d) name in
+    ap (λ rows. windows.put_parts s topic rows (up_to node.parts)) (sym no_windows)
+    ∙ sym (windows_parts s topic fin.empty (up_to node.parts))
+    ∙ ap (λ t. fin.entries (fold (λ rows part. folded.with_windows rows (pairs_in s (part_in t part))) fin.empty (up_to node.parts))) k.number
+    ∙ ap (λ c. fin.entries (folded.windows_of p s n (up_to c))) k.parts
+
+-- one partition more
+parts_more : (s : State) (topic : ℕ) (rows : Windows) (parts : List ℕ) (part : ℕ) → windows.put_parts s topic rows (parts ++ part ∷ []) ≡ windows.put_pairs (windows.put_parts s topic rows parts) (pairs_in s (part_in topic part))
+parts_more s topic rows [] part = refl
+parts_more s topic rows (p ∷ ps) part = parts_more s topic (windows.put_pairs rows (pairs_in s (part_in topic p))) ps part
+
+pub one_part_more : (s : State) (topic : ℕ) (rows : Windows) (k : ℕ) → windows.put_parts s topic rows (up_to (k + 1)) ≡ windows.put_pairs (windows.put_parts s topic rows (up_to k)) (pairs_in s (part_in topic k))
+one_part_more s topic rows k = ap (λ j. windows.put_parts s topic rows (up_to j)) (add-one k) ∙ parts_more s topic rows (up_to k) k
+
+-- ---- a table
+shown_are : (d : DraftView) (s : State) (name : Name) (node : Node) (topic : ℕ) → IsKept d name node topic →
+    windows.shown_rows (op_view node.op) s topic node.parts ≡ folded.folded_rows (plan_of d) s (node_number (known_nodes d) name)
+shown_are d s name node topic k =
+    let n = node_number (known_nodes d) name in
+    ap₂ (λ (a : Windows) (b : Rows). cond (counts_windows (op_view node.op)) (map window_row a) (map plain_row b)) (windows_are d s name node topic k) (rows_are d s name node topic k)
+    ∙ ap (λ w. cond w (map window_row (fin.entries (folded.node_windows (plan_of d) s n))) (map plain_row (fin.entries (folded.node_rows (plan_of d) s n)))) (sym k.windowed)
+
 pub table_is : (d : DraftView) (s : State) (name : Name) (node : Node) (topic : ℕ) (own : Name) (lines : List TableRow) → IsKept d name node topic → own ≡ node.name →
-    lines ≡ map plain_row (put_parts (op_view node.op) s topic [] (up_to node.parts)) → ◌≡◌ {A = Table} record { name = own; rows = lines } (folded.folded_table d s name)
+    lines ≡ windows.shown_rows (op_view node.op) s topic node.parts → ◌≡◌ {A = Table} record { name = own; rows = lines } (folded.folded_table d s name)
 table_is d s name node topic own lines k a b =
-    ap (λ (n : Name). table n lines) (a ∙ k.named) ∙ ap (λ ls. table name ls) (b ∙ ap (map plain_row) (rows_are d s name node topic k))
+    ap (λ (n : Name). table n lines) (a ∙ k.named) ∙ ap (λ ls. table name ls) (b ∙ shown_are d s name node topic k)
   where
     table : Name → List TableRow → Table
     table n ls = record { name = n; rows = ls }

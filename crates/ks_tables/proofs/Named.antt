@@ -15,7 +15,7 @@ use Rattle.ks_plan.specs.declared.node.Wiring.{Wiring}
 use Rattle.ks_plan.specs.declared.node.Wiring.TheVariants as wired
 use Rattle.ks_plan.specs.declared.node.Topic.{Topic}
 use Rattle.ks_plan.specs.declared.node.Topic.TheVariants.{Changelog}
-use Rattle.ks_plan.specs.Plan.{Plan, Kind, Known, wiring_of, gives_stream, is_stream, known_of, learn, known_nodes, known_at, known_names, node_number, name_place, nothing_known, plan_of}
+use Rattle.ks_plan.specs.Plan.{Plan, Kind, Known, wiring_of, gives_stream, is_stream, is_windowed, known_of, learn, known_nodes, known_at, known_names, node_number, name_place, nothing_known, plan_of}
 use Rattle.ks_plan.specs.Plan.Kind.{StreamFilter, TableFilter, StreamMap, TableMap, StreamAggregate, TableAggregate}
 use Rattle.ks_plan.specs.Layout.{same_topic, topics_of, place_of, number_of, parts_of, parts_of_topic, kind_at, no_kind, by_node, input_topics, through_topics, changelogs_of, wired_changelogs}
 use Rattle.ks_plan.specs.Infos.{NodePlace, node_place, node_places, place_in, places_from, built_view}
@@ -27,7 +27,7 @@ use Rattle.ks_def_tasks.specs.Messages.{shown}
 use Rattle.ks_def_tasks.specs.Messages.Stored.{OfRow, OfAgg}
 use Rattle.ks_def_tasks.proofs.Names.{topic-is, topic_itself}
 use Rattle.ks_law_settled.specs.Folded as folded
-use Rattle.ks_tables.specs.Rows.{row_by, node_named, IsKept, IsPrinted}
+use Rattle.ks_tables.specs.Rows.{row_by, node_named, counts_windows, IsKept, IsPrinted}
 
 -- ---- how a node's rows are read
 plain : (o : Option Row) → option_map shown (option_map OfRow o) ≡ o
@@ -66,6 +66,34 @@ reads ts ks (WindowedOf f g size advance grace) bytes = plain (row_from bytes)
 reads ts ks (JoinOf l r kind s) bytes = plain (row_from bytes)
 reads ts ks (FkJoinOf l r fk kind s) bytes = plain (row_from bytes)
 
+counts : (ts : List (Name × ℤ)) (ks : List Known) (op : OpView) → is_windowed (known_of ts ks op).0 ≡ counts_windows op
+counts ts ks (StreamOf t) = refl
+counts ts ks (TableOf t) = refl
+counts ts ks (FilterOf f p) = by (is_stream (known_at ks f).kind)
+  where
+    by : (b : Bool) → is_windowed (cond b (StreamFilter (node_number ks f) p) (TableFilter (node_number ks f) p)) ≡ false
+    by true = refl
+    by false = refl
+counts ts ks (MapOf f s) = by (is_stream (known_at ks f).kind)
+  where
+    by : (b : Bool) → is_windowed (cond b (StreamMap (node_number ks f) s) (TableMap (node_number ks f) s)) ≡ false
+    by true = refl
+    by false = refl
+counts ts ks (KeyOf f k) = refl
+counts ts ks (CountOf f g) = by (is_stream (known_at ks f).kind) _ _
+  where
+    by : (b : Bool) (through : Bool) (group : Name) → is_windowed (cond b (StreamAggregate (node_number ks f) g None through) (TableAggregate (node_number ks f) group None)) ≡ false
+    by true through group = refl
+    by false through group = refl
+counts ts ks (SumOf f g field) = by (is_stream (known_at ks f).kind) _ _
+  where
+    by : (b : Bool) (through : Bool) (group : Name) → is_windowed (cond b (StreamAggregate (node_number ks f) g (Some field) through) (TableAggregate (node_number ks f) group (Some field))) ≡ false
+    by true through group = refl
+    by false through group = refl
+counts ts ks (WindowedOf f g size advance grace) = refl
+counts ts ks (JoinOf l r kind s) = refl
+counts ts ks (FkJoinOf l r fk kind s) = refl
+
 -- ---- what is known of a node
 learnt : List (Name × ℤ) → List Known → NodeView → Known
 learnt ts ks n = record { name = n.name; kind = (known_of ts ks n.op).0; rekeyed = (known_of ts ks n.op).1 }
@@ -93,11 +121,17 @@ kind_in [] n = refl
 kind_in (k ∷ ks) zero = refl
 kind_in (k ∷ ks) (suc n) = kind_in ks n
 
-kind_reads : (d : DraftView) (i : ℕ) (x : NodeView) (bytes : List ℕ) → i < length d.nodes → folded.row_from (kind_at (plan_of d) i) bytes ≡ row_by (get_or d.nodes i x).op bytes
+pub kind_reads : (d : DraftView) (i : ℕ) (x : NodeView) (bytes : List ℕ) → i < length d.nodes → folded.row_from (kind_at (plan_of d) i) bytes ≡ row_by (get_or d.nodes i x).op bytes
 kind_reads d i x bytes h =
     let there = kind_there d.topics [] d.nodes i x h in
     let place : i ≡ length {A = Known} [] + i = omega arith in
     ap (λ k. folded.row_from k bytes) (kind_in (known_nodes d) i ∙ ap (λ j. (get_or (known_nodes d) j nothing_known).kind) place ∙ there.1) ∙ reads d.topics there.0 (get_or d.nodes i x).op bytes
+
+kind_counts : (d : DraftView) (i : ℕ) (x : NodeView) → i < length d.nodes → is_windowed (kind_at (plan_of d) i) ≡ counts_windows (get_or d.nodes i x).op
+kind_counts d i x h =
+    let there = kind_there d.topics [] d.nodes i x h in
+    let place : i ≡ length {A = Known} [] + i = omega arith in
+    ap is_windowed (kind_in (known_nodes d) i ∙ ap (λ j. (get_or (known_nodes d) j nothing_known).kind) place ∙ there.1) ∙ counts d.topics there.0 (get_or d.nodes i x).op
 
 -- ---- the first node of a name
 abbrev names_in : List Node → List Name
@@ -189,23 +223,23 @@ log_in m i [] d lt h = absurd (omega (arith, lt))
 log_in m zero (k ∷ ks) d lt h = in_left (Changelog (m + 0)) (changelogs_of m k) (by_node changelogs_of (suc m) ks) (let e : m ≡ m + 0 = omega arith in subst (λ j. In (Changelog j) (changelogs_of m k)) e (own_log m (wiring_of k) h))
 log_in m (suc i) (k ∷ ks) d lt h = in_right (Changelog (m + suc i)) (changelogs_of m k) (by_node changelogs_of (suc m) ks) (let e : suc m + i ≡ m + suc i = omega arith in subst (λ j. In (Changelog j) (by_node changelogs_of (suc m) ks)) e (log_in (suc m) i ks d (omega (arith, lt)) h))
 
-log_found : (p : Plan) (n : ℕ) → n < length p.kinds → is_stream (kind_at p n) ≡ false → slice_get (topics_of p) (number_of p (Changelog n)) ≡ Some (Changelog n)
+pub log_found : (p : Plan) (n : ℕ) → n < length p.kinds → is_stream (kind_at p n) ≡ false → slice_get (topics_of p) (number_of p (Changelog n)) ≡ Some (Changelog n)
 log_found p n lt h =
     let e : 0 + n ≡ n = omega arith in
     found (Changelog n) (topics_of p) (in_right (Changelog n) (input_topics p ++ by_node through_topics 0 p.kinds) (by_node changelogs_of 0 p.kinds) (subst (λ j. In (Changelog j) (by_node changelogs_of 0 p.kinds)) e (log_in 0 n p.kinds no_kind lt h)))
 
-get_over : {A B : Type 0} (f : A → B) (xs : List A) (n : ℕ) (x : A) → slice_get xs n ≡ Some x → slice_get (map f xs) n ≡ Some (f x)
+pub get_over : {A B : Type 0} (f : A → B) (xs : List A) (n : ℕ) (x : A) → slice_get xs n ≡ Some x → slice_get (map f xs) n ≡ Some (f x)
 get_over f [] n x e = absurd (cc)
 get_over f (y ∷ xs) zero x e = let same : y ≡ x = cc in ap (λ z. Some (f z)) same
 get_over f (y ∷ xs) (suc n) x e = get_over f xs n x e
 
 -- ---- all together
-place_there : (f : ℕ → NodePlace) (m i : ℕ) (xs : List NodeView) (d : NodePlace) → i < length xs → get_or (places_from f m xs) i d ≡ f (m + i)
+pub place_there : (f : ℕ → NodePlace) (m i : ℕ) (xs : List NodeView) (d : NodePlace) → i < length xs → get_or (places_from f m xs) i d ≡ f (m + i)
 place_there f m i [] d h = absurd (omega (arith, h))
 place_there f m zero (x ∷ xs) d h = let e : m ≡ m + 0 = omega arith in ap f e
 place_there f m (suc i) (x ∷ xs) d h = place_there f (suc m) i xs d (omega (arith, h)) ∙ (let e : suc m + i ≡ m + suc i = omega arith in ap f e)
 
-get_mapped : {A B : Type 0} (f : A → B) (xs : List A) (k : ℕ) (d : A) → get_or (map f xs) k (f d) ≡ f (get_or xs k d)
+pub get_mapped : {A B : Type 0} (f : A → B) (xs : List A) (k : ℕ) (d : A) → get_or (map f xs) k (f d) ≡ f (get_or xs k d)
 get_mapped f [] k d = refl
 get_mapped f (x ∷ xs) zero d = refl
 get_mapped f (x ∷ xs) (suc k) d = get_mapped f xs k d
@@ -245,7 +279,7 @@ there d nodes name node shows e =
     }
 
 -- a kind for each node
-kinds_all : (d : DraftView) → length (plan_of d).kinds ≡ length d.nodes
+pub kinds_all : (d : DraftView) → length (plan_of d).kinds ≡ length d.nodes
 kinds_all d = length-map (known_nodes d) (λ k. k.kind) ∙ sym (length-map (known_nodes d) (λ k. k.name)) ∙ ap length (known_names_from d.topics d.nodes) ∙ length-map d.nodes (λ n. n.name)
 
 pub no_node : (d : DraftView) (nodes : List Node) (name : Name) → Shows d nodes → IsPrinted d name → node_named nodes name ≡ None → ⊥
@@ -288,6 +322,7 @@ is_kept d nodes name node topic shows printed e s =
       number = number;
       parts = parts;
       op = λ bytes. ap (λ k. folded.row_from (kind_at p k) bytes) t.number ∙ kind_reads d (name_place (names_in nodes) name) (built_view node) bytes t.within ∙ ap (λ (x : NodeView). row_by x.op bytes) t.draft;
+      windowed = ap (λ k. is_windowed (kind_at p k)) t.number ∙ kind_counts d (name_place (names_in nodes) name) (built_view node) t.within ∙ ap (λ (x : NodeView). counts_windows x.op) t.draft;
       within = omega (arith, inside);
       count = get_or_from_slice_get (map (parts_of_topic p) (topics_of p)) topic (parts_of_topic p (Changelog n)) 0 (get_over (parts_of_topic p) (topics_of p) topic (Changelog n) at_topic) ∙ sym parts;
     }

@@ -1,6 +1,6 @@
 -- The rows of a node as they are read from its changelog, partition by partition and pair by pair.
 -- Kafka Streams developer guide, "KTable": a table is what its changelog says.
-use Rattle.std.specs.Prelude.{◌≡◌, ◌==◌, ◌+◌, ◌≤◌, ℕ, zero, suc, slice_index, true, false, List, [], ◌∷◌, ◌++◌, length, map, cond, Option, Some, None, option_map}
+use Rattle.std.specs.Prelude.{◌≡◌, ◌==◌, ◌+◌, ◌≤◌, ℕ, zero, suc, slice_index, Bool, true, false, List, [], ◌∷◌, ◌++◌, length, map, cond, Option, Some, None, option_map}
 use Rattle.std.specs.BTreeMap.{insert_entry}
 use Rattle.std.specs.Cmp.Lexicographic.{pointwise}
 use Rattle.std.specs.Set.{sorted_merge}
@@ -11,10 +11,10 @@ use Rattle.ks_row.specs.Reading.{row_from}
 use Rattle.ks_row.specs.declared.record.PartId.{PartId}
 use Rattle.ks_wire.specs.Reading.{agg_from}
 use Rattle.ks_expr.specs.Eval.{Row}
-use Rattle.ks_plan.specs.Drafts.{Name, OpView, StreamOf, CountOf, SumOf, op_view, DraftView}
+use Rattle.ks_plan.specs.Drafts.{Name, OpView, StreamOf, CountOf, SumOf, WindowedOf, op_view, DraftView}
 use Rattle.ks_plan.specs.declared.node.Node.{Node}
 use Rattle.ks_plan.specs.declared.node.Topic.TheVariants.{Changelog}
-use Rattle.ks_plan.specs.Plan.{plan_of, known_nodes, node_number}
+use Rattle.ks_plan.specs.Plan.{plan_of, known_nodes, node_number, is_windowed}
 use Rattle.ks_plan.specs.Layout.{number_of, parts_of, kind_at, topics_of, parts_of_topic}
 use Rattle.ks_law_settled.specs.Folded as folded
 use Rattle.ks_def_maps.specs.Bytes.{by_bytes}
@@ -96,12 +96,18 @@ first_of (x ∷ xs) (y ∷ ys) = by_bytes x.key y.key
 abbrev pub merged_rows : List TableRow → List TableRow → List TableRow
 merged_rows = sorted_merge (λ x y. by_bytes x.key y.key) true
 
+-- the operation is a windowed count
+abbrev pub counts_windows : OpView → Bool
+counts_windows (WindowedOf f by size advance grace) = true
+counts_windows _ = false
+
 -- a node's rows are read from a changelog: of this number, over so many partitions, by the node's operation
 pub record IsKept (d : DraftView) (name : Name) (node : Node) (topic : ℕ) : Type 0 where
   pub named : node.name ≡ name
   pub number : topic ≡ number_of (plan_of d) (Changelog (node_number (known_nodes d) name))
   pub parts : node.parts ≡ parts_of (plan_of d) (node_number (known_nodes d) name)
   pub op : (bytes : List ℕ) → folded.row_from (kind_at (plan_of d) (node_number (known_nodes d) name)) bytes ≡ row_by (op_view node.op) bytes
+  pub windowed : is_windowed (kind_at (plan_of d) (node_number (known_nodes d) name)) ≡ counts_windows (op_view node.op)
   pub within : topic + 1 ≤ length (topics_of (plan_of d))
   pub count : slice_index (map (parts_of_topic (plan_of d)) (topics_of (plan_of d))) topic ≡ node.parts
 

@@ -2,7 +2,8 @@
 #![tactic(auto)]
 
 mod merging;
-mod rows;
+pub mod rows;
 mod shown;
+mod windows;
 
 pub use shown::tables;

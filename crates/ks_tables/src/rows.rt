@@ -16,7 +16,7 @@ use ks_agg::agg_row;
 use ks_cluster::{Cluster, Work};
 use ks_query::TableRow;
 use ks_row::{Blob, Key, PartId, Row, decode};
-use ks_store::{KvStore, PlainStore, restore};
+use ks_store::{KvStore, OrderedStore, restore};
 use ks_topo::Op;
 use ks_wire::read_agg;
 use std::alloc::{AllocError, Global};
@@ -33,7 +33,8 @@ pub enum Shown {
     Total,
 }
 
-fn shown_by(op: &Op) -> Shown
+/// What a node's changelog shows, by the node's operation.
+pub fn shown_by(op: &Op) -> Shown
     ensures { (bytes : List ℕ) → row_by (op_as result) bytes ≡ row_by (op_view op.now) bytes }
 {
     match op {
@@ -43,8 +44,8 @@ fn shown_by(op: &Op) -> Shown
     }
 }
 
-// The row of a count or of a sum.
-fn read_total(alloc: Global, count: bool, bytes: &[u8]) -> Result<Option<Row>, AllocError>
+/// The row of a count or of a sum. `Err` only where memory ran out.
+pub fn read_total(alloc: Global, count: bool, bytes: &[u8]) -> Result<Option<Row>, AllocError>
     ensures { IfOk result (λ o. o ≡ option_map (total_row count) (agg_from bytes.now)) }
 {
     match read_agg(bytes) {
@@ -53,7 +54,8 @@ fn read_total(alloc: Global, count: bool, bytes: &[u8]) -> Result<Option<Row>, A
     }
 }
 
-fn read_row(alloc: Global, shown: Shown, bytes: &[u8]) -> Result<Option<Row>, AllocError>
+/// The row that kept bytes are shown as; None where they spell nothing of their kind. `Err` only where memory ran out.
+pub fn read_row(alloc: Global, shown: Shown, bytes: &[u8]) -> Result<Option<Row>, AllocError>
     ensures { IfOk result (λ o. o ≡ row_by (op_as shown) bytes.now) }
 {
     match shown {
@@ -108,8 +110,8 @@ fn push_pairs(
     Ok(())
 }
 
-// What the decided records of a changelog's partition leave, in order of key bytes.
-fn kept_in<W: Work>(
+/// What the decided records of a changelog's partition leave, in order of key bytes. `Err` only where memory ran out.
+pub fn kept_in<W: Work>(
     alloc: Global,
     cluster: &Cluster<W>,
     part: PartId,
@@ -118,7 +120,7 @@ fn kept_in<W: Work>(
     ensures { IfOk result (λ v. v.items ≡ pairs_in (state_of W.plan cluster.now) part) }
 {
     let recs = cluster.decided(alloc, part)?;
-    let mut store = PlainStore::new(alloc);
+    let mut store = OrderedStore::new(alloc);
     restore(&mut store, recs.as_slice())?;
     store.prefix(&[])
 }

@@ -1,16 +1,20 @@
 //! The tables that a topology prints, as its changelogs keep them.
-ghost use Rattle.std.specs.Prelude.{◌≡◌, ℕ, [], map, IfOk, option_map};
+ghost use Rattle.std.specs.Prelude.{◌≡◌, ◌+◌, ◌≤◌, ℕ, [], map, IfOk, option_map};
 ghost use Rattle.ks_topo.specs.Topologies.{draft_of, plan_in};
+ghost use Rattle.ks_plan.specs.Drafts.{op_view};
 ghost use Rattle.ks_plan.specs.Layout.{topics_of, parts_of_topic};
-ghost use Rattle.ks_cluster.specs.View.{ClusterView, state_of};
+ghost use Rattle.ks_history.specs.State.{IsPart};
+ghost use Rattle.ks_cluster.specs.View.{ClusterView, setup_of, state_of};
 ghost use Rattle.ks_law_settled.specs.Folded.{folded_table, folded_tables};
-ghost use Rattle.ks_tables.specs.Rows.{node_named, IsKept, IsPrinted};
+ghost use Rattle.ks_tables.specs.Rows.{node_named, part_in, IsKept, IsPrinted};
+ghost use Rattle.ks_tables.specs.Windows.{shown_rows};
 
 use crate::rows::rows_kept;
+use crate::windows::windows_kept;
 use ks_cluster::{Cluster, Work};
-use ks_query::Table;
+use ks_query::{Table, TableRow};
 use ks_row::Seq;
-use ks_topo::{Node, Topology};
+use ks_topo::{Node, Op, Topology};
 use std::alloc::{AllocError, Global};
 use std::thread::Threads;
 
@@ -42,6 +46,23 @@ fn find_kept<'a>(topology: &'a Topology, name: &[u8]) -> (&'a Node, u16)
     (node, topic)
 }
 
+// The rows that a node shows, over all partitions of its changelog.
+fn node_rows<R: Threads + Sync, W: Work + Sync>(
+    rt: &R,
+    alloc: Global,
+    cluster: &Cluster<W>,
+    node: &Node,
+    topic: u16,
+) -> Result<Vec<TableRow>, AllocError>
+    requires parts { (part : ℕ) → part + 1 ≤ node.now.parts → IsPart (setup_of W.plan cluster.now) (part_in topic part) }
+    ensures { IfOk result (λ v. v.items ≡ shown_rows (op_view node.now.op) (state_of W.plan cluster.now) topic node.now.parts) }
+{
+    match &node.op {
+        Op::WindowedCount { .. } => windows_kept(alloc, cluster, topic, node.parts),
+        op => rows_kept(rt, alloc, cluster, op, topic, node.parts),
+    }
+}
+
 fn table_of<R: Threads + Sync, W: Work + Sync>(
     rt: &R,
     alloc: Global,
@@ -54,7 +75,7 @@ fn table_of<R: Threads + Sync, W: Work + Sync>(
     ensures { IfOk result (λ t. t ≡ folded_table (draft_of topology.now) (state_of W.plan cluster.now) name.now) }
 {
     let (node, topic) = find_kept(topology, name);
-    let rows = rows_kept(rt, alloc, cluster, &node.op, topic, node.parts)?;
+    let rows = node_rows(rt, alloc, cluster, node, topic)?;
     Ok(Table {
         name: node.name.clone()?,
         rows: Seq::of(rows),
@@ -62,7 +83,8 @@ fn table_of<R: Threads + Sync, W: Work + Sync>(
 }
 
 /// The printed tables of a topology, in the order of `print`: of each the rows that the decided records of its changelog keep, over
-/// all partitions, which are read side by side where threads can be made. `Err` only where memory ran out.
+/// all partitions, by key bytes; of a windowed count by key bytes and start of the window. The partitions of a table that is none are
+/// read side by side where threads can be made. `Err` only where memory ran out.
 pub fn tables<R: Threads + Sync, W: Work + Sync>(
     rt: &R,
     alloc: Global,

@@ -1,5 +1,5 @@
 -- What the calls of a task make of the view that it is.
-use Rattle.std.proofs.Common.{◌≡◌, ℕ, suc, ◌+◌, ◌==◌, Bool, true, false, cond, ◌||◌, List, [], ◌∷◌, ◌++◌, map, refl, sym, ap, ap₂, subst, ◌∙◌}
+use Rattle.std.proofs.Common.{arith, ◌≡◌, ℕ, suc, ◌+◌, ◌==◌, Bool, true, false, cond, ◌||◌, List, [], ◌∷◌, ◌++◌, map, refl, sym, ap, ap₂, subst, ◌∙◌}
 use Rattle.std.specs.Prelude.{if◌then◌else◌}
 use Rattle.std.proofs.Math.Path.{fun_ext}
 use Rattle.std.proofs.lemmas.Bool.{true≢false}
@@ -21,11 +21,14 @@ use Rattle.ks_history.specs.Faithful.{capped}
 use Rattle.ks_law_topology.specs.Work.{work_of}
 use Rattle.ks_law_restore.specs.Views.{fresh_view, with_taken, take_view, skip_view, committed_view, WorkView, IsFrozen, recs_at, are_outputs}
 use Rattle.ks_task.specs.declared.inputs.Input.{Input}
-use Rattle.ks_task.specs.declared.logs.Log.{Log}
-use Rattle.ks_task.specs.declared.program.Step.{Step}
-use Rattle.ks_task.specs.Built.{rules_of}
-use Rattle.ks_task.specs.Program.{StepView, kind_of, step_view, steps_from, steps_of, made_or_none}
-use Rattle.ks_task.specs.Views.{position_in, kept_in, topics_in, moved_to, kept_now, stores_in, positions_in, numbers_of, log_after, ended, own_ends, arrived_at_topic, view_of, IsTask, are_kept_in, grouped}
+use Rattle.ks_processors.specs.declared.changelogs.Changelog.{Changelog}
+use Rattle.ks_nodes.specs.declared.topics.NodeTopics.{NodeTopics}
+use Rattle.ks_nodes.specs.Rules.{rules_of}
+use Rattle.ks_law_step.specs.Whole.{IsRecord, AreStores}
+use Rattle.ks_nodes.specs.Nodes.{nodes_of}
+use Rattle.ks_nodes.specs.Records.{arrival_at}
+use Rattle.ks_processors.specs.Steps.{stores_in, made_or_none, late_or_none}
+use Rattle.ks_task.specs.Views.{position_in, committed_in, topics_in, moved_to, with_committed, positions_in, numbers_of, log_after, ended, own_ends, view_of, IsTask, are_committed, grouped}
 use Rattle.ks_task.proofs.Stepping.{step_is}
 use Rattle.ks_task.proofs.Outputs.{grouped_once, grouped_recs}
 
@@ -42,13 +45,13 @@ both false x = refl
 -- ---- inputs
 topics_moved : (topic to : ℕ) (xs : List Input) → topics_in (map (moved_to topic to) xs) ≡ topics_in xs
 topics_moved topic to [] = refl
-topics_moved topic to (x ∷ xs) = ap₂ (λ n ns. n ∷ ns) (elim (topic == x.topic) as (λ b. (cond b (record { topic = x.topic; kept = x.kept; position = to }) x).topic ≡ x.topic) [ true ↦ refl | false ↦ refl ]) (topics_moved topic to xs)
+topics_moved topic to (x ∷ xs) = ap₂ (λ n ns. n ∷ ns) (elim (topic == x.topic) as (λ b. (cond b (record { topic = x.topic; committed = x.committed; position = to }) x).topic ≡ x.topic) [ true ↦ refl | false ↦ refl ]) (topics_moved topic to xs)
 
-kept_moved : (topic to : ℕ) (xs : List Input) (q : ℕ) → kept_in (map (moved_to topic to) xs) q ≡ kept_in xs q
+kept_moved : (topic to : ℕ) (xs : List Input) (q : ℕ) → committed_in (map (moved_to topic to) xs) q ≡ committed_in xs q
 kept_moved topic to [] q = refl
-kept_moved topic to (x ∷ xs) q = elim (topic == x.topic) as (λ b. (if q == (cond b (record { topic = x.topic; kept = x.kept; position = to }) x).topic then (cond b (record { topic = x.topic; kept = x.kept; position = to }) x).kept else kept_in (map (moved_to topic to) xs) q) ≡ (if q == x.topic then x.kept else kept_in xs q)) [
-  | true ↦ ap (λ (r : ℕ). if q == x.topic then x.kept else r) (kept_moved topic to xs q)
-  | false ↦ ap (λ (r : ℕ). if q == x.topic then x.kept else r) (kept_moved topic to xs q)
+kept_moved topic to (x ∷ xs) q = elim (topic == x.topic) as (λ b. (if q == (cond b (record { topic = x.topic; committed = x.committed; position = to }) x).topic then (cond b (record { topic = x.topic; committed = x.committed; position = to }) x).committed else committed_in (map (moved_to topic to) xs) q) ≡ (if q == x.topic then x.committed else committed_in xs q)) [
+  | true ↦ ap (λ (r : ℕ). if q == x.topic then x.committed else r) (kept_moved topic to xs q)
+  | false ↦ ap (λ (r : ℕ). if q == x.topic then x.committed else r) (kept_moved topic to xs q)
 ]
 
 position_moved : (topic to : ℕ) (xs : List Input) (q : ℕ) → position_in (map (moved_to topic to) xs) q ≡ cond (q == topic) (cond (has_topic q (topics_in xs)) to 0) (position_in xs q)
@@ -56,7 +59,7 @@ position_moved topic to [] q = sym (both (q == topic) 0)
 position_moved topic to (x ∷ xs) q =
     let more = position_moved topic to xs q in
     elim (topic == x.topic) as (λ b. (topic == x.topic) ≡ b →
-    (if q == (cond b (record { topic = x.topic; kept = x.kept; position = to }) x).topic then (cond b (record { topic = x.topic; kept = x.kept; position = to }) x).position else position_in (map (moved_to topic to) xs) q)
+    (if q == (cond b (record { topic = x.topic; committed = x.committed; position = to }) x).topic then (cond b (record { topic = x.topic; committed = x.committed; position = to }) x).position else position_in (map (moved_to topic to) xs) q)
     ≡ cond (q == topic) (cond ((q == x.topic) || has_topic q (topics_in xs)) to 0) (if q == x.topic then x.position else position_in xs q)) [
       | true ↦ λ e. subst (λ n. (if q == n then to else position_in (map (moved_to topic to) xs) q) ≡ cond (q == topic) (cond ((q == n) || has_topic q (topics_in xs)) to 0) (if q == n then x.position else position_in xs q)) (eq_is topic x.topic e)
           (elim (q == topic) as (λ b. position_in (map (moved_to topic to) xs) q ≡ cond b (cond (has_topic q (topics_in xs)) to 0) (position_in xs q) →
@@ -80,53 +83,53 @@ moved_positions topic to xs there = fun_ext (λ q. position_moved topic to xs q 
   | false ↦ λ e. refl
 ] refl)
 
-kept_here : (xs : List Input) (q : ℕ) → kept_in (map kept_now xs) q ≡ position_in xs q
+kept_here : (xs : List Input) (q : ℕ) → committed_in (map with_committed xs) q ≡ position_in xs q
 kept_here [] q = refl
 kept_here (x ∷ xs) q = ap (λ (r : ℕ). if q == x.topic then x.position else r) (kept_here xs q)
 
-position_kept : (xs : List Input) (q : ℕ) → position_in (map kept_now xs) q ≡ position_in xs q
+position_kept : (xs : List Input) (q : ℕ) → position_in (map with_committed xs) q ≡ position_in xs q
 position_kept [] q = refl
 position_kept (x ∷ xs) q = ap (λ (r : ℕ). if q == x.topic then x.position else r) (position_kept xs q)
 
-topics_kept : (xs : List Input) → topics_in (map kept_now xs) ≡ topics_in xs
+topics_kept : (xs : List Input) → topics_in (map with_committed xs) ≡ topics_in xs
 topics_kept [] = refl
 topics_kept (x ∷ xs) = ap (λ ns. x.topic ∷ ns) (topics_kept xs)
 
-clean_in : (all xs : List Input) → are_kept_in all xs ≡ true → (q : ℕ) → has_topic q (topics_in xs) ≡ true → position_in all q ≡ kept_in all q
+clean_in : (all xs : List Input) → are_committed all xs ≡ true → (q : ℕ) → has_topic q (topics_in xs) ≡ true → position_in all q ≡ committed_in all q
 clean_in all [] h q there = absurd (true≢false (sym there))
-clean_in all (x ∷ xs) h q there = elim (position_in all x.topic == kept_in all x.topic) as (λ b. (position_in all x.topic == kept_in all x.topic) ≡ b → (if b then are_kept_in all xs else false) ≡ true → position_in all q ≡ kept_in all q) [
-  | true ↦ λ e g. elim (q == x.topic) as (λ b. (q == x.topic) ≡ b → (b || has_topic q (topics_in xs)) ≡ true → position_in all q ≡ kept_in all q) [
-    | true ↦ λ f t. subst (λ n. position_in all n ≡ kept_in all n) (sym (eq_is q x.topic f)) (eq_is (position_in all x.topic) (kept_in all x.topic) e)
+clean_in all (x ∷ xs) h q there = elim (position_in all x.topic == committed_in all x.topic) as (λ b. (position_in all x.topic == committed_in all x.topic) ≡ b → (if b then are_committed all xs else false) ≡ true → position_in all q ≡ committed_in all q) [
+  | true ↦ λ e g. elim (q == x.topic) as (λ b. (q == x.topic) ≡ b → (b || has_topic q (topics_in xs)) ≡ true → position_in all q ≡ committed_in all q) [
+    | true ↦ λ f t. subst (λ n. position_in all n ≡ committed_in all n) (sym (eq_is q x.topic f)) (eq_is (position_in all x.topic) (committed_in all x.topic) e)
     | false ↦ λ f t. clean_in all xs g q t
   ] refl there
   | false ↦ λ e g. absurd (true≢false (sym g))
 ] refl h
 
-absent : (xs : List Input) (q : ℕ) → has_topic q (topics_in xs) ≡ false → position_in xs q ≡ kept_in xs q
+absent : (xs : List Input) (q : ℕ) → has_topic q (topics_in xs) ≡ false → position_in xs q ≡ committed_in xs q
 absent [] q none = refl
-absent (x ∷ xs) q none = elim (q == x.topic) as (λ b. (b || has_topic q (topics_in xs)) ≡ false → (if b then x.position else position_in xs q) ≡ (if b then x.kept else kept_in xs q)) [
+absent (x ∷ xs) q none = elim (q == x.topic) as (λ b. (b || has_topic q (topics_in xs)) ≡ false → (if b then x.position else position_in xs q) ≡ (if b then x.committed else committed_in xs q)) [
   | true ↦ λ t. absurd (true≢false t)
   | false ↦ λ t. absent xs q t
 ] none
 
-pub clean_is : (xs : List Input) → are_kept_in xs xs ≡ true → (q : ℕ) → position_in xs q ≡ kept_in xs q
-clean_is xs h q = elim (has_topic q (topics_in xs)) as (λ b. has_topic q (topics_in xs) ≡ b → position_in xs q ≡ kept_in xs q) [
+pub clean_is : (xs : List Input) → are_committed xs xs ≡ true → (q : ℕ) → position_in xs q ≡ committed_in xs q
+clean_is xs h q = elim (has_topic q (topics_in xs)) as (λ b. has_topic q (topics_in xs) ≡ b → position_in xs q ≡ committed_in xs q) [
   | true ↦ λ e. clean_in xs xs h q e
   | false ↦ λ e. absent xs q e
 ] refl
 
-pub is_clean : (all xs : List Input) → ((q : ℕ) → position_in all q ≡ kept_in all q) → are_kept_in all xs ≡ true
+pub is_clean : (all xs : List Input) → ((q : ℕ) → position_in all q ≡ committed_in all q) → are_committed all xs ≡ true
 is_clean all [] h = refl
-is_clean all (x ∷ xs) h = ap (λ b. if b then are_kept_in all xs else false) ((Decides-eqb (position_in all x.topic) (kept_in all x.topic)).1 (h x.topic)) ∙ is_clean all xs h
+is_clean all (x ∷ xs) h = ap (λ b. if b then are_committed all xs else false) ((Decides-eqb (position_in all x.topic) (committed_in all x.topic)).1 (h x.topic)) ∙ is_clean all xs h
 
 -- ---- changelogs
-numbers_ended : (ends : List (ℕ × ℕ)) (ls : List Log) → numbers_of (map (ended ends) ls) ≡ numbers_of ls
+numbers_ended : (ends : List (ℕ × ℕ)) (ls : List Changelog) → numbers_of (map (ended ends) ls) ≡ numbers_of ls
 numbers_ended ends [] = refl
-numbers_ended ends (l ∷ ls) = ap (λ ns. l.number ∷ ns) (numbers_ended ends ls)
+numbers_ended ends (l ∷ ls) = ap (λ ns. l.topic ∷ ns) (numbers_ended ends ls)
 
-stores_ended : (ends : List (ℕ × ℕ)) (ls : List Log) (n : ℕ) → stores_in (map (ended ends) ls) n ≡ stores_in ls n
+stores_ended : (ends : List (ℕ × ℕ)) (ls : List Changelog) (n : ℕ) → stores_in (map (ended ends) ls) n ≡ stores_in ls n
 stores_ended ends [] n = refl
-stores_ended ends (l ∷ ls) n = ap (λ (s : Store). if n == l.number then l.store else s) (stores_ended ends ls n)
+stores_ended ends (l ∷ ls) n = ap (λ (s : Store). if n == l.topic then l.store else s) (stores_ended ends ls n)
 
 pub own_offset : (ns : List ℕ) (topic old : ℕ) (ends : List (ℕ × ℕ)) → offset_in old topic (own_ends ns ends) ≡ cond (has_topic topic ns) (offset_in old topic ends) old
 own_offset ns topic old [] = sym (both (has_topic topic ns) old)
@@ -143,12 +146,12 @@ own_offset ns topic old (e ∷ es) =
       ] refl
     ] refl
 
-position_ended : (ends : List (ℕ × ℕ)) (ls : List Log) (topic : ℕ) → positions_in (map (ended ends) ls) topic ≡ cond (has_topic topic (numbers_of ls)) (offset_in (positions_in ls topic) topic ends) (positions_in ls topic)
+position_ended : (ends : List (ℕ × ℕ)) (ls : List Changelog) (topic : ℕ) → positions_in (map (ended ends) ls) topic ≡ cond (has_topic topic (numbers_of ls)) (offset_in (positions_in ls topic) topic ends) (positions_in ls topic)
 position_ended ends [] topic = refl
 position_ended ends (l ∷ ls) topic =
-    elim (topic == l.number) as (λ b. (topic == l.number) ≡ b →
-    (if b then offset_in l.position l.number ends else positions_in (map (ended ends) ls) topic) ≡ cond (b || has_topic topic (numbers_of ls)) (offset_in (if b then l.position else positions_in ls topic) topic ends) (if b then l.position else positions_in ls topic)) [
-      | true ↦ λ e. ap (λ n. offset_in l.position n ends) (sym (eq_is topic l.number e))
+    elim (topic == l.topic) as (λ b. (topic == l.topic) ≡ b →
+    (if b then offset_in l.position l.topic ends else positions_in (map (ended ends) ls) topic) ≡ cond (b || has_topic topic (numbers_of ls)) (offset_in (if b then l.position else positions_in ls topic) topic ends) (if b then l.position else positions_in ls topic)) [
+      | true ↦ λ e. ap (λ n. offset_in l.position n ends) (sym (eq_is topic l.topic e))
       | false ↦ λ e. position_ended ends ls topic
     ] refl
 
@@ -156,20 +159,20 @@ same_number : (n : ℕ) (ns : List ℕ) → has_number n ns ≡ has_topic n ns
 same_number n [] = refl
 same_number n (m ∷ ms) = ap (λ b. (n == m) || b) (same_number n ms)
 
-store_after : (part : ℕ) (made : List (PartId × Rec)) (ls : List Log) (n : ℕ) →
+store_after : (part : ℕ) (made : List (PartId × Rec)) (ls : List Changelog) (n : ℕ) →
     stores_in (map (log_after part made) ls) n ≡ cond (has_number n (numbers_of ls)) (keep_all (stores_in ls n) (records_at (record { topic = n; part = part }) made)) (stores_in ls n)
 store_after part made [] n = refl
 store_after part made (l ∷ ls) n =
-    elim (n == l.number) as (λ b. (n == l.number) ≡ b →
-    (if b then keep_all l.store (records_at (record { topic = l.number; part = part }) made) else stores_in (map (log_after part made) ls) n)
+    elim (n == l.topic) as (λ b. (n == l.topic) ≡ b →
+    (if b then keep_all l.store (records_at (record { topic = l.topic; part = part }) made) else stores_in (map (log_after part made) ls) n)
     ≡ cond (b || has_number n (numbers_of ls)) (keep_all (if b then l.store else stores_in ls n) (records_at (record { topic = n; part = part }) made)) (if b then l.store else stores_in ls n)) [
-      | true ↦ λ e. ap (λ m. keep_all l.store (records_at (record { topic = m; part = part }) made)) (sym (eq_is n l.number e))
+      | true ↦ λ e. ap (λ m. keep_all l.store (records_at (record { topic = m; part = part }) made)) (sym (eq_is n l.topic e))
       | false ↦ λ e. store_after part made ls n
     ] refl
 
-position_after : (part : ℕ) (made : List (PartId × Rec)) (ls : List Log) (n : ℕ) → positions_in (map (log_after part made) ls) n ≡ positions_in ls n
+position_after : (part : ℕ) (made : List (PartId × Rec)) (ls : List Changelog) (n : ℕ) → positions_in (map (log_after part made) ls) n ≡ positions_in ls n
 position_after part made [] n = refl
-position_after part made (l ∷ ls) n = ap (λ (r : ℕ). if n == l.number then l.position else r) (position_after part made ls n)
+position_after part made (l ∷ ls) n = ap (λ (r : ℕ). if n == l.topic then l.position else r) (position_after part made ls n)
 
 -- ---- records
 records-append : (q : PartId) (xs ys : List (PartId × Rec)) → records_at q (xs ++ ys) ≡ records_at q xs ++ records_at q ys
@@ -183,108 +186,105 @@ records_is : (plan : Work) (q : PartId) (xs : List (PartId × Rec)) → records_
 records_is plan q [] = refl
 records_is plan q (x ∷ xs) = ap (λ l. cond (same_part q x.0) (x.1 ∷ l) l) (records_is plan q xs)
 
--- ---- nodes
-kinds_seen : (ss : List Step) → map (λ (s : Step). kind_of s.doing) ss ≡ map (λ (v : StepView). v.kind) (map step_view ss)
-kinds_seen [] = refl
-kinds_seen (s ∷ ss) = ap (λ l. kind_of s.doing ∷ l) (kinds_seen ss)
+capped_twice : (a b : ℕ) → capped (a + capped b) ≡ capped (a + b)
+capped_twice a b = omega arith
 
-kinds_from : (p : Plan) (sub n : ℕ) (ks : List Kind) → map (λ (v : StepView). v.kind) (steps_from p sub n ks) ≡ ks
-kinds_from p sub n [] = refl
-kinds_from p sub n (k ∷ ks) = ap (λ l. k ∷ l) (kinds_from p sub (suc n) ks)
+pub capped_late : (a n m late : ℕ) → n ≡ capped m → late ≡ capped (a + n) → late ≡ capped (a + m)
+capped_late a n m late e f = f ∙ (ap (λ i. capped (a + i)) e ∙ capped_twice a m)
 
 -- ---- the calls
-pub fresh_is : (t : TaskId) (topics numbers : List ℕ) → view_of t (map (λ topic. record { topic = topic; kept = 0; position = 0 }) topics) (map (λ number. record { number = number; position = 0; store = empty_store }) numbers) [] [] ≡ fresh_view t
+pub fresh_is : (t : TaskId) (topics numbers : List ℕ) → view_of t (map (λ topic. record { topic = topic; committed = 0; position = 0 }) topics) (map (λ number. record { topic = number; position = 0; store = empty_store }) numbers) [] [] 0 ≡ fresh_view t
 fresh_is t topics numbers =
     ap₂ (λ (k i : ℕ → ℕ). record { task = t; kept = k; inputs = i; order = []; position = positions_in new_logs; stores = stores_in new_logs; made = λ (q : PartId). []; late = 0 })
     (fun_ext (λ q. none_kept topics q)) (fun_ext (λ q. none_moved topics q))
     ∙ ap₂ (λ (p : ℕ → ℕ) (s : ℕ → Store). record { task = t; kept = λ (q : ℕ). 0; inputs = λ (q : ℕ). 0; order = []; position = p; stores = s; made = λ (q : PartId). []; late = 0 })
     (fun_ext (λ q. none_ended numbers q)) (fun_ext (λ q. none_stored numbers q))
   where
-    new_logs : List Log
-    new_logs = map (λ number. record { number = number; position = 0; store = empty_store }) numbers
+    new_logs : List Changelog
+    new_logs = map (λ number. record { topic = number; position = 0; store = empty_store }) numbers
 
-    none_kept : (ns : List ℕ) (q : ℕ) → kept_in (map (λ topic. record { topic = topic; kept = 0; position = 0 }) ns) q ≡ 0
+    none_kept : (ns : List ℕ) (q : ℕ) → committed_in (map (λ topic. record { topic = topic; committed = 0; position = 0 }) ns) q ≡ 0
     none_kept [] q = refl
     none_kept (n ∷ ns) q = ap (λ (r : ℕ). if q == n then 0 else r) (none_kept ns q) ∙ both (q == n) 0
 
-    none_moved : (ns : List ℕ) (q : ℕ) → position_in (map (λ topic. record { topic = topic; kept = 0; position = 0 }) ns) q ≡ 0
+    none_moved : (ns : List ℕ) (q : ℕ) → position_in (map (λ topic. record { topic = topic; committed = 0; position = 0 }) ns) q ≡ 0
     none_moved [] q = refl
     none_moved (n ∷ ns) q = ap (λ (r : ℕ). if q == n then 0 else r) (none_moved ns q) ∙ both (q == n) 0
 
-    none_ended : (ns : List ℕ) (q : ℕ) → positions_in (map (λ number. record { number = number; position = 0; store = empty_store }) ns) q ≡ 0
+    none_ended : (ns : List ℕ) (q : ℕ) → positions_in (map (λ number. record { topic = number; position = 0; store = empty_store }) ns) q ≡ 0
     none_ended [] q = refl
     none_ended (n ∷ ns) q = ap (λ (r : ℕ). if q == n then 0 else r) (none_ended ns q) ∙ both (q == n) 0
 
-    none_stored : (ns : List ℕ) (q : ℕ) → stores_in (map (λ number. record { number = number; position = 0; store = empty_store }) ns) q ≡ empty_store
+    none_stored : (ns : List ℕ) (q : ℕ) → stores_in (map (λ number. record { topic = number; position = 0; store = empty_store }) ns) q ≡ empty_store
     none_stored [] q = refl
     none_stored (n ∷ ns) q = ap (λ (r : Store). if q == n then empty_store else r) (none_stored ns q) ∙ both (q == n) empty_store
 
-pub fresh_topics : (topics : List ℕ) → topics_in (map (λ topic. record { topic = topic; kept = 0; position = 0 }) topics) ≡ topics
+pub fresh_topics : (topics : List ℕ) → topics_in (map (λ topic. record { topic = topic; committed = 0; position = 0 }) topics) ≡ topics
 fresh_topics [] = refl
 fresh_topics (t ∷ ts) = ap (λ l. t ∷ l) (fresh_topics ts)
 
-pub fresh_numbers : (numbers : List ℕ) → numbers_of (map (λ number. record { number = number; position = 0; store = empty_store }) numbers) ≡ numbers
+pub fresh_numbers : (numbers : List ℕ) → numbers_of (map (λ number. record { topic = number; position = 0; store = empty_store }) numbers) ≡ numbers
 fresh_numbers [] = refl
 fresh_numbers (n ∷ ns) = ap (λ l. n ∷ l) (fresh_numbers ns)
 
-module _ (d : DraftView) (id : TaskId) (steps : List Step) (inputs : List Input) (logs : List Log) (h : IsTask d id steps inputs logs) where
-  pub still : (inputs' : List Input) (logs' : List Log) → topics_in inputs' ≡ topics_in inputs → numbers_of logs' ≡ numbers_of logs → IsTask d id steps inputs' logs'
-  still inputs' logs' i l = record { well_formed = h.well_formed; built = h.built; there = h.there; steps_are = h.steps_are; inputs_are = i ∙ h.inputs_are; logs_are = l ∙ h.logs_are }
+module _ (d : DraftView) (id : TaskId) (nodes : List NodeTopics) (inputs : List Input) (logs : List Changelog) (h : IsTask d id nodes inputs logs) where
+  pub still : (inputs' : List Input) (logs' : List Changelog) → topics_in inputs' ≡ topics_in inputs → numbers_of logs' ≡ numbers_of logs → IsTask d id nodes inputs' logs'
+  still inputs' logs' i l = record { well_formed = h.well_formed; have = h.have; fits = h.fits; there = h.there; nodes_are = h.nodes_are; inputs_are = i ∙ h.inputs_are; logs_are = l ∙ h.logs_are }
 
-  pub still_moved : (topic to : ℕ) (inputs' : List Input) (logs' : List Log) → inputs' ≡ map (moved_to topic to) inputs → numbers_of logs' ≡ numbers_of logs → IsTask d id steps inputs' logs'
+  pub still_moved : (topic to : ℕ) (inputs' : List Input) (logs' : List Changelog) → inputs' ≡ map (moved_to topic to) inputs → numbers_of logs' ≡ numbers_of logs → IsTask d id nodes inputs' logs'
   still_moved topic to inputs' logs' i l = still inputs' logs' (ap topics_in i ∙ topics_moved topic to inputs) l
 
-  pub still_kept : (ends : List (ℕ × ℕ)) (inputs' : List Input) (logs' : List Log) → inputs' ≡ map kept_now inputs → logs' ≡ map (ended ends) logs → IsTask d id steps inputs' logs'
+  pub still_kept : (ends : List (ℕ × ℕ)) (inputs' : List Input) (logs' : List Changelog) → inputs' ≡ map with_committed inputs → logs' ≡ map (ended ends) logs → IsTask d id nodes inputs' logs'
   still_kept ends inputs' logs' i l = still inputs' logs' (ap topics_in i ∙ topics_kept inputs) (ap numbers_of l ∙ numbers_ended ends logs)
 
   named : (topic : ℕ) → has_topic topic (input_numbers (plan_of d) id.sub) ≡ true → has_topic topic (topics_in inputs) ≡ true
   named topic there = ap (has_topic topic) h.inputs_are ∙ there
 
-  pub skipped : (topic to : ℕ) (inputs' : List Input) (order : List (ℕ × ℕ)) (made : List (PartId × Rec)) → has_topic topic (input_numbers (plan_of d) id.sub) ≡ true → inputs' ≡ map (moved_to topic to) inputs →
-      view_of id inputs' logs order made ≡ skip_view (view_of id inputs logs order made) topic to
-  skipped topic to inputs' order made there i =
-      ap (λ l. view_of id l logs order made) i
-      ∙ ap₂ (λ (k i : ℕ → ℕ). record { task = id; kept = k; inputs = i; order = order; position = positions_in logs; stores = stores_in logs; made = λ q. records_at q made; late = 0 })
+  pub skipped : (topic to : ℕ) (inputs' : List Input) (order : List (ℕ × ℕ)) (made : List (PartId × Rec)) (late : ℕ) → has_topic topic (input_numbers (plan_of d) id.sub) ≡ true → inputs' ≡ map (moved_to topic to) inputs →
+      view_of id inputs' logs order made late ≡ skip_view (view_of id inputs logs order made late) topic to
+  skipped topic to inputs' order made late there i =
+      ap (λ l. view_of id l logs order made late) i
+      ∙ ap₂ (λ (k i : ℕ → ℕ). record { task = id; kept = k; inputs = i; order = order; position = positions_in logs; stores = stores_in logs; made = λ q. records_at q made; late = late })
       (fun_ext (λ q. kept_moved topic to inputs q)) (moved_positions topic to inputs (named topic there))
 
-  pub kept_all : (ends : List (ℕ × ℕ)) (inputs' : List Input) (logs' : List Log) (order : List (ℕ × ℕ)) (made : List (PartId × Rec)) → inputs' ≡ map kept_now inputs → logs' ≡ map (ended ends) logs →
-      view_of id inputs' logs' [] [] ≡ committed_view (view_of id inputs logs order made) (own_ends (changelog_numbers (plan_of d) id.sub) ends)
-  kept_all ends inputs' logs' order made i l =
-      ap₂ (λ x y. view_of id x y [] []) i l
+  pub kept_all : (ends : List (ℕ × ℕ)) (inputs' : List Input) (logs' : List Changelog) (order : List (ℕ × ℕ)) (made : List (PartId × Rec)) (late : ℕ) → inputs' ≡ map with_committed inputs → logs' ≡ map (ended ends) logs →
+      view_of id inputs' logs' [] [] 0 ≡ committed_view (view_of id inputs logs order made late) (own_ends (changelog_numbers (plan_of d) id.sub) ends)
+  kept_all ends inputs' logs' order made late i l =
+      ap₂ (λ x y. view_of id x y [] [] 0) i l
       ∙ ap₂ (λ (k i : ℕ → ℕ). record { task = id; kept = k; inputs = i; order = []; position = positions_in (map (ended ends) logs); stores = stores_in (map (ended ends) logs); made = λ (q : PartId). []; late = 0 })
       (fun_ext (λ q. kept_here inputs q)) (fun_ext (λ q. position_kept inputs q))
       ∙ ap₂ (λ (p : ℕ → ℕ) (s : ℕ → Store). record { task = id; kept = position_in inputs; inputs = position_in inputs; order = []; position = p; stores = s; made = λ (q : PartId). []; late = 0 })
       (fun_ext (λ q. position_ended ends logs q ∙ (sym (own_offset (numbers_of logs) q (positions_in logs q) ends) ∙ ap (λ ns. offset_in (positions_in logs q) q (own_ends ns ends)) h.logs_are)))
       (fun_ext (λ q. stores_ended ends logs q))
 
-  pub taken : (hash : List ℕ → ℕ) (topic offset : ℕ) (rec : Rec) (inputs' : List Input) (logs' : List Log) (order order' : List (ℕ × ℕ)) (made more made' : List (PartId × Rec)) →
+  pub taken : (hash : List ℕ → ℕ) (topic offset : ℕ) (rec : Rec) (inputs' : List Input) (logs' : List Changelog) (order order' : List (ℕ × ℕ)) (made more made' : List (PartId × Rec)) (late some late' : ℕ) →
       has_topic topic (input_numbers (plan_of d) id.sub) ≡ true →
       inputs' ≡ map (moved_to topic (offset + 1)) inputs →
-      more ≡ made_or_none (map step_view steps) (stores_in logs) id.part (arrived_at_topic (map (λ (s : Step). kind_of s.doing) steps) (topic_at (plan_of d) topic) rec) →
+      more ≡ made_or_none (rules_of hash) (nodes_of (plan_of d) id.sub) (stores_in logs) id.part (arrival_at (plan_of d).kinds (topic_at (plan_of d) topic) rec) →
+      AreStores (stores_in logs) → IsRecord rec →
       logs' ≡ map (log_after id.part more) logs → order' ≡ with_taken topic order → made' ≡ made ++ more →
-      view_of id inputs' logs' order' made' ≡ take_view (work_of (rules_of hash) (plan_of d)) (view_of id inputs logs order made) topic offset rec
-  taken hash topic offset rec inputs' logs' order order' made more made' there i m l o q =
+      some ≡ late_or_none (nodes_of (plan_of d) id.sub) (stores_in logs) (arrival_at (plan_of d).kinds (topic_at (plan_of d) topic) rec) → late' ≡ capped (late + some) →
+      view_of id inputs' logs' order' made' late' ≡ take_view (work_of (rules_of hash) (plan_of d)) (view_of id inputs logs order made late) topic offset rec
+  taken hash topic offset rec inputs' logs' order order' made more made' late some late' there i m held is l o q f g =
       let p = plan_of d in
       let plan = work_of (rules_of hash) p in
-      let kinds : map (λ (s : Step). kind_of s.doing) steps ≡ p.kinds = kinds_seen steps ∙ (ap (map (λ (v : StepView). v.kind)) h.steps_are ∙ kinds_from p id.sub 0 p.kinds) in
-      let made_is : more ≡ made_or_none (steps_of p id.sub) (stores_in logs) id.part (arrived_at_topic p.kinds (topic_at p topic) rec) =
-      m ∙ ap₂ (λ ss ks. made_or_none ss (stores_in logs) id.part (arrived_at_topic ks (topic_at p topic) rec)) h.steps_are kinds in
-      let step = step_is d h.well_formed h.built hash id h.there (stores_in logs) topic rec there in
-      let out : byte_step (rules_of hash) p id (stores_in logs) (part_of topic id) rec ≡ record { store = stores_after p id (stores_in logs) more; made = more; late = 0 } =
-      step ∙ ap (λ xs. record { store = stores_after p id (stores_in logs) xs; made = xs; late = 0 }) (sym made_is) in
+      let step = step_is d h.well_formed h.have h.fits hash id (stores_in logs) held topic rec is there in
+      let out : byte_step (rules_of hash) p id (stores_in logs) (part_of topic id) rec ≡ record { store = stores_after p id (stores_in logs) more; made = more; late = some } =
+      step ∙ ap₂ (λ xs n. record { store = stores_after p id (stores_in logs) xs; made = xs; late = n }) (sym m) (sym f) in
       let stores : stores_in logs' ≡ stores_after p id (stores_in logs) more =
       ap stores_in l ∙ fun_ext (λ n. store_after id.part more logs n ∙ ap (λ ns. cond (has_number n ns) (keep_all (stores_in logs n) (records_at (record { topic = n; part = id.part }) more)) (stores_in logs n)) h.logs_are) in
-      ap₂ (λ (k i : ℕ → ℕ). record { task = id; kept = k; inputs = i; order = order'; position = positions_in logs'; stores = stores_in logs'; made = λ q. records_at q made'; late = 0 })
-      (ap kept_in i ∙ fun_ext (λ q. kept_moved topic (offset + 1) inputs q)) (ap position_in i ∙ moved_positions topic (offset + 1) inputs (named topic there))
-      ∙ ap₂ (λ (p : ℕ → ℕ) (s : ℕ → Store). record { task = id; kept = kept_in inputs; inputs = with_number (position_in inputs) topic (offset + 1); order = order'; position = p; stores = s; made = λ q. records_at q made'; late = 0 })
+      ap₂ (λ (k i : ℕ → ℕ). record { task = id; kept = k; inputs = i; order = order'; position = positions_in logs'; stores = stores_in logs'; made = λ q. records_at q made'; late = late' })
+      (ap committed_in i ∙ fun_ext (λ q. kept_moved topic (offset + 1) inputs q)) (ap position_in i ∙ moved_positions topic (offset + 1) inputs (named topic there))
+      ∙ ap₂ (λ (p : ℕ → ℕ) (s : ℕ → Store). record { task = id; kept = committed_in inputs; inputs = with_number (position_in inputs) topic (offset + 1); order = order'; position = p; stores = s; made = λ q. records_at q made'; late = late' })
       (ap positions_in l ∙ fun_ext (λ q. position_after id.part more logs q)) stores
-      ∙ ap₂ (λ (o : List (ℕ × ℕ)) (f : PartId → List Rec). record { task = id; kept = kept_in inputs; inputs = with_number (position_in inputs) topic (offset + 1); order = o; position = positions_in logs; stores = stores_after p id (stores_in logs) more; made = f; late = 0 })
+      ∙ ap₂ (λ (o : List (ℕ × ℕ)) (f : PartId → List Rec). record { task = id; kept = committed_in inputs; inputs = with_number (position_in inputs) topic (offset + 1); order = o; position = positions_in logs; stores = stores_after p id (stores_in logs) more; made = f; late = late' })
       o (fun_ext (λ at. ap (records_at at) q ∙ (records-append at made more ∙ ap (λ rs. records_at at made ++ rs) (records_is plan at more))))
-      ∙ ap (λ (out : Outcome PartId ByteStores Rec). record { task = id; kept = kept_in inputs; inputs = with_number (position_in inputs) topic (offset + 1); order = with_taken topic order; position = positions_in logs; stores = out.store; made = λ at. records_at at made ++ sent_to (network plan) at out.made; late = capped (0 + out.late) }) (sym out)
+      ∙ ap (λ n. record { task = id; kept = committed_in inputs; inputs = with_number (position_in inputs) topic (offset + 1); order = with_taken topic order; position = positions_in logs; stores = stores_after p id (stores_in logs) more; made = λ at. records_at at made ++ sent_to (network plan) at more; late = n }) g
+      ∙ ap (λ (out : Outcome PartId ByteStores Rec). record { task = id; kept = committed_in inputs; inputs = with_number (position_in inputs) topic (offset + 1); order = with_taken topic order; position = positions_in logs; stores = out.store; made = λ at. records_at at made ++ sent_to (network plan) at out.made; late = capped (late + out.late) }) (sym out)
 
-  pub frozen : (hash : List ℕ → ℕ) (order : List (ℕ × ℕ)) (made : List (PartId × Rec)) (f : WorkView) → f.task ≡ id → f.offsets ≡ map (λ topic. (topic, position_in inputs topic)) (topics_in inputs) → f.order ≡ order → f.late ≡ 0 → f.outputs ≡ grouped [] made →
-      IsFrozen (work_of (rules_of hash) (plan_of d)) (view_of id inputs logs order made) f
-  frozen hash order made f t o r l g = record {
+  pub frozen : (hash : List ℕ → ℕ) (order : List (ℕ × ℕ)) (made : List (PartId × Rec)) (late : ℕ) (f : WorkView) → f.task ≡ id → f.offsets ≡ map (λ topic. (topic, position_in inputs topic)) (topics_in inputs) → f.order ≡ order → f.late ≡ late → f.outputs ≡ grouped [] made →
+      IsFrozen (work_of (rules_of hash) (plan_of d)) (view_of id inputs logs order made late) f
+  frozen hash order made late f t o r l g = record {
     task = t;
     offsets = o ∙ ap (map (λ topic. (topic, position_in inputs topic))) h.inputs_are;
     order = r;

@@ -1,100 +1,144 @@
 //! A task at work.
-ghost use Rattle.std.specs.Prelude.{◌≡◌, ◌↔◌, ℕ, List, IfOk, OnOk, map, true, slice_get};
-ghost use Rattle.ks_row.specs.declared.record.PartId.{PartId as Part};
+ghost use Rattle.std.specs.Prelude.{◌≡◌, ℕ, List, IfOk, OnOk, map, true, slice_get, option_map};
 ghost use Rattle.ks_plan.specs.Drafts.{DraftView};
 ghost use Rattle.ks_plan.specs.Plan.{plan_of};
 ghost use Rattle.ks_topo.specs.Topologies.{draft_of, plan_in};
 ghost use Rattle.ks_plan.specs.Layout.{tasks, topic_at};
 ghost use Rattle.ks_plan.specs.Infos.{input_numbers, changelog_numbers};
-ghost use Rattle.ks_def_tasks.specs.Bytes.{stores_after};
 ghost use Rattle.ks_history.specs.Machine.{has_topic};
 ghost use Rattle.ks_history.specs.State.{has_task};
+ghost use Rattle.ks_history.specs.Faithful.{capped};
 ghost use Rattle.ks_law_topology.specs.Work.{work_of};
 ghost use Rattle.ks_law_restore.specs.Views.{fresh_view, take_view, skip_view, committed_view, IsFrozen};
 ghost use Rattle.ks_commit.specs.Work.{work_view};
-ghost use Rattle.ks_task.specs.Built.{IsBuilt, rules_of};
-ghost use Rattle.ks_task.specs.Program.{step_view, made_or_none, kind_of};
-ghost use Rattle.ks_task.specs.Views.{stores_in, arrived_at_topic, own_ends, numbers_of, topics_in, position_in, view_of};
+ghost use Rattle.ks_nodes.specs.Rules.{HaveParts, rules_of};
+ghost use Rattle.ks_nodes.specs.Nodes.{node_view, kinds_in, nodes_of};
+ghost use Rattle.ks_nodes.specs.Records.{arrival_of, arrival_at};
+ghost use Rattle.ks_processors.specs.Steps.{stores_in, made_or_none, late_or_none};
+ghost use Rattle.ks_task.specs.Views.{own_ends};
 ghost use Rattle.ks_task.specs.Tasks.{task_view, IsTaskOf};
 
-use crate::arrival::{Arrived, read_arrived};
+use crate::changelogs::{
+    end_changelogs, hold_bytes, keep_records, new_changelogs, position_in_changelog,
+    record_is_bytes,
+};
 use crate::freezing::group;
 use crate::inputs::{
-    Input, are_kept, keep_inputs, move_input, new_inputs, offsets_of, position_of, take_in_order,
+    Input, are_all_committed, commit_inputs, move_input, new_inputs, offsets_of, position_of,
+    take_in_order,
 };
-use crate::logs::{Log, end_logs, keep_logs, log_position, new_logs};
-use crate::program::{Step, steps_for};
-use crate::step::make;
 use ks_commit::Frozen;
 use ks_hash::Hash128;
+use ks_law_kinds::topology_fits;
+use ks_nodes::{
+    NodeTopics, ProcessorNode, StampedRecord, node_topics, processor_nodes, read_record,
+};
+use ks_processors::{Changelog, Step, StepOutput, process};
 use ks_row::{PartId, Rec, Seq, TaskId};
 use ks_topo::{Topic, Topology};
 use std::alloc::{AllocError, Global};
 
-/// A task: its stores, its positions, and what it made since its last commit.
+/// A task: its nodes, its stores and positions, and what it made since its last commit. A node is kept by the numbers of its topics; what
+/// it computes is borrowed of the topology while a record is taken.
 #[derive(Drop)]
 pub struct Task {
     id: TaskId,
-    steps: Vec<Step>,
+    nodes: Vec<NodeTopics>,
     inputs: Vec<Input>,
-    logs: Vec<Log>,
+    changelogs: Vec<Changelog>,
     order: Vec<(u16, u64)>,
     made: Vec<(PartId, Rec)>,
+    late: u64,
 }
 
 // What a record of a topic says.
-fn arrived_by<'a>(
+fn read_from<'a>(
     alloc: Global,
     purposes: &[Topic],
-    steps: &[Step],
+    nodes: &[ProcessorNode<'_>],
     topic: u16,
     rec: &'a Rec,
-) -> Result<Option<Arrived<'a>>, AllocError>
-    ensures { IfOk result (λ o. o ≡ arrived_at_topic (map (λ (s : Step). kind_of s.doing) steps.now) (slice_get purposes.now topic) rec.now) }
+) -> Result<Option<StampedRecord<'a>>, AllocError>
+    ensures { IfOk result (λ o. option_map arrival_of o ≡ arrival_at (kinds_in (map node_view nodes.now)) (slice_get purposes.now topic) rec.now) }
 {
     match purposes.get(topic as usize) {
-        Some(purpose) => read_arrived(alloc, steps, *purpose, rec),
+        Some(purpose) => read_record(alloc, nodes, *purpose, rec),
         None => Ok(None),
     }
 }
 
-// All that a record makes.
-fn made_by(
+// All that these nodes make of a record.
+fn process_record<'s, H: Hash128>(
     alloc: Global,
     purposes: &[Topic],
-    steps: &[Step],
-    logs: &[Log],
-    part: u8,
-    topic: u16,
-    rec: &Rec,
-) -> Result<Vec<(PartId, Rec)>, AllocError>
-    ensures { IfOk result (λ v. v.items ≡ made_or_none (map step_view steps.now) (stores_in logs.now) part (arrived_at_topic (map (λ (s : Step). kind_of s.doing) steps.now) (slice_get purposes.now topic) rec.now)) }
+    nodes: &'s [ProcessorNode<'s>],
+    changelogs: &'s [Changelog],
+    at: PartId,
+    rec: &'s Rec,
+) -> Result<StepOutput, AllocError>
+    ensures late { IfOk result (λ m. m.late ≡ capped (late_or_none (map node_view nodes.now) (stores_in changelogs.now) (arrival_at (kinds_in (map node_view nodes.now)) (slice_get purposes.now at.topic) rec.now))) }
+    ensures records { IfOk result (λ m. m.records.items ≡ made_or_none (rules_of H.hash_of) (map node_view nodes.now) (stores_in changelogs.now) at.part (arrival_at (kinds_in (map node_view nodes.now)) (slice_get purposes.now at.topic) rec.now)) }
 {
-    match arrived_by(alloc, purposes, steps, topic, rec)? {
-        Some(x) => make(alloc, steps, logs, part, &x),
-        None => Ok(Vec::new(alloc)),
+    match read_from(alloc, purposes, nodes, at.topic, rec)? {
+        Some(stamped) => {
+            let step = Step {
+                nodes,
+                changelogs,
+                partition: at.part,
+                stamped: &stamped,
+            };
+            process::<H>(alloc, &step)
+        }
+        None => Ok(StepOutput {
+            records: Vec::new(alloc),
+            late: 0,
+        }),
     }
 }
 
 impl Task {
     /// A task of a topology that has taken nothing, with empty stores.
     pub fn fresh(alloc: Global, topology: &Topology, task: TaskId) -> Result<Task, AllocError>
-        requires built { IsBuilt (plan_in topology.now) }
+        requires parts { HaveParts (plan_in topology.now) }
         requires there { has_task task (tasks (plan_in topology.now)) ≡ true }
         ensures task { IfOk result (λ t. IsTaskOf (draft_of topology.now) t) }
         ensures view { IfOk result (λ t. task_view t ≡ fresh_view task) }
     {
-        let steps = steps_for(alloc, topology.purposes(), task.sub, topology.nodes())?;
+        // What a topology is built of can be written: the machine's law asks for it.
+        topology_fits(topology);
+        let nodes = node_topics(alloc, topology.purposes(), task.sub, topology.nodes())?;
         let inputs = new_inputs(alloc, topology.inputs(task.sub))?;
-        let logs = new_logs(alloc, topology.changelogs(task.sub))?;
+        let changelogs = new_changelogs(alloc, topology.changelogs(task.sub))?;
         Ok(Task {
             id: task,
-            steps,
+            nodes,
             inputs,
-            logs,
+            changelogs,
             order: Vec::new(alloc),
             made: Vec::new(alloc),
+            late: 0,
         })
+    }
+
+    // All that the nodes make of a record of a topic.
+    fn process<H: Hash128>(
+        &self,
+        alloc: Global,
+        topology: &Topology,
+        topic: u16,
+        rec: &Rec,
+    ) -> Result<StepOutput, AllocError>
+        requires { IsTaskOf (draft_of topology.now) self.now }
+        ensures late { IfOk result (λ m. m.late ≡ capped (late_or_none (nodes_of (plan_in topology.now) self.now.id.sub) (stores_in self.now.changelogs.items) (arrival_at (plan_in topology.now).kinds (topic_at (plan_in topology.now) topic) rec.now))) }
+        ensures records { IfOk result (λ m. m.records.items ≡ made_or_none (rules_of H.hash_of) (nodes_of (plan_in topology.now) self.now.id.sub) (stores_in self.now.changelogs.items) self.now.id.part (arrival_at (plan_in topology.now).kinds (topic_at (plan_in topology.now) topic) rec.now)) }
+    {
+        let nodes = processor_nodes(alloc, &self.nodes, topology.nodes())?;
+        let at = PartId {
+            topic,
+            part: self.id.part,
+        };
+        let purposes = topology.purposes();
+        process_record::<H>(alloc, purposes, nodes.as_slice(), &self.changelogs, at, rec)
     }
 
     /// Takes the next readable record of an input. After want of memory the task is to be dropped.
@@ -114,19 +158,15 @@ impl Task {
         let Some(next) = offset.checked_add(1) else {
             return Err(AllocError);
         };
-        let mut made = made_by(
-            alloc,
-            topology.purposes(),
-            &self.steps,
-            &self.logs,
-            self.id.part,
-            topic,
-            rec,
-        )?;
-        keep_logs(&mut self.logs, self.id.part, &made)?;
+        // Stores and records hold bytes: the machine's law asks for it.
+        hold_bytes(&self.changelogs);
+        record_is_bytes(rec);
+        let mut output = self.process::<H>(alloc, topology, topic, rec)?;
+        keep_records(&mut self.changelogs, self.id.part, &output.records)?;
         move_input(&mut self.inputs, topic, next);
         take_in_order(&mut self.order, topic)?;
-        self.made.append(&mut made)?;
+        self.made.append(&mut output.records)?;
+        self.late = self.late.saturating_add(output.late);
         Ok(())
     }
 
@@ -151,7 +191,7 @@ impl Task {
             outputs: Seq::of(outputs),
             offsets: Seq::of(offsets),
             order: Seq::of(order),
-            late: 0,
+            late: self.late,
         })
     }
 
@@ -161,12 +201,14 @@ impl Task {
         ensures task { (d : DraftView) → IsTaskOf d self.old → IsTaskOf d self.new }
         ensures view { (d : DraftView) → IsTaskOf d self.old → task_view self.new ≡ committed_view (task_view self.old) (own_ends (changelog_numbers (plan_of d) (task_view self.old).task.sub) ends.now) }
     {
-        keep_inputs(&mut self.inputs);
-        end_logs(&mut self.logs, ends);
+        commit_inputs(&mut self.inputs);
+        end_changelogs(&mut self.changelogs, ends);
         self.order.clear();
         self.made.clear();
+        self.late = 0;
     }
 
+    /// Its subtopology and partition.
     pub fn id(&self) -> TaskId
         ensures { result ≡ (task_view self.now).task }
     {
@@ -174,10 +216,10 @@ impl Task {
     }
 
     /// The position in a changelog; 0 in one that is none of the task's. Takes no memory.
-    pub fn position(&self, log: u16) -> u64
-        ensures { result ≡ (task_view self.now).position log }
+    pub fn position(&self, changelog: u16) -> u64
+        ensures { result ≡ (task_view self.now).position changelog }
     {
-        log_position(&self.logs, log)
+        position_in_changelog(&self.changelogs, changelog)
     }
 
     /// The position in an input; 0 in a topic that is none of the task's. Takes no memory.
@@ -193,6 +235,6 @@ impl Task {
         ensures yes { result ≡ true → (topic : ℕ) → (task_view self.now).inputs topic ≡ (task_view self.now).kept topic }
         ensures no { ((topic : ℕ) → (task_view self.now).inputs topic ≡ (task_view self.now).kept topic) → result ≡ true }
     {
-        are_kept(&self.inputs)
+        are_all_committed(&self.inputs)
     }
 }

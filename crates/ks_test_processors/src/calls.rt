@@ -5,7 +5,7 @@ use ks_fk_left::{Answer, respond, subscriptions};
 use ks_fk_right::{on_right, on_subscription};
 use ks_hash::{Hash128, Murmur3};
 use ks_row::{Blob, Change, Key, Name, Rec, Row, Seq, decode, encode};
-use ks_store::{KvStore, PlainStore, restore};
+use ks_store::{KvStore, OrderedStore, PlainStore, StoreCall, StoreReply, restore, run_calls};
 use ks_table_ops::joined_after;
 use ks_window::{Window, apply};
 use ks_wire::{Response, Subscription, write_response, write_subscription};
@@ -74,6 +74,12 @@ enum Call {
         front: &'static [u8],
     },
     Length,
+    /// One list of calls: puts a pair, gets it, asks for the pairs under a prefix, of which the number is told, deletes the pair, gets it.
+    List {
+        key: &'static [u8],
+        value: &'static [u8],
+        front: &'static [u8],
+    },
 }
 
 fn row_bytes(alloc: Global, row: Option<&Row>) -> Result<Vec<u8>, AllocError> {
@@ -266,6 +272,38 @@ fn length<S: KvStore>(alloc: Global, store: &S) -> Result<Vec<u8>, AllocError> {
     Vec::from_slice(alloc, store.len().to_string(alloc)?.as_bytes())
 }
 
+fn list<S: KvStore>(
+    alloc: Global,
+    store: &mut S,
+    key: &[u8],
+    value: &[u8],
+    front: &[u8],
+) -> Result<Vec<u8>, AllocError> {
+    let calls = [
+        StoreCall::Put(
+            Blob::from_slice(alloc, key)?,
+            Blob::from_slice(alloc, value)?,
+        ),
+        StoreCall::Get(Blob::from_slice(alloc, key)?),
+        StoreCall::Prefix(Blob::from_slice(alloc, front)?),
+        StoreCall::Delete(Blob::from_slice(alloc, key)?),
+        StoreCall::Get(Blob::from_slice(alloc, key)?),
+    ];
+    let mut text = Vec::new(alloc);
+    for reply in run_calls(alloc, store, &calls)? {
+        match reply {
+            StoreReply::Done => text.extend_from_slice(b"done")?,
+            StoreReply::Found(Some(value)) => text.extend_from_slice(value.as_slice())?,
+            StoreReply::Found(None) => text.extend_from_slice(b"nothing")?,
+            StoreReply::Pairs(pairs) => {
+                text.extend_from_slice(pairs.len().to_string(alloc)?.as_bytes())?;
+            }
+        }
+        text.push(b' ')?;
+    }
+    Ok(text)
+}
+
 fn answer<H: Hash128, S: KvStore>(
     alloc: Global,
     store: &mut S,
@@ -292,6 +330,7 @@ fn answer<H: Hash128, S: KvStore>(
         Call::Get { key } => get(alloc, store, key),
         Call::Prefix { front } => pairs(alloc, store, front),
         Call::Length => length(alloc, store),
+        Call::List { key, value, front } => list(alloc, store, key, value, front),
     }
 }
 
@@ -528,15 +567,27 @@ const STORED: &[(Call, &[u8])] = &[
     ),
     (Call::Get { key: b"ab" }, b"nothing"),
     (Call::Prefix { front: b"a" }, b"a=3 abc=4 ac=7 "),
+    (
+        Call::List {
+            key: b"ab",
+            value: b"9",
+            front: b"a",
+        },
+        b"done 9 4 done nothing ",
+    ),
+    (Call::Length, b"5"),
 ];
 
 #[test]
 fn calls_and_answers(rt: HostRuntime) -> Result<(), Fail> {
     let alloc = rt.alloc();
     for calls in [LEFT, RIGHT, COUNTED, STORED] {
-        let mut store = PlainStore::new(alloc);
+        let mut plain = PlainStore::new(alloc);
+        let mut ordered = OrderedStore::new(alloc);
         for (call, expected) in calls {
-            let told = answer::<Murmur3, PlainStore>(alloc, &mut store, call)?;
+            let told = answer::<Murmur3, PlainStore>(alloc, &mut plain, call)?;
+            assert_eq!(rt; told.as_slice(), *expected);
+            let told = answer::<Murmur3, OrderedStore>(alloc, &mut ordered, call)?;
             assert_eq!(rt; told.as_slice(), *expected);
         }
     }

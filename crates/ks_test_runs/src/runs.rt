@@ -2,7 +2,8 @@
 ghost use Rattle.std.specs.Prelude.{◌≡◌, IfOk, length};
 
 use ks_edge::{Gate, MemSink, MemSource, ScriptGate};
-use ks_run::top;
+use ks_hash::Constant;
+use ks_run::{Settings, run_job, top};
 use std::alloc::{AllocError, Global};
 use std::process::Abort;
 use std::sync::Wait;
@@ -86,5 +87,30 @@ pub fn expect<R: Threads + Wait + Sync + Abort>(
     if run.devices.sizes.is_empty() && run.devices.takes.is_empty() {
         expect_by(rt, alloc, run, vec![in alloc; 1usize; 70_000]?)?;
     }
+    Ok(())
+}
+
+/// The job has this output and status where all rows have one hash.
+pub fn expect_by_one_hash<R: Threads + Wait + Sync + Abort>(
+    rt: &R,
+    alloc: Global,
+    job: &str,
+    output: &str,
+    status: u8,
+) -> Result<(), Fail> {
+    let bytes = Vec::from_slice(alloc, job.as_bytes())?;
+    let mut input = MemSource::new(bytes, Vec::new(alloc), Vec::new(alloc));
+    let mut out = MemSink::new(alloc, Vec::new(alloc));
+    let settings = Settings::usual();
+    let ended = run_job::<Constant, R, MemSource, MemSink>(
+        rt,
+        alloc,
+        &settings,
+        &mut input,
+        &mut out,
+        gates(alloc)?,
+    );
+    assert_eq!(rt; out.held(), output.as_bytes());
+    assert_eq!(rt; ended.status, status);
     Ok(())
 }

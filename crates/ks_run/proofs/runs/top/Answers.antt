@@ -1,4 +1,5 @@
-use Rattle.std.proofs.Common.{inl, refl, sym}
+use Rattle.std.proofs.Common.{inl, refl, sym, ◌∙◌}
+use Rattle.std.proofs.lemmas.Bool.{true≢false}
 use Rattle.ks_output.specs.Texts.{bad_words_text}
 use Rattle.ks_run.proofs.Kept.{no_journal}
 use Rattle.ks_run.proofs.runs.top.Goals as goal
@@ -10,3 +11,6 @@ returns-then-not-is_run_word-clause-write_fault g c = λ e.
 
 pub returns-then-not-is_run_word-clause-journal : goal.returns-then-not-is_run_word-clause-journal
 returns-then-not-is_run_word-clause-journal g c = λ h. no_journal _ _ _ c.refuse_words.ensures.journal
+
+pub returns-then-not-is_run_word-clause-complete : goal.returns-then-not-is_run_word-clause-complete
+returns-then-not-is_run_word-clause-complete g c = λ run. absurd (true≢false (sym run ∙ sym c.if-not-is_run_word.ensures))

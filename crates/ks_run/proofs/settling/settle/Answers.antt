@@ -1,11 +1,11 @@
-use Rattle.std.proofs.Common.{◌∙◌, ap, map}
+use Rattle.std.proofs.Common.{◌∙◌, ap, map, refl}
 use Rattle.std.proofs.lemmas.Result.{IfOk-weaker}
 use Rattle.ks_plan.specs.declared.node.TopicInfo.{TopicInfo}
 use Rattle.ks_topo.specs.Topologies.{draft_of}
 use Rattle.ks_job.specs.Items.{item_views}
 use Rattle.ks_cluster.specs.View as kept
 use Rattle.ks_run.proofs.Counts.{shown_counts}
-use Rattle.ks_run.proofs.Settles.{setup_is, setup_made, parts_ready, records_ready, produced_setup, settled_answers}
+use Rattle.ks_run.proofs.Settles.{IsRunnable, IsDrained, setup_is, setup_made, parts_ready, records_ready, produced_setup, drained_setup, nodes_ready, settled_answers, is_of}
 use Rattle.ks_run.proofs.settling.settle.Goals as goal
 
 pub new-requires : goal.new-requires
@@ -36,8 +36,22 @@ drain-requires-clause-setup g c κs within =
     ∙ (ap (λ k. kept.setup_of g.W.Work.plan k) c.in_ok-cluster.ensures
     ∙ setup_is g.H.Hash128.hash_of d (g.W.Work.plan c.args.work) c.in_ok-kept.kept.items c.in_ok-tasks.tasks.items c.requires.work (c.in_ok-kept.ensures.items ∙ (c.as_slice.ensures.value ∙ counts)) (c.in_ok-tasks.ensures.items ∙ c.tasks.ensures))
 
-pub tables-requires-clause-counts : goal.tables-requires-clause-counts
-tables-requires-clause-counts g c κs within =
+pub drain-requires-clause-parts : goal.drain-requires-clause-parts
+drain-requires-clause-parts g c κs within = nodes_ready (draft_of c.args.topology.now) c.nodes-nodes.ensures.well_formed c.requires.partitions
+
+pub judge-requires-clause-of : goal.judge-requires-clause-of
+judge-requires-clause-of g c κs within =
+    let d = draft_of c.args.topology.now in
+    let hash = g.H.Hash128.hash_of in
+    let counts = c.in_ok-counts.ensures ∙ (ap (map (λ (i : TopicInfo). i.parts)) c.topics.ensures ∙ shown_counts d) in
+    let setup = ap (λ k. kept.setup_of g.W.Work.plan k) c.in_ok-cluster.ensures
+    ∙ setup_is hash d (g.W.Work.plan c.args.work) c.in_ok-kept.kept.items c.in_ok-tasks.tasks.items c.requires.work (c.in_ok-kept.ensures.items ∙ (c.as_slice.ensures.value ∙ counts)) (c.in_ok-tasks.ensures.items ∙ c.tasks.ensures) in
+    is_of hash d c.args.topology.now (kept.setup_of g.W.Work.plan c.drain.new.cluster) refl c.nodes-nodes.ensures.well_formed
+    (drained_setup g.W.Work.plan c.produce_all.new.cluster c.drain.new.cluster c.in_ok-drain.ensures.more
+    ∙ (produced_setup g.W.Work.plan c.in_ok-cluster.cluster c.produce_all.new.cluster _ c.in_ok-produce_all.ensures.ok ∙ setup))
+
+pub judge-requires-clause-counts : goal.judge-requires-clause-counts
+judge-requires-clause-counts g c κs within =
     let d = draft_of c.args.topology.now in
     let counts = c.in_ok-counts.ensures ∙ (ap (map (λ (i : TopicInfo). i.parts)) c.topics.ensures ∙ shown_counts d) in
     ap (λ k. k.counts) c.in_ok-drain.ensures.more.same ∙ (c.in_ok-produce_all.ensures.ok.counts ∙ (ap (λ k. k.counts) c.in_ok-cluster.ensures ∙ (c.in_ok-kept.ensures.items ∙ (c.as_slice.ensures.value ∙ counts))))
@@ -49,8 +63,16 @@ returns g c =
     let counts = c.in_ok-counts.ensures ∙ (ap (map (λ (i : TopicInfo). i.parts)) c.topics.ensures ∙ shown_counts d) in
     let setup = ap (λ k. kept.setup_of g.W.Work.plan k) c.in_ok-cluster.ensures
     ∙ setup_is hash d (g.W.Work.plan c.args.work) c.in_ok-kept.kept.items c.in_ok-tasks.tasks.items c.requires.work (c.in_ok-kept.ensures.items ∙ (c.as_slice.ensures.value ∙ counts)) (c.in_ok-tasks.ensures.items ∙ c.tasks.ensures) in
+    let ready : IsRunnable hash d (item_views c.args.records.items) = record {
+      fine = c.nodes-nodes.ensures.well_formed;
+      spelled = c.topology_fits.ensures;
+      hashes = c.hashes_fit.ensures;
+      partitions = c.requires.partitions;
+      records = c.requires.records;
+    } in
+    let done : IsDrained (kept.setup_of g.W.Work.plan c.drain.new.cluster) c.drain.new.cluster.journal = record { history = c.end_run.ensures.history; few = c.end_run.ensures.few; settled = c.in_ok-drain.ensures.settled } in
     IfOk-weaker c.end_run.result _ _
-    (λ s h. settled_answers hash d g.W.Work.plan (item_views c.args.records.items) c.in_ok-cluster.cluster c.produce_all.new.cluster c.drain.new.cluster c.as_slice-2.result.now c.in_ok-tables.tables.items s.text.items s.journal h.0
-    c.nodes-nodes.ensures.well_formed c.requires.built c.requires.records setup (ap (λ k. k.journal) c.in_ok-cluster.ensures) (c.as_slice-2.ensures.value ∙ counts) c.in_ok-produce_all.ensures.ok c.in_ok-drain.ensures.more
-    h.1 c.end_run.ensures.history c.end_run.ensures.few c.in_ok-drain.ensures.settled c.in_ok-tables.ensures)
+    (λ a h. settled_answers hash d g.W.Work.plan (item_views c.args.records.items) c.in_ok-cluster.cluster c.produce_all.new.cluster c.drain.new.cluster c.as_slice-2.result.now a.status a.text.items a.journal ready
+    setup (ap (λ k. k.journal) c.in_ok-cluster.ensures) (c.as_slice-2.ensures.value ∙ counts) c.in_ok-produce_all.ensures.ok c.in_ok-drain.ensures.more done
+    (h.0 ∙ c.in_ok-verdict.ensures) h.1)
     c.end_run.ensures.made

@@ -2,8 +2,7 @@ use Rattle.std.proofs.Common.{◌∙◌, ap, sym, subst, length}
 use Rattle.std.specs.Prelude.{option_map}
 use Rattle.std.proofs.lemmas.Result.{IfOk-weaker}
 use Rattle.ks_plan.specs.Drafts.{draft_view}
-use Rattle.ks_plan.specs.Plan.{plan_of}
-use Rattle.ks_task.specs.Built.{IsBuilt, rules_of}
+use Rattle.ks_nodes.specs.Rules.{rules_of}
 use Rattle.ks_law_inputs.specs.Records.{HavePartitions, AreRecords, records_of}
 use Rattle.ks_job.specs.Items.{item_views}
 use Rattle.ks_run.proofs.Settles.{job_splits, job_parts}
@@ -13,12 +12,6 @@ use Rattle.ks_run.proofs.settling.settle_job.Goals as goal
 
 pub unreachable-requires : goal.unreachable-requires
 unreachable-requires g c = job_splits (item_views c.args.items.items) c.requires (sym c.split_job.ensures ∙ ap (option_map _) c.in_default.is)
-
-pub settle-requires-clause-built : goal.settle-requires-clause-built
-settle-requires-clause-built g c κs within =
-    let parts = job_parts (item_views c.args.items.items) (draft_view c.in-Some.draft) (item_views c.in-Some.records.items) c.requires (sym c.in-Some.ensures) in
-    let built = rw c.in-Ok.is at c.in_ok-topology.ensures in
-    subst (λ d. IsBuilt (plan_of d)) (sym built.1) parts.built
 
 pub settle-requires-clause-partitions : goal.settle-requires-clause-partitions
 settle-requires-clause-partitions g c κs within =
@@ -36,5 +29,5 @@ pub returns : goal.returns
 returns g c =
     let rules = rules_of g.H.Hash128.hash_of in
     let built = rw c.in-Ok.is at c.in_ok-topology.ensures in
-    IfOk-weaker c.settle.result _ _ (λ s a. answers_job rules (item_views c.args.items.items) (item_views c.in-Some.records.items) (draft_view c.in-Some.draft) s.text.items s.journal (sym c.in-Some.ensures)
-    (subst (λ d. SettlesJob rules d (records_of (item_views c.in-Some.records.items)) s.text.items s.journal) built.1 a)) c.settle.ensures
+    IfOk-weaker c.settle.result _ _ (λ a h. answers_job rules (item_views c.args.items.items) (item_views c.in-Some.records.items) (draft_view c.in-Some.draft) a.status a.text.items a.journal (sym c.in-Some.ensures)
+    (subst (λ d. SettlesJob rules d (records_of (item_views c.in-Some.records.items)) a.status a.text.items a.journal) built.1 h)) c.settle.ensures

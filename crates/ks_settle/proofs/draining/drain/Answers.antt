@@ -7,7 +7,7 @@ use Rattle.ks_settle.proofs.Publishing.{same_setup}
 use Rattle.ks_settle.proofs.draining.drain.Goals as goal
 
 pub start-requires-clause-may : goal.start-requires-clause-may
-start-requires-clause-may g c = subst MayDrain (sym c.requires.setup) (may_drain g.H.Hash128.hash_of (draft_of c.args.topology.now) c.nodes-nodes.ensures.well_formed c.requires.built)
+start-requires-clause-may g c = subst MayDrain (sym c.requires.setup) (may_drain g.H.Hash128.hash_of (draft_of c.args.topology.now) c.nodes-nodes.ensures.well_formed c.requires.parts)
 
 pub drain_all-requires-clause-of : goal.drain_all-requires-clause-of
 drain_all-requires-clause-of g c κs within =
@@ -15,5 +15,5 @@ drain_all-requires-clause-of g c κs within =
     record {
       well_formed = c.nodes-nodes.ensures.well_formed;
       work = ap (λ (s : Setup). s.plan) setup;
-      may = subst MayDrain (sym setup) (may_drain g.H.Hash128.hash_of (draft_of c.args.topology.now) c.nodes-nodes.ensures.well_formed c.requires.built);
+      may = subst MayDrain (sym setup) (may_drain g.H.Hash128.hash_of (draft_of c.args.topology.now) c.nodes-nodes.ensures.well_formed c.requires.parts);
     }

@@ -4,8 +4,8 @@ use Rattle.ks_cluster.specs.View.{setup_of, state_of}
 use Rattle.ks_tables.proofs.Folds.{table_is, is_part}
 use Rattle.ks_tables.proofs.shown.table_of.Goals as goal
 
-pub rows_kept-requires-clause-parts : goal.rows_kept-requires-clause-parts
-rows_kept-requires-clause-parts g c κs within = is_part (draft_of c.args.topology.now) (setup_of g.W.Work.plan c.args.cluster.now) c.args.name.now _ _ c.find_kept-topic.ensures c.requires.counts
+pub node_rows-requires-clause-parts : goal.node_rows-requires-clause-parts
+node_rows-requires-clause-parts g c κs within = is_part (draft_of c.args.topology.now) (setup_of g.W.Work.plan c.args.cluster.now) c.args.name.now _ _ c.find_kept-topic.ensures c.requires.counts
 
 pub returns : goal.returns
 returns g c =

@@ -1,7 +1,7 @@
 use Rattle.std.proofs.Common.{refl}
 use Rattle.std.specs.Prelude.{slice_index}
 use Rattle.ks_topo.specs.Topologies.{draft_of}
-use Rattle.ks_task.specs.Built.{rules_of}
+use Rattle.ks_nodes.specs.Rules.{rules_of}
 use Rattle.ks_settle.proofs.Publishing.{still_of_topology}
 use Rattle.ks_settle.proofs.Ordering.{resting_at, draining_on, settled_last}
 use Rattle.ks_settle.proofs.draining.TaskManager.drain_all.Goals as goal

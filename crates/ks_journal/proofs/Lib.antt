@@ -1,0 +1,9 @@
+pub mod Plain
+pub mod Appends
+pub mod DataAgain
+pub mod EntryAgain
+pub mod Utf8
+pub mod LineAgain
+pub mod JournalAgain
+pub mod StepReplies
+pub mod Examples

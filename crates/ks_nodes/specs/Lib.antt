@@ -1,0 +1,5 @@
+pub mod Rules
+pub mod Windows
+pub mod Nodes
+pub mod Records
+pub mod Stored

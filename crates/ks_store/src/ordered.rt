@@ -1,0 +1,67 @@
+//! A store that looks at the pairs of a prefix alone.
+ghost use Rattle.std.specs.Prelude.{◌≡◌};
+ghost use Rattle.ks_def_maps.specs.Bytes.{empty_store};
+ghost use Rattle.ks_def_maps.specs.FinMap as map;
+ghost use Rattle.ks_store.specs.Pairs.{ArePairs};
+
+use crate::store::KvStore;
+use crate::tree::Tree;
+use ks_row::Blob;
+use std::alloc::{AllocError, Global};
+use std::marker::Model;
+
+/// A store in a tree by keys; `prefix` looks its first pair up and goes on to the last.
+#[derive(Drop)]
+pub struct OrderedStore {
+    tree: Tree,
+}
+
+impl Model for OrderedStore {
+    ghost use Rattle.ks_def_maps.specs.Bytes.{Store};
+
+    ghost Value = { Store };
+
+    ghost view = { λ s. s.tree };
+}
+
+impl OrderedStore {
+    /// A store without a key. Takes no memory.
+    pub fn new(alloc: Global) -> OrderedStore
+        ensures { result ≡ empty_store }
+    {
+        OrderedStore {
+            tree: Tree::new(alloc),
+        }
+    }
+
+    /// Its keys and values are bytes, as a fact for the calls that follow; does nothing.
+    pub fn holds_bytes(&self)
+        ensures { ArePairs (map.entries self.now) }
+    {
+        self.tree.holds_bytes();
+    }
+}
+
+impl KvStore for OrderedStore {
+    ghost contents = { λ s. s };
+
+    fn get(&self, key: &[u8]) -> Option<&[u8]> {
+        self.tree.get(key)
+    }
+
+    fn put(&mut self, key: &[u8], value: &[u8]) -> Result<(), AllocError> {
+        self.tree.put(key, value)
+    }
+
+    fn delete(&mut self, key: &[u8]) {
+        self.tree.delete(key);
+    }
+
+    fn prefix(&self, front: &[u8]) -> Result<Vec<(Blob, Blob)>, AllocError> {
+        self.tree.seek(front)
+    }
+
+    fn len(&self) -> usize {
+        self.tree.len()
+    }
+}
