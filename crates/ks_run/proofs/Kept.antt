@@ -1,5 +1,5 @@
 -- The journal of a run, by what the run answers.
-use Rattle.std.proofs.Common.{◌≡◌, ◌⊎◌, inl, inr, ℕ, List, [], ◌∷◌, refl, sym, ap, subst, ◌∙◌, append-nil}
+use Rattle.std.proofs.Common.{◌≡◌, ◌⊎◌, inl, inr, ℕ, Bool, List, [], ◌∷◌, refl, sym, ap, subst, ◌∙◌, append-nil}
 use Rattle.std.specs.Prelude.{Option, Some, None, IfSome, Ok, Err}
 use Rattle.std.specs.Io.KnownBytes.{IsAtEnd}
 use Rattle.std.specs.declared.vec.Vec.{Vec}
@@ -80,8 +80,8 @@ settled_journal rules left d records journal h = record {
   front = ([], sym h.kept.produced ∙ sym (append-nil (produces journal)));
 }
 
-pub judged_journal : (rules : Rules) (old new : Option (List ℕ)) (before now status : ℕ) (text : List ℕ) (journal : List Entry) → IsJudged rules old new before now status text journal → HasJournal rules old journal
-judged_journal rules old new before now status text journal h = by h.only
+pub judged_journal : (rules : Rules) (shown : Bool) (old new : Option (List ℕ)) (before now status : ℕ) (text : List ℕ) (journal : List Entry) → IsJudged rules shown old new before now status text journal → HasJournal rules old journal
+judged_journal rules shown old new before now status text journal h = by h.only
   where
     by : (status ≡ 0) ⊎ (status ≡ 2) ⊎ (status ≡ 3) ⊎ (status ≡ 5) ⊎ (status ≡ 6) → HasJournal rules old journal
     by (inl e) = let k = (h.settled e).2 in settled_journal rules old k.draft k.records journal k.settles
@@ -94,13 +94,13 @@ pub bad_job_read : (left : Option (List ℕ)) (stop : Stop) (text : List ℕ) �
 bad_job_read left stop text h e = record { bytes = h.bytes; known = h.known; bad = (stop, h.ends, e) }
 
 -- ---- what is judged
-pub judged_bad_job : (rules : Rules) (old new : Option (List ℕ)) (before now : ℕ) (text : List ℕ) (journal : List Entry) → now ≡ before → IsRefused old text → journal ≡ [] → IsJudged rules old new before now 2 text journal
-judged_bad_job rules old new before now text journal k h j =
+pub judged_bad_job : (rules : Rules) (shown : Bool) (old new : Option (List ℕ)) (before now : ℕ) (text : List ℕ) (journal : List Entry) → now ≡ before → IsRefused old text → journal ≡ [] → IsJudged rules shown old new before now 2 text journal
+judged_bad_job rules shown old new before now text journal k h j =
     record { read_fault = λ e. absurd (cc); bad_job = λ e. (k, h, j); settled = λ e. absurd (cc); late = λ e. absurd (cc); collision = λ e. absurd (cc); only = inr (inl refl) }
 
-judged_told : (rules : Rules) (old new : Option (List ℕ)) (before now : ℕ) (d : DraftView) (records : List Input) (status : ℕ) (text : List ℕ) (journal : List Entry) → now ≡ before → IsAtEnd new →
-    SettlesBytes rules old d records journal → Tells rules d records status text journal → IsJudged rules old new before now status text journal
-judged_told rules old new before now d records status text journal k z h (inl t) = subst (λ s. IsJudged rules old new before now s text journal) (sym t.0) (record {
+judged_told : (rules : Rules) (shown : Bool) (old new : Option (List ℕ)) (before now : ℕ) (d : DraftView) (records : List Input) (status : ℕ) (text : List ℕ) (journal : List Entry) → now ≡ before → IsAtEnd new →
+    SettlesBytes rules old d records journal → Tells rules shown d records status text journal → IsJudged rules shown old new before now status text journal
+judged_told rules shown old new before now d records status text journal k z h (inl t) = subst (λ s. IsJudged rules shown old new before now s text journal) (sym t.0) (record {
   read_fault = λ e. absurd (cc);
   bad_job = λ e. absurd (cc);
   settled = λ e. (k, z, record { draft = d; records = records; settles = h; query = t.1 });
@@ -108,7 +108,7 @@ judged_told rules old new before now d records status text journal k z h (inl t)
   collision = λ e. absurd (cc);
   only = inl refl;
 })
-judged_told rules old new before now d records status text journal k z h (inr (inl t)) = subst (λ s. IsJudged rules old new before now s text journal) (sym t.0) (record {
+judged_told rules shown old new before now d records status text journal k z h (inr (inl t)) = subst (λ s. IsJudged rules shown old new before now s text journal) (sym t.0) (record {
   read_fault = λ e. absurd (cc);
   bad_job = λ e. absurd (cc);
   settled = λ e. absurd (cc);
@@ -116,7 +116,7 @@ judged_told rules old new before now d records status text journal k z h (inr (i
   collision = λ e. absurd (cc);
   only = inr (inr (inl refl));
 })
-judged_told rules old new before now d records status text journal k z h (inr (inr t)) = subst (λ s. IsJudged rules old new before now s text journal) (sym t.0) (record {
+judged_told rules shown old new before now d records status text journal k z h (inr (inr t)) = subst (λ s. IsJudged rules shown old new before now s text journal) (sym t.0) (record {
   read_fault = λ e. absurd (cc);
   bad_job = λ e. absurd (cc);
   settled = λ e. absurd (cc);
@@ -126,21 +126,21 @@ judged_told rules old new before now d records status text journal k z h (inr (i
 })
 
 -- a job that was read to its end, and what its run answers
-pub judged_settled : (rules : Rules) (old new : Option (List ℕ)) (before now : ℕ) (r : Vec JobItem Global) (status : ℕ) (text : List ℕ) (journal : List Entry) → now ≡ before → IsAtEnd new → Read old (Ok r) →
-    SettlesItems rules (item_views r.items) status text journal → IsJudged rules old new before now status text journal
-judged_settled rules old new before now r status text journal k z h a = by (item_views r.items) h.ends.1 a
+pub judged_settled : (rules : Rules) (shown : Bool) (old new : Option (List ℕ)) (before now : ℕ) (r : Vec JobItem Global) (status : ℕ) (text : List ℕ) (journal : List Entry) → now ≡ before → IsAtEnd new → Read old (Ok r) →
+    SettlesItems rules shown (item_views r.items) status text journal → IsJudged rules shown old new before now status text journal
+judged_settled rules shown old new before now r status text journal k z h a = by (item_views r.items) h.ends.1 a
   where
-    by : (is : List ItemView) → is ≡ (whole h.bytes).items → SettlesItems rules is status text journal → IsJudged rules old new before now status text journal
+    by : (is : List ItemView) → is ≡ (whole h.bytes).items → SettlesItems rules shown is status text journal → IsJudged rules shown old new before now status text journal
     by [] i a = absurd a
     by (RecordTo t r ∷ is) i a = absurd a
-    by (TopologyAt line d ∷ is) i a = judged_told rules old new before now d (records_of is) status text journal k z (record {
+    by (TopologyAt line d ∷ is) i a = judged_told rules shown old new before now d (records_of is) status text journal k z (record {
       bytes = h.bytes;
       known = h.known;
       unstopped = h.ends.0;
       topology = ap draft_in (sym i);
       inputs = ap records_of i;
       kept = a.kept;
-    }) (tells rules d (records_of is) status text journal a.kept a.told)
+    }) (tells rules shown d (records_of is) status text journal a.kept a.told)
 
 -- ---- jobs that are always answered by their query
 of_known : {x y : List ℕ} → Some x ≡ Some y → x ≡ y
@@ -153,7 +153,7 @@ known_is (Some b) bytes known e k = sym k ∙ of_known e
 not_some : {A : Type 0} {o : Option A} {x : A} → o ≡ None → o ≡ Some x → ⊥
 not_some e f = absurd (cc)
 
-module _ (rules : Rules) (left : Option (List ℕ)) (valid : IsInTime left) where
+module _ (rules : Rules) (shown : Bool) (left : Option (List ℕ)) (valid : IsInTime left) where
   none_refused : (text : List ℕ) → IsRefused left text → ⊥
   none_refused text h = not_some (subst (λ b. stop_of (whole b) ≡ None) (sym (known_is left valid.bytes h.bytes valid.known h.known)) valid.unstopped) h.bad.1
 
@@ -164,20 +164,20 @@ module _ (rules : Rules) (left : Option (List ℕ)) (valid : IsInTime left) wher
     topology : draft_in (whole valid.bytes).items ≡ Some d
     topology = subst (λ b. draft_in (whole b).items ≡ Some d) same h.topology
 
-    none_late : (text : List ℕ) → TellsLate rules d records text journal → ⊥
+    none_late : (text : List ℕ) → TellsLate rules shown d records text journal → ⊥
     none_late text t = t.over (subst (IsWithinGrace (plan_of d)) (sym (h.inputs ∙ ap (λ b. records_of (whole b).items) same)) (valid.in_time d topology))
 
-    none_collide : IsWithoutCollision rules left journal → (text : List ℕ) → TellsCollision rules d text journal → ⊥
+    none_collide : IsWithoutCollision rules left journal → (text : List ℕ) → TellsCollision rules shown d text journal → ⊥
     none_collide alone text t = not_some (alone valid.bytes valid.known d topology) t.first
 
 -- a device's count of faults did not rise, all that else could have been answered
-pub judged_query : (rules : Rules) (old new : Option (List ℕ)) (before now status : ℕ) (text : List ℕ) (journal : List Entry) → IsInTime old → IsWithoutCollision rules old journal → (Rose before now → ⊥) →
-    IsJudged rules old new before now status text journal → status ≡ 0
-judged_query rules old new before now status text journal valid alone calm h = by h.only
+pub judged_query : (rules : Rules) (shown : Bool) (old new : Option (List ℕ)) (before now status : ℕ) (text : List ℕ) (journal : List Entry) → IsInTime old → IsWithoutCollision rules old journal → (Rose before now → ⊥) →
+    IsJudged rules shown old new before now status text journal → status ≡ 0
+judged_query rules shown old new before now status text journal valid alone calm h = by h.only
   where
     by : (status ≡ 0) ⊎ (status ≡ 2) ⊎ (status ≡ 3) ⊎ (status ≡ 5) ⊎ (status ≡ 6) → status ≡ 0
     by (inl e) = e
-    by (inr (inl e)) = absurd (none_refused rules old valid text (h.bad_job e).1)
-    by (inr (inr (inl e))) = let k = (h.late e).2 in absurd (none_late rules old valid k.draft k.records journal k.settles text k.late)
-    by (inr (inr (inr (inl e)))) = let k = (h.collision e).2 in absurd (none_collide rules old valid k.draft k.records journal k.settles alone text k.collision)
+    by (inr (inl e)) = absurd (none_refused rules shown old valid text (h.bad_job e).1)
+    by (inr (inr (inl e))) = let k = (h.late e).2 in absurd (none_late rules shown old valid k.draft k.records journal k.settles text k.late)
+    by (inr (inr (inr (inl e)))) = let k = (h.collision e).2 in absurd (none_collide rules shown old valid k.draft k.records journal k.settles alone text k.collision)
     by (inr (inr (inr (inr e)))) = absurd (calm (h.read_fault e).0)

@@ -1,5 +1,5 @@
 -- What a settled cluster of a job answers.
-use Rattle.std.proofs.Common.{◌≡◌, ℕ, ◌<◌, ◌^◌, List, [], ◌∷◌, ◌++◌, length, map, get_or, refl, sym, ap, subst, ◌∙◌, arith}
+use Rattle.std.proofs.Common.{◌≡◌, ℕ, ◌<◌, ◌^◌, Bool, List, [], ◌∷◌, ◌++◌, length, map, get_or, refl, sym, ap, subst, ◌∙◌, arith}
 use Rattle.std.specs.Prelude.{None, Some, Option, option_map}
 use Rattle.std.specs.Option.{option_or}
 use Rattle.ks_row.specs.declared.record.Rec.{Rec}
@@ -39,7 +39,7 @@ use Rattle.ks_run.specs.Producing.{Produces}
 use Rattle.ks_settle.specs.Drained.{Extends}
 use Rattle.ks_report.specs.Report.{IsOf}
 use Rattle.ks_task.proofs.Subs.{inputs_there}
-use Rattle.ks_run.specs.Told.{told}
+use Rattle.ks_run.specs.Told.{told, with_lines}
 use Rattle.ks_run.specs.Settling.{IsReadJob, split, SettlesJob}
 use Rattle.ks_run.proofs.Counts.{counts_length, plan_count, have_parts}
 use Rattle.ks_run.proofs.Placed.{keys_have_parts, records_placed, records_fit, records_in_range}
@@ -96,10 +96,10 @@ pub record IsDrained (setup : Setup) (journal : List Entry) : Type 0 where
   pub few : records_in setup journal < 2 ^ 48
   pub settled : IsSettled setup (at setup journal)
 
-answered : (hash : List ℕ → ℕ) (d : DraftView) (is : List ItemView) (setup : Setup) (status : ℕ) (text : List ℕ) (journal : List Entry) → IsRunnable hash d is →
+answered : (hash : List ℕ → ℕ) (shown : Bool) (d : DraftView) (is : List ItemView) (setup : Setup) (status : ℕ) (text : List ℕ) (journal : List Entry) → IsRunnable hash d is →
     setup ≡ setup_of (rules_of hash) (plan_of d) → produces journal ≡ placed_all (map (parts_of_topic (plan_of d)) (topics_of (plan_of d))) is → IsDrained setup journal →
-    (status, text) ≡ told (rules_of hash) d (at setup journal) → SettlesJob (rules_of hash) d (records_of is) status text journal
-answered hash d is setup status text journal ready e made drained told_is =
+    (status, text) ≡ with_lines shown journal (told (rules_of hash) d (at setup journal)) → SettlesJob (rules_of hash) shown d (records_of is) status text journal
+answered hash shown d is setup status text journal ready e made drained told_is =
     let rules = rules_of hash in
     let right = setup_of rules (plan_of d) in
     let here : IsDrained right journal = subst (λ s. IsDrained s journal) e drained in
@@ -112,18 +112,18 @@ answered hash d is setup status text journal ready e made drained told_is =
         run = is_run right journal (works_are_networks rules (plan_of d)) here.history;
         few = here.few;
       };
-      told = told_is ∙ ap (λ s. told rules d (at s journal)) e;
+      told = told_is ∙ ap (λ s. with_lines shown journal (told rules d (at s journal))) e;
     }
 
-pub settled_answers : {W : Type 0} (hash : List ℕ → ℕ) (d : DraftView) (plan : W → TaskPlan) (is : List ItemView) (begun filled drained : ClusterView W) (counts : List ℕ) (status : ℕ) (text : List ℕ) (journal : List Entry) →
+pub settled_answers : {W : Type 0} (hash : List ℕ → ℕ) (shown : Bool) (d : DraftView) (plan : W → TaskPlan) (is : List ItemView) (begun filled drained : ClusterView W) (counts : List ℕ) (status : ℕ) (text : List ℕ) (journal : List Entry) →
     IsRunnable hash d is → kept.setup_of plan begun ≡ setup_of (rules_of hash) (plan_of d) → begun.journal ≡ [] →
     counts ≡ map (parts_of_topic (plan_of d)) (topics_of (plan_of d)) → Produces begun filled (placed_all counts is) → Extends filled drained → IsDrained (kept.setup_of plan drained) drained.journal →
-    (status, text) ≡ told (rules_of hash) d (kept.state_of plan drained) → journal ≡ drained.journal → SettlesJob (rules_of hash) d (records_of is) status text journal
-settled_answers hash d plan is begun filled drained counts status text journal ready start empty counts_are filling draining done told_is handed =
+    (status, text) ≡ with_lines shown drained.journal (told (rules_of hash) d (kept.state_of plan drained)) → journal ≡ drained.journal → SettlesJob (rules_of hash) shown d (records_of is) status text journal
+settled_answers hash shown d plan is begun filled drained counts status text journal ready start empty counts_are filling draining done told_is handed =
     let setup = drained_setup plan filled drained draining ∙ (produced_setup plan begun filled (placed_all counts is) filling ∙ start) in
     let made : produces drained.journal ≡ placed_all (map (parts_of_topic (plan_of d)) (topics_of (plan_of d))) is =
     draining.produces ∙ (filling.produced ∙ (ap (λ j. produces j ++ placed_all counts is) empty ∙ ap (λ cs. placed_all cs is) counts_are)) in
-    subst (λ j. SettlesJob (rules_of hash) d (records_of is) status text j) (sym handed) (answered hash d is (kept.setup_of plan drained) status text drained.journal ready setup made done told_is)
+    subst (λ j. SettlesJob (rules_of hash) shown d (records_of is) status text j) (sym handed) (answered hash shown d is (kept.setup_of plan drained) status text drained.journal ready setup made done told_is)
 
 -- the report and the tables are those of the topology
 pub is_of : (hash : List ℕ → ℕ) (d : DraftView) (t : Topology) (setup : Setup) → draft_of t ≡ d → fault_of d ≡ None → setup ≡ setup_of (rules_of hash) (plan_of d) → IsOf t setup

@@ -1,5 +1,5 @@
 -- What is told of a settled cluster is what its text says.
-use Rattle.std.proofs.Common.{◌≡◌, ◌⊎◌, inl, inr, ℕ, List, refl, sym, ap, ◌∙◌, Bool, true, false, cond}
+use Rattle.std.proofs.Common.{◌≡◌, ◌⊎◌, inl, inr, ℕ, List, ◌++◌, refl, sym, ap, ◌∙◌, Bool, true, false, cond}
 use Rattle.std.specs.Prelude.{◌==◌, Option, Some, None}
 use Rattle.std.proofs.lemmas.Bool.{eqb-true, eq-eqb, true≢false}
 use Rattle.ks_plan.specs.Drafts.{DraftView}
@@ -17,13 +17,13 @@ use Rattle.ks_law_settled.proofs.Tables.{tables_same, plain_same, counts_at_most
 use Rattle.ks_law_settled.proofs.Collisions.{none_in_run, none_found}
 use Rattle.ks_output.specs.Texts.{settled_text, late_text}
 use Rattle.ks_run.specs.Journals.{IsJournal}
-use Rattle.ks_run.specs.Told.{told_by, told, TellsQuery, TellsLate, TellsCollision}
+use Rattle.ks_run.specs.Told.{told_by, told, lines_of, with_lines, TellsQuery, TellsLate, TellsCollision}
 
-abbrev pub Tells : Rules → DraftView → List Input → ℕ → List ℕ → List Entry → Type 0
-Tells rules d records status text journal =
-    ((status ≡ 0) × TellsQuery rules d records text journal)
-    ⊎ (((status ≡ 3) × TellsLate rules d records text journal)
-    ⊎ ((status ≡ 5) × TellsCollision rules d text journal))
+abbrev pub Tells : Rules → Bool → DraftView → List Input → ℕ → List ℕ → List Entry → Type 0
+Tells rules shown d records status text journal =
+    ((status ≡ 0) × TellsQuery rules shown d records text journal)
+    ⊎ (((status ≡ 3) × TellsLate rules shown d records text journal)
+    ⊎ ((status ≡ 5) × TellsCollision rules shown d text journal))
 
 run_of : (rules : Rules) (d : DraftView) (records : List Input) (journal : List Entry) → IsJournal rules d records journal → IsRunOf rules d records journal
 run_of rules d records journal h = record { job = h.job; done = record { history = h.history; produced = h.produced; settled = h.settled; few = h.few } }
@@ -31,19 +31,19 @@ run_of rules d records journal h = record { job = h.job; done = record { history
 not_zero : (n : ℕ) → (n == 0) ≡ false → n ≡ 0 → ⊥
 not_zero n e is = true≢false (sym (eq-eqb n 0 is) ∙ e)
 
-module _ (rules : Rules) (d : DraftView) (records : List Input) (journal : List Entry) (h : IsJournal rules d records journal) (none : first_pair rules.hash (plan_of d) (end_of rules d journal) ≡ None) where
+module _ (rules : Rules) (shown : Bool) (d : DraftView) (records : List Input) (journal : List Entry) (h : IsJournal rules d records journal) (none : first_pair rules.hash (plan_of d) (end_of rules d journal) ≡ None) where
   run : IsRunOf rules d records journal
   run = run_of rules d records journal h
 
   apart : NoCollision rules (plan_of d) (decoded_run rules (plan_of d) records journal)
   apart = none_in_run rules d records journal run (none_found rules d records journal run none)
 
-  tells_query : (end_of rules d journal).late ≡ 0 → (text : List ℕ) → text ≡ settled_text (folded_tables d (end_of rules d journal)) → TellsQuery rules d records text journal
+  tells_query : (end_of rules d journal).late ≡ 0 → (text : List ℕ) → text ≡ settled_text (folded_tables d (end_of rules d journal)) ++ lines_of shown journal → TellsQuery rules shown d records text journal
   tells_query late text e =
       let folds : folded_tables d (end_of rules d journal) ≡ job_tables d records = tables_same rules d records journal run apart late in
-      record { alone = none; in_time = late; folds = folds; printed = e ∙ ap settled_text folds }
+      record { alone = none; in_time = late; folds = folds; printed = e ∙ ap (λ ts. settled_text ts ++ lines_of shown journal) folds }
 
-  tells_late : ((end_of rules d journal).late ≡ 0 → ⊥) → (text : List ℕ) → text ≡ late_text (end_of rules d journal).late (folded_tables d (end_of rules d journal)) → TellsLate rules d records text journal
+  tells_late : ((end_of rules d journal).late ≡ 0 → ⊥) → (text : List ℕ) → text ≡ late_text (end_of rules d journal).late (folded_tables d (end_of rules d journal)) ++ lines_of shown journal → TellsLate rules shown d records text journal
   tells_late some text e = record {
     alone = none;
     some = some;
@@ -54,14 +54,14 @@ module _ (rules : Rules) (d : DraftView) (records : List Input) (journal : List 
   }
 
   alone : (status : ℕ) (text : List ℕ) (b : Bool) → ((end_of rules d journal).late == 0) ≡ b →
-      ◌≡◌ {A = ℕ × List ℕ} (status, text) (cond b (0, settled_text (folded_tables d (end_of rules d journal))) (3, late_text (end_of rules d journal).late (folded_tables d (end_of rules d journal)))) → Tells rules d records status text journal
+      ◌≡◌ {A = ℕ × List ℕ} (status, text) (with_lines shown journal (cond b (0, settled_text (folded_tables d (end_of rules d journal))) (3, late_text (end_of rules d journal).late (folded_tables d (end_of rules d journal))))) → Tells rules shown d records status text journal
   alone status text true is e = inl (ap (λ p. p.0) e, tells_query (eqb-true (end_of rules d journal).late 0 is) text (ap (λ p. p.1) e))
   alone status text false is e = inr (inl (ap (λ p. p.0) e, tells_late (not_zero (end_of rules d journal).late is) text (ap (λ p. p.1) e)))
 
-pub tells : (rules : Rules) (d : DraftView) (records : List Input) (status : ℕ) (text : List ℕ) (journal : List Entry) → IsJournal rules d records journal →
-    (status, text) ≡ told rules d (end_of rules d journal) → Tells rules d records status text journal
-tells rules d records status text journal h e = by (first_pair rules.hash (plan_of d) (end_of rules d journal)) refl e
+pub tells : (rules : Rules) (shown : Bool) (d : DraftView) (records : List Input) (status : ℕ) (text : List ℕ) (journal : List Entry) → IsJournal rules d records journal →
+    (status, text) ≡ with_lines shown journal (told rules d (end_of rules d journal)) → Tells rules shown d records status text journal
+tells rules shown d records status text journal h e = by (first_pair rules.hash (plan_of d) (end_of rules d journal)) refl e
   where
-    by : (o : Option NodePair) → first_pair rules.hash (plan_of d) (end_of rules d journal) ≡ o → (status, text) ≡ told_by d (end_of rules d journal) o → Tells rules d records status text journal
+    by : (o : Option NodePair) → first_pair rules.hash (plan_of d) (end_of rules d journal) ≡ o → (status, text) ≡ with_lines shown journal (told_by d (end_of rules d journal) o) → Tells rules shown d records status text journal
     by (Some c) is told_is = inr (inr (ap (λ p. p.0) told_is, record { pair = c; first = is; printed = ap (λ p. p.1) told_is }))
-    by None is told_is = alone rules d records journal h is status text ((end_of rules d journal).late == 0) refl told_is
+    by None is told_is = alone rules shown d records journal h is status text ((end_of rules d journal).late == 0) refl told_is

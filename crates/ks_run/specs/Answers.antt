@@ -1,5 +1,5 @@
 -- What a run answers, and why.
-use Rattle.std.specs.Prelude.{◌≡◌, ◌⊎◌, ℕ, List, [], true, false, Option, Some, None, IfSome}
+use Rattle.std.specs.Prelude.{◌≡◌, ◌⊎◌, ℕ, Bool, List, [], Option, Some, None, IfSome}
 use Rattle.std.specs.Io.KnownBytes.{IsAtEnd}
 use Rattle.ks_edge.specs.Causes.{Rose}
 use Rattle.ks_def_tasks.specs.Messages.{Rules}
@@ -8,9 +8,8 @@ use Rattle.ks_job.specs.Reader.{whole}
 use Rattle.ks_job_source.specs.declared.stop.Stop.{Stop}
 use Rattle.ks_job_source.specs.Stops.{stop_of}
 use Rattle.ks_job_source.specs.Reading.{TookNoFault}
-use Rattle.ks_output.specs.Texts.{bad_words_text, read_fault_text}
+use Rattle.ks_output.specs.Texts.{read_fault_text}
 use Rattle.ks_job_source.specs.Texts.{bad_job_text}
-use Rattle.ks_run.specs.Asked.{is_run}
 use Rattle.ks_run.specs.Journals.{IsSettledRun, IsLateRun, IsCollidedRun}
 
 -- the bytes are no job that can be run, for this reason
@@ -29,19 +28,13 @@ pub record IsRefused (left : Option (List ℕ)) (text : List ℕ) : Type 0 where
 
 -- what a job's run answers, with its text and its journal: by the bytes that the source has left before and after, where they are
 -- known, and its count of faults before and after
-pub record IsJudged (rules : Rules) (old new : Option (List ℕ)) (before now : ℕ) (status : ℕ) (text : List ℕ) (journal : List Entry) : Type 0 where
+pub record IsJudged (rules : Rules) (shown : Bool) (old new : Option (List ℕ)) (before now : ℕ) (status : ℕ) (text : List ℕ) (journal : List Entry) : Type 0 where
   pub read_fault : status ≡ 6 → Rose before now × TookNoFault old new × (text ≡ read_fault_text) × (journal ≡ [])
   pub bad_job : status ≡ 2 → (now ≡ before) × IsRefused old text × (journal ≡ [])
-  pub settled : status ≡ 0 → (now ≡ before) × IsAtEnd new × IsSettledRun rules old text journal
-  pub late : status ≡ 3 → (now ≡ before) × IsAtEnd new × IsLateRun rules old text journal
-  pub collision : status ≡ 5 → (now ≡ before) × IsAtEnd new × IsCollidedRun rules old text journal
+  pub settled : status ≡ 0 → (now ≡ before) × IsAtEnd new × IsSettledRun rules shown old text journal
+  pub late : status ≡ 3 → (now ≡ before) × IsAtEnd new × IsLateRun rules shown old text journal
+  pub collision : status ≡ 5 → (now ≡ before) × IsAtEnd new × IsCollidedRun rules shown old text journal
   pub only : (status ≡ 0) ⊎ (status ≡ 2) ⊎ (status ≡ 3) ⊎ (status ≡ 5) ⊎ (status ≡ 6)
-
--- the same by the words first
-abbrev pub IsJudgedBy : List (List ℕ) → Rules → Option (List ℕ) → Option (List ℕ) → ℕ → ℕ → ℕ → List ℕ → List Entry → Type 0
-IsJudgedBy words rules old new before now status text journal =
-    ((is_run words ≡ false) × (status ≡ 1) × (new ≡ old) × (now ≡ before) × (text ≡ bad_words_text) × (journal ≡ []))
-    ⊎ ((is_run words ≡ true) × IsJudged rules old new before now status text journal)
 
 -- one of the statuses of a run
 abbrev pub IsStatus : ℕ → Type 0

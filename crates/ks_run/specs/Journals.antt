@@ -1,5 +1,5 @@
 -- A run's tables and its journal, by the job.
-use Rattle.std.specs.Prelude.{◌≡◌, ◌<◌, ◌^◌, ℕ, List, [], ◌∷◌, ◌++◌, map, Option, Some, None, IfSome}
+use Rattle.std.specs.Prelude.{◌≡◌, ◌<◌, ◌^◌, ℕ, Bool, List, [], ◌∷◌, ◌++◌, map, Option, Some, None, IfSome}
 use Rattle.ks_plan.specs.Drafts.{DraftView}
 use Rattle.ks_plan.specs.Plan.{plan_of}
 use Rattle.ks_query.specs.Streams.{Input}
@@ -56,25 +56,25 @@ pub record SettlesBytes (rules : Rules) (left : Option (List ℕ)) (d : DraftVie
   pub kept : IsJournal rules d records journal
 
 -- ---- status 0: the source held a job, and the text has its tables by its query
-pub record IsSettledRun (rules : Rules) (left : Option (List ℕ)) (text : List ℕ) (journal : List Entry) : Type 0 where
+pub record IsSettledRun (rules : Rules) (shown : Bool) (left : Option (List ℕ)) (text : List ℕ) (journal : List Entry) : Type 0 where
   pub draft : DraftView
   pub records : List Input
   pub settles : SettlesBytes rules left draft records journal
-  pub query : TellsQuery rules draft records text journal
+  pub query : TellsQuery rules shown draft records text journal
 
 -- ---- status 3: the source held a job some of whose records are not within grace, and the text has its tables without the late ones
-pub record IsLateRun (rules : Rules) (left : Option (List ℕ)) (text : List ℕ) (journal : List Entry) : Type 0 where
+pub record IsLateRun (rules : Rules) (shown : Bool) (left : Option (List ℕ)) (text : List ℕ) (journal : List Entry) : Type 0 where
   pub draft : DraftView
   pub records : List Input
   pub settles : SettlesBytes rules left draft records journal
-  pub late : TellsLate rules draft records text journal
+  pub late : TellsLate rules shown draft records text journal
 
 -- ---- status 5: the source held a job in whose journal two rows of a key have one hash, and the text names them
-pub record IsCollidedRun (rules : Rules) (left : Option (List ℕ)) (text : List ℕ) (journal : List Entry) : Type 0 where
+pub record IsCollidedRun (rules : Rules) (shown : Bool) (left : Option (List ℕ)) (text : List ℕ) (journal : List Entry) : Type 0 where
   pub draft : DraftView
   pub records : List Input
   pub settles : SettlesBytes rules left draft records journal
-  pub collision : TellsCollision rules draft text journal
+  pub collision : TellsCollision rules shown draft text journal
 
 -- ---- jobs that are always answered by their query
 -- the bytes that the source has left are a valid job, whose records are within grace

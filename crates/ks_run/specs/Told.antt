@@ -1,6 +1,6 @@
 -- What is told of a settled cluster: the query's tables, the tables without late records, or that rows of a key have one hash.
 -- Kafka Streams developer guide, "Windowing", on late records; KIP-213 on the hashes of a join on a foreign key.
-use Rattle.std.specs.Prelude.{◌≡◌, ℕ, ◌==◌, List, [], cond, Option, Some, None}
+use Rattle.std.specs.Prelude.{◌≡◌, ℕ, ◌==◌, Bool, List, [], ◌++◌, cond, Option, Some, None}
 use Rattle.ks_plan.specs.Drafts.{DraftView, Name}
 use Rattle.ks_plan.specs.Plan.{plan_of}
 use Rattle.ks_query.specs.Streams.{Input}
@@ -13,6 +13,7 @@ use Rattle.ks_law_settled.specs.Collision.{OffsetPair, NodePair, first_pair}
 use Rattle.ks_law_settled.specs.Folded.{folded_tables}
 use Rattle.ks_law_settled.specs.Settled.{end_of, OthersAre, CountsLack}
 use Rattle.ks_report.specs.Joins.{named}
+use Rattle.ks_journal.specs.Lines.{journal_text}
 use Rattle.ks_output.specs.Texts.{settled_text, late_text, collision_text}
 
 -- ---- the text of a collision, of the join by its name
@@ -32,26 +33,33 @@ told_by d s None = cond (s.late == 0) (0, settled_text (folded_tables d s)) (3, 
 abbrev pub told : Rules → DraftView → State → ℕ × List ℕ
 told rules d s = told_by d s (first_pair rules.hash (plan_of d) s)
 
--- ---- what each text tells of a job that its journal settles
+-- ---- the lines of the journal, where they are asked for, come last
+abbrev pub lines_of : Bool → List Entry → List ℕ
+lines_of shown journal = cond shown (journal_text journal) []
+
+abbrev pub with_lines : Bool → List Entry → ℕ × List ℕ → ℕ × List ℕ
+with_lines shown journal p = (p.0, p.1 ++ lines_of shown journal)
+
+-- ---- what each text tells of a job that its journal settles, and whose lines come last
 -- no two rows of a key collide and nothing was late; the text has the query's tables, which are those that the changelogs keep
-pub record TellsQuery (rules : Rules) (d : DraftView) (records : List Input) (text : List ℕ) (journal : List Entry) : Type 0 where
+pub record TellsQuery (rules : Rules) (shown : Bool) (d : DraftView) (records : List Input) (text : List ℕ) (journal : List Entry) : Type 0 where
   pub alone : first_pair rules.hash (plan_of d) (end_of rules d journal) ≡ None
   pub in_time : (end_of rules d journal).late ≡ 0
   pub folds : folded_tables d (end_of rules d journal) ≡ job_tables d records
-  pub printed : text ≡ settled_text (job_tables d records)
+  pub printed : text ≡ settled_text (job_tables d records) ++ lines_of shown journal
 
 -- no two rows of a key collide, and something was late, which comes only where the records are not within grace; the text has how much, and
 -- the tables that the changelogs keep: those of windowed counts lack exactly so much, and the others are the query's
-pub record TellsLate (rules : Rules) (d : DraftView) (records : List Input) (text : List ℕ) (journal : List Entry) : Type 0 where
+pub record TellsLate (rules : Rules) (shown : Bool) (d : DraftView) (records : List Input) (text : List ℕ) (journal : List Entry) : Type 0 where
   pub alone : first_pair rules.hash (plan_of d) (end_of rules d journal) ≡ None
   pub some : (end_of rules d journal).late ≡ 0 → ⊥
   pub over : IsWithinGrace (plan_of d) records → ⊥
   pub others : OthersAre d records (end_of rules d journal)
   pub counts : CountsLack (plan_of d) records (end_of rules d journal)
-  pub printed : text ≡ late_text (end_of rules d journal).late (folded_tables d (end_of rules d journal))
+  pub printed : text ≡ late_text (end_of rules d journal).late (folded_tables d (end_of rules d journal)) ++ lines_of shown journal
 
 -- the text has the first two rows of a key that collide: by node, partition, greater and lesser offset
-pub record TellsCollision (rules : Rules) (d : DraftView) (text : List ℕ) (journal : List Entry) : Type 0 where
+pub record TellsCollision (rules : Rules) (shown : Bool) (d : DraftView) (text : List ℕ) (journal : List Entry) : Type 0 where
   pub pair : NodePair
   pub first : first_pair rules.hash (plan_of d) (end_of rules d journal) ≡ Some pair
-  pub printed : text ≡ pair_text (named d pair)
+  pub printed : text ≡ pair_text (named d pair) ++ lines_of shown journal

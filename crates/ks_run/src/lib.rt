@@ -2,13 +2,14 @@
 #![tactic(auto)]
 
 mod answer;
+mod command;
+mod loading;
 mod outcome;
 mod producing;
 mod runs;
-mod settings;
 mod settling;
 mod status;
 mod verdict;
 
-pub use runs::{Ended, run_job, top};
-pub use settings::Settings;
+pub use command::top;
+pub use runs::{Ended, run_job};

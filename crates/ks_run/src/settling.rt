@@ -1,5 +1,5 @@
 //! Runs a job's tasks over its records, until nothing is left to take.
-ghost use Rattle.std.specs.Prelude.{◌≡◌, ◌<◌, ◌^◌, IfOk, None, Some, length, option_map};
+ghost use Rattle.std.specs.Prelude.{◌≡◌, ◌++◌, ◌<◌, ◌^◌, IfOk, OnOk, None, Some, length, option_map};
 ghost use Rattle.ks_plan.specs.Drafts.{draft_view};
 ghost use Rattle.ks_topo.specs.Topologies.{draft_of, plan_in};
 ghost use Rattle.ks_history.specs.History.{IsHistory};
@@ -10,6 +10,7 @@ ghost use Rattle.ks_law_inputs.specs.Records.{HavePartitions, AreRecords, record
 ghost use Rattle.ks_law_topology.specs.Work.{work_of};
 ghost use Rattle.ks_law_kinds.specs.Fitting.{FitsRules};
 ghost use Rattle.ks_nodes.specs.Rules.{rules_of};
+ghost use Rattle.ks_run.specs.Told.{lines_of, with_lines};
 ghost use Rattle.ks_run.specs.Verdict.{told_as};
 ghost use Rattle.ks_run.specs.Settling.{IsReadJob, split, SettlesJob, SettlesItems};
 
@@ -18,7 +19,9 @@ use crate::producing::{counts_of, produce_all};
 use crate::verdict::{Verdict, judge, print_verdict};
 use ks_cluster::{Cluster, Work};
 use ks_hash::Hash128;
+use ks_history::Entry;
 use ks_job::JobItem;
+use ks_journal::push_journal;
 use ks_law_kinds::topology_fits;
 use ks_settle::drain;
 use ks_task::TaskWork;
@@ -26,14 +29,25 @@ use ks_topo::{Draft, Topology, share_topology};
 use std::alloc::{AllocError, Global};
 use std::thread::{Threads, join};
 
-// The answer of a run that came to this: its text and its journal are made side by side.
+// Appends the lines of a journal, where they are asked for.
+fn push_lines(text: &mut Vec<u8>, entries: &[Entry], shown: bool) -> Result<(), AllocError>
+    ensures { OnOk result (text.new.items ≡ text.old.items ++ lines_of shown entries.now) }
+{
+    if shown {
+        push_journal(text, entries)?;
+    }
+    Ok(())
+}
+
+// The answer of a run that came to this: its text and its journal are made side by side, and the journal's lines come last.
 fn end_run<R: Threads + Sync, W: Work + Send>(
     rt: &R,
     alloc: Global,
     cluster: Cluster<W>,
     verdict: Verdict,
+    shown: bool,
 ) -> Result<Answer, AllocError>
-    ensures made { IfOk result (λ a. ((a.status, a.text.items) ≡ told_as verdict) × (a.journal ≡ cluster.journal)) }
+    ensures made { IfOk result (λ a. ((a.status, a.text.items) ≡ with_lines shown cluster.journal (told_as verdict)) × (a.journal ≡ cluster.journal)) }
     ensures history { IsHistory (setup_of W.plan cluster) cluster.journal }
     ensures few { records_in (setup_of W.plan cluster) cluster.journal < 2 ^ 48 }
 {
@@ -43,7 +57,8 @@ fn end_run<R: Threads + Sync, W: Work + Send>(
         move || print_verdict(rt, alloc, verdict),
         move || cluster.into_journal_wide(rt),
     );
-    let text = text?;
+    let mut text = text?;
+    push_lines(&mut text, journal.as_slice(), shown)?;
     Ok(Answer {
         status,
         text,
@@ -63,11 +78,12 @@ fn settle<H: Hash128 + Send + Sync, R: Threads + Sync, W: Work + Send + Sync>(
     topology: &Topology,
     work: W,
     records: Vec<JobItem>,
+    shown: bool,
 ) -> Result<Answer, AllocError>
     requires work { W.plan work ≡ work_of (rules_of H.hash_of) (plan_in topology.now) }
     requires partitions { HavePartitions (draft_of topology.now).topics }
     requires records { AreRecords (length (draft_of topology.now).topics) (item_views records.items) }
-    ensures { IfOk result (λ a. SettlesJob (rules_of H.hash_of) (draft_of topology.now) (records_of (item_views records.items)) a.status a.text.items a.journal) }
+    ensures { IfOk result (λ a. SettlesJob (rules_of H.hash_of) shown (draft_of topology.now) (records_of (item_views records.items)) a.status a.text.items a.journal) }
 {
     // Its names and constants can be written, and it is well formed: the law on settled journals asks for both.
     topology_fits(topology);
@@ -80,7 +96,7 @@ fn settle<H: Hash128 + Send + Sync, R: Threads + Sync, W: Work + Send + Sync>(
     produce_all(alloc, &mut cluster, counts.as_slice(), records)?;
     drain::<H, R, W>(rt, alloc, topology, &mut cluster)?;
     let verdict = judge::<H, R, W>(rt, alloc, topology, &cluster)?;
-    end_run(rt, alloc, cluster, verdict)
+    end_run(rt, alloc, cluster, verdict, shown)
 }
 
 // The topology of a job, and its other items.
@@ -97,14 +113,15 @@ fn split_job(items: Vec<JobItem>) -> Option<(Draft, Vec<JobItem>)>
     }
 }
 
-/// The run of a job that was read to its end. Want of memory is the one error.
+/// The run of a job that was read to its end, and whether its text has the journal's lines. Want of memory is the one error.
 pub fn settle_job<H: Hash128 + Send + Sync, R: Threads + Sync>(
     rt: &R,
     alloc: Global,
     items: Vec<JobItem>,
+    shown: bool,
 ) -> Result<Answer, AllocError>
     requires { IsReadJob (item_views items.items) }
-    ensures { IfOk result (λ a. SettlesItems (rules_of H.hash_of) (item_views items.items) a.status a.text.items a.journal) }
+    ensures { IfOk result (λ a. SettlesItems (rules_of H.hash_of) shown (item_views items.items) a.status a.text.items a.journal) }
 {
     let Some((draft, records)) = split_job(items) else {
         unreachable!()
@@ -114,5 +131,5 @@ pub fn settle_job<H: Hash128 + Send + Sync, R: Threads + Sync>(
     };
     share_topology();
     let work = TaskWork::<H>::new(&topology);
-    settle::<H, R, TaskWork<H>>(rt, alloc, &topology, work, records)
+    settle::<H, R, TaskWork<H>>(rt, alloc, &topology, work, records, shown)
 }

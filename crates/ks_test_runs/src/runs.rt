@@ -3,7 +3,8 @@ ghost use Rattle.std.specs.Prelude.{◌≡◌, IfOk, length};
 
 use ks_edge::{Gate, MemSink, MemSource, ScriptGate};
 use ks_hash::Constant;
-use ks_run::{Settings, run_job, top};
+use ks_run::{run_job, top};
+use ks_words::Settings;
 use std::alloc::{AllocError, Global};
 use std::process::Abort;
 use std::sync::Wait;

@@ -5,6 +5,7 @@ use Rattle.ks_topo.specs.Topologies.{draft_of}
 use Rattle.ks_job.specs.Items.{item_views}
 use Rattle.ks_cluster.specs.View as kept
 use Rattle.ks_run.proofs.Counts.{shown_counts}
+use Rattle.ks_run.specs.Told.{with_lines}
 use Rattle.ks_run.proofs.Settles.{IsRunnable, IsDrained, setup_is, setup_made, parts_ready, records_ready, produced_setup, drained_setup, nodes_ready, settled_answers, is_of}
 use Rattle.ks_run.proofs.settling.settle.Goals as goal
 
@@ -72,7 +73,7 @@ returns g c =
     } in
     let done : IsDrained (kept.setup_of g.W.Work.plan c.drain.new.cluster) c.drain.new.cluster.journal = record { history = c.end_run.ensures.history; few = c.end_run.ensures.few; settled = c.in_ok-drain.ensures.settled } in
     IfOk-weaker c.end_run.result _ _
-    (λ a h. settled_answers hash d g.W.Work.plan (item_views c.args.records.items) c.in_ok-cluster.cluster c.produce_all.new.cluster c.drain.new.cluster c.as_slice-2.result.now a.status a.text.items a.journal ready
+    (λ a h. settled_answers hash c.args.shown d g.W.Work.plan (item_views c.args.records.items) c.in_ok-cluster.cluster c.produce_all.new.cluster c.drain.new.cluster c.as_slice-2.result.now a.status a.text.items a.journal ready
     setup (ap (λ k. k.journal) c.in_ok-cluster.ensures) (c.as_slice-2.ensures.value ∙ counts) c.in_ok-produce_all.ensures.ok c.in_ok-drain.ensures.more done
-    (h.0 ∙ c.in_ok-verdict.ensures) h.1)
+    (h.0 ∙ ap (with_lines c.args.shown c.drain.new.cluster.journal) c.in_ok-verdict.ensures) h.1)
     c.end_run.ensures.made

@@ -29,5 +29,5 @@ pub returns : goal.returns
 returns g c =
     let rules = rules_of g.H.Hash128.hash_of in
     let built = rw c.in-Ok.is at c.in_ok-topology.ensures in
-    IfOk-weaker c.settle.result _ _ (λ a h. answers_job rules (item_views c.args.items.items) (item_views c.in-Some.records.items) (draft_view c.in-Some.draft) a.status a.text.items a.journal (sym c.in-Some.ensures)
-    (subst (λ d. SettlesJob rules d (records_of (item_views c.in-Some.records.items)) a.status a.text.items a.journal) built.1 h)) c.settle.ensures
+    IfOk-weaker c.settle.result _ _ (λ a h. answers_job rules c.args.shown (item_views c.args.items.items) (item_views c.in-Some.records.items) (draft_view c.in-Some.draft) a.status a.text.items a.journal (sym c.in-Some.ensures)
+    (subst (λ d. SettlesJob rules c.args.shown d (records_of (item_views c.in-Some.records.items)) a.status a.text.items a.journal) built.1 h)) c.settle.ensures

@@ -1,9 +1,10 @@
-//! What a run is asked for.
+//! How a job is run.
 ghost use Rattle.std.specs.Prelude.{◌≡◌};
-ghost use Rattle.ks_run.specs.Asked.{usual};
+ghost use Rattle.ks_words.specs.Grammar.{usual};
 
-/// How a job is run: by how many instances and threads each, with how many standbys of each task, with how many turns between
-/// commits, with which seed of chaos, stopped after how many turns, and whether the journal is printed.
+/// How a job is run: by how many instances and threads each, with how many standbys of each task, after how many records
+/// that were taken and not committed a commit is due, with which seed of chaos, stopped after how many turns, and whether the journal is
+/// printed.
 #[derive(Clone, Copy, PartialEq, Eq, Debug)]
 pub struct Settings {
     pub instances: u8,
@@ -16,7 +17,7 @@ pub struct Settings {
 }
 
 impl Settings {
-    /// One instance of one thread, no standby, a commit every 100 turns, no chaos, no stop, and no journal printed.
+    /// One instance of one thread, no standby, a commit at 100 records, no chaos, no stop, and no journal printed.
     pub fn usual() -> Settings
         ensures { result ≡ usual }
     {

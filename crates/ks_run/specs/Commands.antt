@@ -1,0 +1,36 @@
+-- What a run answers, by the words.
+use Rattle.std.specs.Prelude.{◌≡◌, ℕ, Bool, false, List, [], Option, Some, None}
+use Rattle.ks_def_tasks.specs.Messages.{Rules}
+use Rattle.ks_history.specs.declared.journal.Entry.{Entry}
+use Rattle.ks_output.specs.Texts.{bad_words_text}
+use Rattle.ks_words.specs.declared.command.Command.{Command}
+use Rattle.ks_words.specs.declared.command.Command.TheVariants.{Run, Load}
+use Rattle.ks_words.specs.Load.{load_text}
+use Rattle.ks_run.specs.Answers.{IsJudged}
+
+abbrev pub IsRun : Option Command → Type 0
+IsRun None = ⊥
+IsRun (Some (Run settings)) = Unit {0}
+IsRun (Some (Load orders settings)) = ⊥
+
+-- the bytes of the job, where they are known: those that the source has left, or the load job's
+abbrev pub job_bytes : Option Command → Option (List ℕ) → Option (List ℕ)
+job_bytes None left = left
+job_bytes (Some (Run settings)) left = left
+job_bytes (Some (Load orders settings)) left = Some (load_text orders)
+
+-- whether the journal's lines are asked for
+abbrev pub journal_of : Option Command → Bool
+journal_of (Some (Run settings)) = settings.journal
+journal_of _ = false
+
+-- what the load job's run answers; no source is asked
+abbrev pub IsLoadJudged : Rules → ℕ → ℕ → List ℕ → List Entry → Type 0
+IsLoadJudged rules orders status text journal = (left : Option (List ℕ)) × IsJudged rules false (Some (load_text orders)) left 0 0 status text journal
+
+-- what is answered to a command, with its text and its journal: by the bytes that the source has left before and after, where they are
+-- known, and its count of faults before and after
+abbrev pub IsJudgedBy : Option Command → Rules → Option (List ℕ) → Option (List ℕ) → ℕ → ℕ → ℕ → List ℕ → List Entry → Type 0
+IsJudgedBy None rules old new before now status text journal = (status ≡ 1) × (text ≡ bad_words_text) × (journal ≡ [])
+IsJudgedBy (Some (Run settings)) rules old new before now status text journal = IsJudged rules settings.journal old new before now status text journal
+IsJudgedBy (Some (Load orders settings)) rules old new before now status text journal = IsLoadJudged rules orders status text journal

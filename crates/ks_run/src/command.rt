@@ -1,0 +1,237 @@
+//! The top call: from the words to a run.
+ghost use Rattle.std.specs.Prelude.{◌≡◌, ◌≢◌, ◌⊎◌, ◌<◌, ◌≤◌, ℕ, List, false, Some, None, IfSome, [], length};
+ghost use Rattle.std.specs.Io.KnownBytes.{Appends, IsAtEnd};
+ghost use Rattle.ks_edge.specs.Causes.{Rose};
+ghost use Rattle.ks_hash.specs.Murmur3.{murmur3_of};
+ghost use Rattle.ks_nodes.specs.Rules.{rules_of};
+ghost use Rattle.ks_output.specs.Bytes.{AppendsFront};
+ghost use Rattle.ks_output.specs.Texts.{bad_words_text, read_fault_text};
+ghost use Rattle.ks_words.specs.Grammar.{usual, words_of, command_of};
+ghost use Rattle.ks_words.specs.Load.{load_text};
+ghost use Rattle.ks_words.specs.Ranges.{IsWithin};
+ghost use Rattle.ks_job_source.specs.Reading.{TookNoFault};
+ghost use Rattle.ks_run.specs.Answers.{IsRefused, IsStatus};
+ghost use Rattle.ks_run.specs.Commands.{IsRun, IsJudgedBy, IsLoadJudged, job_bytes, journal_of};
+ghost use Rattle.ks_run.specs.Journals.{IsSettledRun, IsLateRun, IsCollidedRun, HasJournal, IsInTime, IsWithoutCollision};
+
+use crate::loading::TextSource;
+use crate::runs::{Ended, run_job};
+use crate::status::{BAD_WORDS, NO_MEMORY, WRITE_FAULT};
+use ks_edge::{Gate, Sink, Source};
+use ks_hash::Murmur3;
+use ks_output::{print_bad_words, write_output};
+use ks_row::Seq;
+use ks_words::{Command, Settings, load_job, read_words};
+use std::alloc::Global;
+use std::sync::Wait;
+use std::thread::Threads;
+
+// The usual settings, but for whether the journal is printed: what is in force of all settings today.
+fn with_journal(journal: bool) -> Settings
+    ensures { result ≡ record usual { journal = journal } }
+{
+    let mut settings = Settings::usual();
+    settings.journal = journal;
+    settings
+}
+
+// What is answered where the words say nothing.
+fn refuse_words<K: Sink>(alloc: Global, out: &mut K) -> Ended
+    ensures bad_words { result.status ≡ 1 → Appends (K.held out.old) (K.held out.new) bad_words_text }
+    ensures write_fault { result.status ≡ 7 → Rose (K.faults out.old) (K.faults out.new) × AppendsFront (K.held out.old) (K.held out.new) bad_words_text }
+    ensures written { (result.status ≡ 7 → ⊥) → K.faults out.new ≡ K.faults out.old }
+    ensures memory { result.status ≡ 8 → out.new ≡ out.old }
+    ensures only { (result.status ≡ 1) ⊎ (result.status ≡ 7) ⊎ (result.status ≡ 8) }
+    ensures journal { result.journal ≡ [] }
+{
+    let journal = Seq::new(alloc);
+    let Ok(text) = print_bad_words(alloc) else {
+        return Ended {
+            status: NO_MEMORY,
+            journal,
+        };
+    };
+    match write_output(out, &text) {
+        Ok(()) => Ended {
+            status: BAD_WORDS,
+            journal,
+        },
+        Err(_) => Ended {
+            status: WRITE_FAULT,
+            journal,
+        },
+    }
+}
+
+// Runs the load job of so many orders.
+fn run_load<R: Threads + Wait + Sync, K: Sink>(
+    rt: &R,
+    alloc: Global,
+    orders: u32,
+    out: &mut K,
+    gates: Vec<Box<dyn Gate + Send>>,
+) -> Ended
+    requires gates { length gates.items ≡ 16 }
+    requires some { 0 < orders }
+    requires few { orders ≤ 150000 }
+    ensures read_fault { result.status ≡ 6 → ⊥ }
+    ensures words { result.status ≡ 1 → ⊥ }
+    ensures bad_job { result.status ≡ 2 → ((text : List ℕ) × IsRefused (Some (load_text orders)) text
+        × Appends (K.held out.old) (K.held out.new) text)
+        × (result.journal ≡ []) }
+    ensures settled { result.status ≡ 0 → ((text : List ℕ) × IsSettledRun (rules_of murmur3_of) false (Some (load_text orders)) text result.journal
+        × Appends (K.held out.old) (K.held out.new) text) }
+    ensures late { result.status ≡ 3 → ((text : List ℕ) × IsLateRun (rules_of murmur3_of) false (Some (load_text orders)) text result.journal
+        × Appends (K.held out.old) (K.held out.new) text) }
+    ensures collision { result.status ≡ 5 → ((text : List ℕ) × IsCollidedRun (rules_of murmur3_of) false (Some (load_text orders)) text result.journal
+        × Appends (K.held out.old) (K.held out.new) text) }
+    ensures write_fault { result.status ≡ 7 → Rose (K.faults out.old) (K.faults out.new)
+        × ((status : ℕ) × (text : List ℕ) × IsLoadJudged (rules_of murmur3_of) orders status text result.journal
+        × AppendsFront (K.held out.old) (K.held out.new) text) }
+    ensures journal { (result.status ≡ 8 → ⊥) → HasJournal (rules_of murmur3_of) (Some (load_text orders)) result.journal }
+    ensures complete { IsInTime (Some (load_text orders)) → IsWithoutCollision (rules_of murmur3_of) (Some (load_text orders)) result.journal
+        → (Rose (K.faults out.old) (K.faults out.new) → ⊥) → (result.status ≡ 0) ⊎ (result.status ≡ 8) }
+    ensures written { (result.status ≡ 7 → ⊥) → K.faults out.new ≡ K.faults out.old }
+    ensures memory { result.status ≡ 8 → out.new ≡ out.old }
+    ensures only { IsStatus result.status }
+{
+    let Ok(text) = load_job(alloc, orders) else {
+        return Ended {
+            status: NO_MEMORY,
+            journal: Seq::new(alloc),
+        };
+    };
+    let mut source = TextSource::new(text);
+    run_job::<Murmur3, R, TextSource, K>(rt, alloc, &Settings::usual(), &mut source, out, gates)
+}
+
+// Runs a command, or refuses the words that name none.
+fn run_command<R: Threads + Wait + Sync, S: Source, K: Sink>(
+    rt: &R,
+    alloc: Global,
+    command: Option<Command>,
+    input: &mut S,
+    out: &mut K,
+    gates: Vec<Box<dyn Gate + Send>>,
+) -> Ended
+    requires gates { length gates.items ≡ 16 }
+    requires within { IfSome command IsWithin }
+    ensures bad_words { result.status ≡ 1 → (command ≡ None)
+        × Appends (K.held out.old) (K.held out.new) bad_words_text
+        × (result.journal ≡ []) }
+    ensures good_words { (result.status ≡ 0) ⊎ (result.status ≡ 2) ⊎ (result.status ≡ 3) ⊎ (result.status ≡ 5) ⊎ (result.status ≡ 6) → command ≢ None }
+    ensures read_fault { result.status ≡ 6 → IsRun command
+        × Rose (S.faults input.old) (S.faults input.new)
+        × TookNoFault (S.left input.old) (S.left input.new)
+        × Appends (K.held out.old) (K.held out.new) read_fault_text
+        × (result.journal ≡ []) }
+    ensures bad_job { result.status ≡ 2 → (S.faults input.new ≡ S.faults input.old)
+        × ((text : List ℕ) × IsRefused (job_bytes command (S.left input.old)) text
+        × Appends (K.held out.old) (K.held out.new) text)
+        × (result.journal ≡ []) }
+    ensures settled { result.status ≡ 0 → (S.faults input.new ≡ S.faults input.old)
+        × (IsRun command → IsAtEnd (S.left input.new))
+        × ((text : List ℕ) × IsSettledRun (rules_of murmur3_of) (journal_of command) (job_bytes command (S.left input.old)) text result.journal
+        × Appends (K.held out.old) (K.held out.new) text) }
+    ensures late { result.status ≡ 3 → (S.faults input.new ≡ S.faults input.old)
+        × (IsRun command → IsAtEnd (S.left input.new))
+        × ((text : List ℕ) × IsLateRun (rules_of murmur3_of) (journal_of command) (job_bytes command (S.left input.old)) text result.journal
+        × Appends (K.held out.old) (K.held out.new) text) }
+    ensures collision { result.status ≡ 5 → (S.faults input.new ≡ S.faults input.old)
+        × (IsRun command → IsAtEnd (S.left input.new))
+        × ((text : List ℕ) × IsCollidedRun (rules_of murmur3_of) (journal_of command) (job_bytes command (S.left input.old)) text result.journal
+        × Appends (K.held out.old) (K.held out.new) text) }
+    ensures write_fault { result.status ≡ 7 → Rose (K.faults out.old) (K.faults out.new)
+        × ((status : ℕ) × (text : List ℕ)
+        × IsJudgedBy command (rules_of murmur3_of) (S.left input.old) (S.left input.new) (S.faults input.old) (S.faults input.new) status text result.journal
+        × AppendsFront (K.held out.old) (K.held out.new) text) }
+    ensures journal { (result.status ≡ 8 → ⊥) → HasJournal (rules_of murmur3_of) (job_bytes command (S.left input.old)) result.journal }
+    ensures complete { command ≢ None → IsInTime (job_bytes command (S.left input.old))
+        → IsWithoutCollision (rules_of murmur3_of) (job_bytes command (S.left input.old)) result.journal
+        → (Rose (S.faults input.old) (S.faults input.new) → ⊥) → (Rose (K.faults out.old) (K.faults out.new) → ⊥)
+        → (result.status ≡ 0) ⊎ (result.status ≡ 8) }
+
+    // Only `run` asks the source.
+    ensures unasked { (IsRun command → ⊥) → input.new ≡ input.old }
+    ensures written { (result.status ≡ 7 → ⊥) → K.faults out.new ≡ K.faults out.old }
+    ensures memory { result.status ≡ 8 → out.new ≡ out.old }
+    ensures only { IsStatus result.status }
+{
+    match command {
+        Some(Command::Run(settings)) => {
+            run_job::<Murmur3, R, S, K>(
+                rt,
+                alloc,
+                &with_journal(settings.journal),
+                input,
+                out,
+                gates,
+            )
+        }
+        Some(Command::Load(orders, _)) => run_load::<R, K>(rt, alloc, orders, out, gates),
+        None => refuse_words(alloc, out),
+    }
+}
+
+/// Runs the command that the words name, by `run_job` with Murmur3: `run` the job that the source holds, `load N` the load job of N orders,
+/// which asks no source. `--journal` has the journal's lines printed last; the
+/// settings that only workers use have no effect yet: the run has the usual ones. Words that aren't in the
+/// grammar have status 1: `bad words` is written, the source is as it was, and the journal is empty.
+pub fn top<R: Threads + Wait + Sync, S: Source, K: Sink>(
+    rt: &R,
+    alloc: Global,
+    words: &[String],
+    input: &mut S,
+    out: &mut K,
+    gates: Vec<Box<dyn Gate + Send>>,
+) -> Ended
+    requires { length gates.items ≡ 16 }
+    ensures bad_words { result.status ≡ 1 → (command_of (words_of words.now) ≡ None)
+        × Appends (K.held out.old) (K.held out.new) bad_words_text
+        × (result.journal ≡ []) }
+    ensures good_words { (result.status ≡ 0) ⊎ (result.status ≡ 2) ⊎ (result.status ≡ 3) ⊎ (result.status ≡ 5) ⊎ (result.status ≡ 6) → command_of (words_of words.now) ≢ None }
+    ensures read_fault { result.status ≡ 6 → IsRun (command_of (words_of words.now))
+        × Rose (S.faults input.old) (S.faults input.new)
+        × TookNoFault (S.left input.old) (S.left input.new)
+        × Appends (K.held out.old) (K.held out.new) read_fault_text
+        × (result.journal ≡ []) }
+    ensures bad_job { result.status ≡ 2 → (S.faults input.new ≡ S.faults input.old)
+        × ((text : List ℕ) × IsRefused (job_bytes (command_of (words_of words.now)) (S.left input.old)) text
+        × Appends (K.held out.old) (K.held out.new) text)
+        × (result.journal ≡ []) }
+    ensures settled { result.status ≡ 0 → (S.faults input.new ≡ S.faults input.old)
+        × (IsRun (command_of (words_of words.now)) → IsAtEnd (S.left input.new))
+        × ((text : List ℕ) × IsSettledRun (rules_of murmur3_of) (journal_of (command_of (words_of words.now))) (job_bytes (command_of (words_of words.now)) (S.left input.old)) text result.journal
+        × Appends (K.held out.old) (K.held out.new) text) }
+    ensures late { result.status ≡ 3 → (S.faults input.new ≡ S.faults input.old)
+        × (IsRun (command_of (words_of words.now)) → IsAtEnd (S.left input.new))
+        × ((text : List ℕ) × IsLateRun (rules_of murmur3_of) (journal_of (command_of (words_of words.now))) (job_bytes (command_of (words_of words.now)) (S.left input.old)) text result.journal
+        × Appends (K.held out.old) (K.held out.new) text) }
+    ensures collision { result.status ≡ 5 → (S.faults input.new ≡ S.faults input.old)
+        × (IsRun (command_of (words_of words.now)) → IsAtEnd (S.left input.new))
+        × ((text : List ℕ) × IsCollidedRun (rules_of murmur3_of) (journal_of (command_of (words_of words.now))) (job_bytes (command_of (words_of words.now)) (S.left input.old)) text result.journal
+        × Appends (K.held out.old) (K.held out.new) text) }
+    ensures write_fault { result.status ≡ 7 → Rose (K.faults out.old) (K.faults out.new)
+        × ((status : ℕ) × (text : List ℕ)
+        × IsJudgedBy (command_of (words_of words.now)) (rules_of murmur3_of) (S.left input.old) (S.left input.new) (S.faults input.old) (S.faults input.new) status text result.journal
+        × AppendsFront (K.held out.old) (K.held out.new) text) }
+    ensures journal { (result.status ≡ 8 → ⊥) → HasJournal (rules_of murmur3_of) (job_bytes (command_of (words_of words.now)) (S.left input.old)) result.journal }
+    ensures complete { command_of (words_of words.now) ≢ None → IsInTime (job_bytes (command_of (words_of words.now)) (S.left input.old))
+        → IsWithoutCollision (rules_of murmur3_of) (job_bytes (command_of (words_of words.now)) (S.left input.old)) result.journal
+        → (Rose (S.faults input.old) (S.faults input.new) → ⊥) → (Rose (K.faults out.old) (K.faults out.new) → ⊥)
+        → (result.status ≡ 0) ⊎ (result.status ≡ 8) }
+
+    // Only `run` asks the source.
+    ensures unasked { (IsRun (command_of (words_of words.now)) → ⊥) → input.new ≡ input.old }
+    ensures written { (result.status ≡ 7 → ⊥) → K.faults out.new ≡ K.faults out.old }
+    ensures memory { result.status ≡ 8 → out.new ≡ out.old }
+    ensures only { IsStatus result.status }
+{
+    let Ok(command) = read_words(alloc, words) else {
+        return Ended {
+            status: NO_MEMORY,
+            journal: Seq::new(alloc),
+        };
+    };
+    run_command::<R, S, K>(rt, alloc, command, input, out, gates)
+}

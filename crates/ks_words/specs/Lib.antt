@@ -1,0 +1,4 @@
+pub mod Grammar
+pub mod Parser
+pub mod Load
+pub mod Ranges
