@@ -1,5 +1,6 @@
 -- A journal that goes on, and what its new entries add, commit and write.
 use Rattle.std.proofs.Common.{◌≡◌, ℕ, Bool, true, false, cond, List, [], ◌∷◌, ◌++◌, None, refl, sym, ap, ap₂, subst, ◌∙◌, append-nil, append_assoc}
+use Rattle.std.specs.Prelude.{Result, Ok, Err, OnErr}
 use Rattle.ks_row.specs.declared.record.PartId.{PartId}
 use Rattle.ks_row.specs.declared.record.TaskId.{TaskId}
 use Rattle.ks_history.specs.declared.journal.Entry.{Entry}
@@ -14,7 +15,7 @@ use Rattle.ks_history.proofs.Histories.{state_after-append}
 use Rattle.ks_cluster.specs.View.{ClusterView, setup_of, state_of, AddsEntry}
 use Rattle.ks_cluster.proofs.Entries.{answered_state}
 use Rattle.ks_law_restore.specs.Commits.{commits_by, commits_for}
-use Rattle.ks_commit.specs.Sending.{Put, Gains, is_produce, produce_none, IsLonger, Sends, Marked}
+use Rattle.ks_commit.specs.Sending.{Put, Gains, is_produce, produce_none, IsLonger, Longer, Sends, Marked}
 use Rattle.ks_commit.proofs.Gaining.{gains_both, gains_nothing}
 use Rattle.ks_commit.proofs.Marking.{marks_both, marks_nothing}
 
@@ -49,6 +50,14 @@ commits_both plan old mid xs ys t is =
     commits_for-append (setup_of plan old) (state_of plan old) xs ys t
     ∙ ap (λ l. commits_for (setup_of plan old) (state_of plan old) xs t ++ l)
     (ap₂ (λ (setup : Setup) (s : State). commits_for setup s ys t) (sym (later_setup plan old mid xs is)) (sym (later_state plan old mid xs is)))
+
+-- after some entries, whatever more there are
+pub longer_more : {W : Type 0} (old mid new : ClusterView W) (xs : List Entry) → IsLonger old mid xs → produce_none xs ≡ true → Longer mid new → Longer old new
+longer_more old mid new xs is quiet b = record { more = xs ++ b.more; is = longer_both old mid new xs b.more is b.is; quiet = produce_none-append xs b.more quiet b.quiet }
+
+pub on_err : {T E P : Type 0} (r : Result T E) → P → OnErr r P
+on_err (Ok x) p = tt
+on_err (Err e) p = p
 
 pub longer_nothing : {W : Type 0} (c : ClusterView W) → IsLonger c c []
 longer_nothing {W} c = ap (λ (j : List Entry). record { work = c.work; counts = c.counts; tasks = c.tasks; journal = j }) (sym (append-nil c.journal))

@@ -81,8 +81,11 @@ produce_none (entry ∷ entries) = if is_produce entry.request then false else p
 abbrev pub IsLonger : {W : Type 0} → ClusterView W → ClusterView W → List Entry → Type 0
 IsLonger old new more = new ≡ record old { journal = old.journal ++ more }
 
-abbrev pub Longer : {W : Type 0} → ClusterView W → ClusterView W → Type 0
-Longer old new = (more : List Entry) × IsLonger old new more
+-- the journal is longer, with no further input; all else is the same
+pub record Longer {W : Type 0} (old new : ClusterView W) : Type 0 where
+  pub more : List Entry
+  pub is : IsLonger old new more
+  pub quiet : produce_none more ≡ true
 
 -- the cluster gained this, and neither is anything produced nor committed
 pub record Sends {W : Type 0} (plan : W → TaskPlan) (old new : ClusterView W) (w : ℕ) (adds : List PartId) (puts : List Put) (ps : List Pending) : Type 0 where

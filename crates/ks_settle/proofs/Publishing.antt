@@ -24,7 +24,7 @@ use Rattle.ks_row.specs.declared.record.TaskId.{TaskId}
 use Rattle.ks_commit.specs.Committed.{tasks_in, Committed, EachEnds, IsReady}
 use Rattle.ks_commit.specs.declared.publisher.Publisher.{Publisher}
 use Rattle.ks_history.specs.Reads.{end_of}
-use Rattle.ks_commit.specs.Sending.{produce_none, IsLonger, is_produce}
+use Rattle.ks_commit.specs.Sending.{produce_none, IsLonger, Longer, is_produce}
 use Rattle.ks_task.specs.declared.task.Task.{Task}
 use Rattle.ks_task.specs.Tasks.{task_view}
 use Rattle.ks_settle.specs.Drained.{IsDrainedTo, Rests, IsFull, told_view, ends_for, AreWorks, ArePublished, AreToldBy, AreToldTo, IsToldTask, AreReading, AreResting, MayDrain, IsOfTopology, Extends}
@@ -98,6 +98,10 @@ extends_both a b c x y = record {
   prefix = (x.prefix.0 ++ y.prefix.0, y.prefix.1 ∙ ap (λ l. l ++ y.prefix.0) x.prefix.1 ∙ append_assoc a.journal x.prefix.0 y.prefix.0);
   produces = y.produces ∙ x.produces;
 }
+
+-- where the journal is longer, with no further input
+pub extends_longer : {W : Type 0} (old new : ClusterView W) → Longer old new → Extends old new
+extends_longer old new l = extends_by old new l.more l.is l.quiet
 
 pub same_setup : {W : Type 0} (plan : W → TaskPlan) (old new : ClusterView W) → Extends old new → setup_of plan new ≡ setup_of plan old
 same_setup plan old new x = ap (setup_of plan) x.same

@@ -1,5 +1,5 @@
 //! A cluster is brought to rest, topic by topic.
-ghost use Rattle.std.specs.Prelude.{◌≡◌, ◌+◌, ℕ, length, [], IfOk, OnOk, option_map};
+ghost use Rattle.std.specs.Prelude.{◌≡◌, ◌+◌, ℕ, length, [], IfOk, OnErr, OnOk, option_map};
 ghost use Rattle.std.specs.List.{All};
 ghost use Rattle.ks_topo.specs.Topologies.{draft_of, plan_in};
 ghost use Rattle.ks_plan.specs.Infos.{changelog_numbers};
@@ -182,9 +182,10 @@ impl TaskManager {
         requires tasks { cluster.old.tasks ≡ all_tasks (plan_in topology.now) }
         requires parts { HaveParts (plan_in topology.now) }
         requires produced { OnlyProduces cluster.old.journal }
-        ensures { IfOk result (λ m.
+        ensures ready { IfOk result (λ m.
             AreResting W.plan cluster.new m.publisher (draft_of topology.now) 0 m.tasks.items
             × Extends cluster.old cluster.new) }
+        ensures err { OnErr result (Extends cluster.old cluster.new) }
     {
         let _journal = cluster.journal();
         let publisher = Publisher::start(alloc, cluster, WORKER, topology.tasks())?;
@@ -210,10 +211,11 @@ impl TaskManager {
         requires reading { AreReading (draft_of topology.now) (setup_of W.plan cluster.old)
             cluster.old.journal topic (length self.old.tasks.items) self.old.tasks.items
             (works_of works.items) }
-        ensures { OnOk result (
+        ensures rest { OnOk result (
             AreResting W.plan cluster.new self.new.publisher (draft_of topology.now) (topic + 1)
             self.new.tasks.items
             × Extends cluster.old cluster.new) }
+        ensures err { OnErr result (Extends cluster.old cluster.new) }
     {
         if works.is_empty() {
             return Ok(());
@@ -243,10 +245,11 @@ impl TaskManager {
         requires resting { AreResting W.plan cluster.old self.old.publisher
             (draft_of topology.now) topic
             self.old.tasks.items }
-        ensures { OnOk result (
+        ensures rest { OnOk result (
             AreResting W.plan cluster.new self.new.publisher (draft_of topology.now) (topic + 1)
             self.new.tasks.items
             × Extends cluster.old cluster.new) }
+        ensures err { OnErr result (Extends cluster.old cluster.new) }
     {
         let works = read_tasks::<H, R, W>(rt, alloc, topology, cluster, &mut self.tasks, topic)?;
         self.publish(alloc, topology, cluster, works, topic)
@@ -266,8 +269,9 @@ impl TaskManager {
         requires resting { AreResting W.plan cluster.old self.old.publisher
             (draft_of topology.now) 0
             self.old.tasks.items }
-        ensures { OnOk result (IsSettled (setup_of W.plan cluster.new) (state_of W.plan cluster.new)
+        ensures settled { OnOk result (IsSettled (setup_of W.plan cluster.new) (state_of W.plan cluster.new)
             × Extends cluster.old cluster.new) }
+        ensures err { OnErr result (Extends cluster.old cluster.new) }
     {
         let order = topology.drain_order();
         for i in 0..order.len() {
@@ -278,7 +282,8 @@ impl TaskManager {
 }
 
 /// Brings to rest a cluster of a topology in which nothing but records of its inputs stand, at a worker of its own, 16: topic by
-/// topic, in the drain order, the tasks that read it read it to its end, and then one transaction commits what they made.
+/// topic, in the drain order, the tasks that read it read it to its end, and then one transaction commits what they made. Want of memory is
+/// the one error, after which the journal has what was done before, and no further input.
 pub fn drain<H: Hash128 + Sync, R: Threads + Sync, W: Work + Sync>(
     rt: &R,
     alloc: Global,
@@ -292,6 +297,7 @@ pub fn drain<H: Hash128 + Sync, R: Threads + Sync, W: Work + Sync>(
     ensures settled { OnOk result (IsSettled (setup_of W.plan cluster.new)
         (state_of W.plan cluster.new)) }
     ensures more { OnOk result (Extends cluster.old cluster.new) }
+    ensures err { OnErr result (Extends cluster.old cluster.new) }
 {
     let _nodes = topology.nodes();
     let mut manager = TaskManager::start(alloc, topology, cluster)?;

@@ -8,7 +8,7 @@ use Rattle.ks_commit.specs.declared.work.Frozen.{Frozen}
 use Rattle.ks_law_restore.specs.Views.{WorkView}
 use Rattle.ks_commit.specs.Sending.{Sends, adds_of, puts_of, pendings_of}
 use Rattle.ks_commit.specs.Committed.{works_of, EachOf, EachPlaced, own_of_each, ends_of_each}
-use Rattle.ks_commit.proofs.Entries.{later_setup}
+use Rattle.ks_commit.proofs.Entries.{later_setup, longer_both, longer_more, produce_none-append, on_err}
 use Rattle.ks_commit.proofs.Finish.{each_of, each_placed, commits_faithfully, decide_free, now_ready, all_committed}
 use Rattle.ks_commit.proofs.committing.commit.Goals as goal
 
@@ -75,3 +75,16 @@ returns-clause-ready g c =
     always_ok c.all_ends.result
     (now_ready plan c.args.cluster.now c.send_all.new.cluster c.args.publisher.now c.send_all.new.publisher fs c.requires.network c.journal-before.ensures.history c.requires.ready c.requires.apart c.requires.works c.in_ok-send_all.ensures.same sends c.decide.new.cluster c.write_markers.new.cluster _ (some_works c.args.works.items c.requires.some) c.in_ok-send_all.ensures.sending free c.in_ok-decide.ensures.ok c.in_ok-write_markers.ensures.marked
     c.in_ok-write_markers.ensures.done c.journal-after.ensures.history)
+
+pub returns-in_err-write_markers-clause-err : goal.returns-in_err-write_markers-clause-err
+returns-in_err-write_markers-clause-err g c =
+    let sends = c.in_ok-send_all.ensures.sends in
+    let decided = longer_both c.args.cluster.now c.send_all.new.cluster c.decide.new.cluster sends.more _ sends.is c.in_ok-decide.ensures.ok.journal in
+    on_err c.from_residual-in_err-write_markers.result (longer_more c.args.cluster.now c.decide.new.cluster c.write_markers.new.cluster _ decided (produce_none-append sends.more _ sends.quiet refl) c.in_err-write_markers.ensures.err)
+
+pub returns-clause-err : goal.returns-clause-err
+returns-clause-err g c =
+    let sends = c.in_ok-send_all.ensures.sends in
+    let marked = c.in_ok-write_markers.ensures.marked in
+    let decided = longer_both c.args.cluster.now c.send_all.new.cluster c.decide.new.cluster sends.more _ sends.is c.in_ok-decide.ensures.ok.journal in
+    on_err c.all_ends.result (longer_more c.args.cluster.now c.decide.new.cluster c.write_markers.new.cluster _ decided (produce_none-append sends.more _ sends.quiet refl) (record { more = marked.more; is = marked.is; quiet = marked.quiet }))

@@ -4,7 +4,7 @@ use Rattle.ks_row.specs.declared.record.PartId.{PartId}
 use Rattle.ks_history.specs.State.{Setup, IsPart}
 use Rattle.ks_cluster.specs.View.{setup_of}
 use Rattle.ks_commit.specs.Sending.{Sends, adds_in, puts_in}
-use Rattle.ks_commit.proofs.Entries.{sends_nothing, later_setup}
+use Rattle.ks_commit.proofs.Entries.{sends_nothing, later_setup, longer_more, on_err}
 use Rattle.ks_commit.proofs.Turns.{one_taken, all_taken, next_has}
 use Rattle.ks_commit.proofs.Puts.{outs_more}
 use Rattle.ks_commit.proofs.sending.put_all.Goals as goal
@@ -37,3 +37,8 @@ pub returns-clause-sends : goal.returns-clause-sends
 returns-clause-sends g c =
     let is : c.loop-out.yielded ≡ c.args.outputs.items = all_taken c.loop-out.yielded c.loop-out.out-iterator.rest.items c.args.outputs.items c.loop-out.invariant.whole (omega (arith, c.loop-out.out-iterator.rest.ok, c.in-None.ensures.steps.0)) in
     subst (λ (outs : List (PartId × List Rec)). Sends g.W.Work.plan c.args.cluster.now c.loop-out.cluster c.args.publisher.now.worker (adds_in outs) (puts_in c.args.task outs) []) is c.loop-out.invariant.sends
+
+pub returns-in_err-put-clause-err : goal.returns-in_err-put-clause-err
+returns-in_err-put-clause-err g c =
+    let sends = c.loop-out.invariant.sends in
+    on_err c.from_residual.result (longer_more c.args.cluster.now c.loop-out.cluster c.put.new.cluster sends.more sends.is sends.quiet c.in_err-put.ensures.err)

@@ -5,7 +5,7 @@ use Rattle.ks_commit.specs.declared.work.Frozen.{Frozen}
 use Rattle.ks_commit.specs.Work.{work_view}
 use Rattle.ks_commit.specs.Committed.{works_of}
 use Rattle.ks_commit.specs.Sending.{Sends, adds_in, puts_in, adds_of, puts_of, pendings_of}
-use Rattle.ks_commit.proofs.Entries.{sends_nothing}
+use Rattle.ks_commit.proofs.Entries.{sends_nothing, longer_more, on_err}
 use Rattle.ks_commit.proofs.Turns.{one_taken, all_taken, next_of}
 use Rattle.ks_commit.proofs.Puts.{works_more, of_cluster_later}
 use Rattle.ks_commit.proofs.sending.send_all.Goals as goal
@@ -37,3 +37,8 @@ pub returns-clause-sends : goal.returns-clause-sends
 returns-clause-sends g c =
     let is : c.loop-work.yielded ≡ c.args.works.items = all_taken c.loop-work.yielded c.loop-work.work-iterator.rest.items c.args.works.items c.loop-work.invariant.whole (omega (arith, c.loop-work.work-iterator.rest.ok, c.in-None.ensures.steps.0)) in
     subst (λ (fs : List Frozen). Sends g.W.Work.plan c.args.cluster.now c.loop-work.cluster c.args.publisher.now.worker (adds_of (works_of fs)) (puts_of (works_of fs)) (pendings_of (works_of fs))) is c.loop-work.invariant.sends
+
+pub returns-in_err-send-clause-err : goal.returns-in_err-send-clause-err
+returns-in_err-send-clause-err g c =
+    let sends = c.loop-work.invariant.sends in
+    on_err c.from_residual.result (longer_more c.args.cluster.now c.loop-work.cluster c.send.new.cluster sends.more sends.is sends.quiet c.in_err-send.ensures.err)

@@ -1,0 +1,69 @@
+// Taking the value out and putting it back, over the seat of a pass.
+ghost use Rattle.std.specs.Prelude.{◌≡◌, ◌≢◌, [], ◌∷◌, length, filter, None, Some};
+ghost use mathlib.Core.List.{IsPrefix};
+ghost use Rattle.ks_growing.specs.Steps.{IsFree, IsHolding, view_with_value, view_without_value};
+
+use crate::journaled::Journaled;
+use crate::steps::{Count, Enter, Leave};
+use crate::view::{COUNT, PassSeat, SharedTable, TURN, VALUE};
+use std::sync::Wait;
+
+// Waits for the turn, and takes the value out.
+pub(crate) fn enter_seat<T: Journaled, R: Wait>(
+    rt: &R,
+    table: &SharedTable<T>,
+    seat: &mut PassSeat<T>,
+) -> T
+    requires size { (table.now.table_id.words ≡ 2) × (table.now.table_id.slots ≡ 1) }
+    requires own { seat.old.table_id ≡ table.now.table_id }
+    requires free { IsFree seat.old.me }
+    ensures same { (seat.new.table_id ≡ seat.old.table_id) × (seat.new.id ≡ seat.old.id) }
+    ensures begins { IsPrefix seat.old.me.0.seen (T.journal result) }
+    ensures view { seat.new.me ≡ (view_with_value (T.journal result) seat.old.me.0, (0, None) ∷ []) }
+    ensures frame { seat.old.me.0.frame ≡ Some (T.frame result) }
+    ensures reserved { seat.old.me.0.number ≡ 0
+        → filter T.reserved (T.journal result) ≡ filter T.reserved seat.old.me.0.seen }
+{
+    for _ in rt.forever() {
+        let turn = table.compare_exchange::<Enter<T>>(seat, TURN, 0, 1);
+        if turn == 0 {
+            return table.exchange(seat, VALUE, None).unwrap();
+        }
+        table.park(rt, TURN, 1);
+    }
+    unreachable!()
+}
+
+// Writes the number of the value's entries, while the seat holds it.
+fn write_count<T: Journaled>(table: &SharedTable<T>, seat: &mut PassSeat<T>, value: &T)
+    requires size { (table.now.table_id.words ≡ 2) × (table.now.table_id.slots ≡ 1) }
+    requires own { seat.old.table_id ≡ table.now.table_id }
+    requires holds { IsHolding seat.old.me }
+    ensures same { (seat.new.table_id ≡ seat.old.table_id) × (seat.new.id ≡ seat.old.id) }
+    ensures view { seat.new.me
+        ≡ (record seat.old.me.0 { count = length (T.journal value.now) }, (0, None) ∷ []) }
+{
+    let count = value.entries();
+    table.store::<Count<T>>(seat, COUNT, count);
+}
+
+// Puts the value back, with its count, and wakes a thread that waits.
+pub(crate) fn leave_seat<T: Journaled>(table: &SharedTable<T>, seat: &mut PassSeat<T>, value: T)
+    requires size { (table.now.table_id.words ≡ 2) × (table.now.table_id.slots ≡ 1) }
+    requires own { seat.old.table_id ≡ table.now.table_id }
+    requires holds { IsHolding seat.old.me }
+    requires grown { IsPrefix seat.old.me.0.seen (T.journal value) }
+    requires frame { seat.old.me.0.frame ≡ Some (T.frame value) }
+    requires reserved { seat.old.me.0.number ≢ 0
+        → filter T.reserved (T.journal value) ≡ filter T.reserved seat.old.me.0.seen }
+    ensures same { (seat.new.table_id ≡ seat.old.table_id) × (seat.new.id ≡ seat.old.id) }
+    ensures view { seat.new.me ≡ (view_without_value (T.journal value) seat.old.me.0, []) }
+{
+    write_count(table, seat, &value);
+    match table.exchange(seat, VALUE, Some(value)) {
+        None => {}
+        Some(_) => unreachable!(),
+    }
+    table.store::<Leave<T>>(seat, TURN, 0);
+    table.wake_one(TURN);
+}

@@ -1,0 +1,9 @@
+pub mod Rising
+pub mod Touching
+pub mod Leaving
+pub mod Places
+pub mod Pending
+pub mod Assigned
+pub mod Deciding
+pub mod Restoring
+pub mod Refusing

@@ -1,0 +1,5 @@
+pub mod Building
+pub mod Committing
+pub mod Accounts
+pub mod Example
+pub mod Advancing

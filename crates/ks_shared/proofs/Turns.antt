@@ -1,0 +1,55 @@
+-- A turn through the lock: what may be given back, and what the call is.
+use Rattle.std.proofs.Common.{◌≡◌, ◌+◌, ◌-◌, false, List, [], ◌++◌, length, filter, Option, Some, sym, ap, ◌∙◌, append-nil}
+use Rattle.std.proofs.lemmas.List.{append_cancel_left}
+use Rattle.std.proofs.lemmas.List.Elements.{filter-append}
+use mathlib.Core.List.{IsPrefix}
+use Rattle.ks_history.specs.declared.journal.Entry.{Entry}
+use Rattle.ks_history.specs.Machine.{TaskPlan}
+use Rattle.ks_history.specs.History.{IsHistory}
+use Rattle.ks_history.specs.Touched.{is_reserved}
+use Rattle.ks_cluster.specs.View.{ClusterView, setup_of}
+use Rattle.ks_growing.specs.Passes.{PassView, pass_with_value, pass_without_value}
+use Rattle.ks_shared.specs.declared.state.Frame.{Frame}
+use Rattle.ks_shared.specs.Calls.{frame_of, Grew, Grows, Called}
+
+pub unchanged : (seen log : List Entry) → seen ≡ log → IsPrefix seen log
+unchanged seen log is = ([], append-nil seen ∙ is)
+
+module _ {W : Type 0} where
+  pub grown : (seen : List Entry) (old new : ClusterView W) → seen ≡ old.journal → Grew old new → IsPrefix seen new.journal
+  grown seen old new is g = (g.own, ap (λ l. l ++ g.own) is ∙ sym (ap (λ (c : ClusterView W). c.journal) g.is))
+
+  pub grows_grew : (old new : ClusterView W) → Grows old new → Grew old new
+  grows_grew old new g = record { own = g.own; is = g.is }
+
+  pub same_grew : (old : ClusterView W) → Grew old old
+  same_grew old = record { own = []; is = λ i. record old { journal = sym (append-nil old.journal) i } }
+
+  pub frame_kept : (frame : Option (Frame W)) (old new : ClusterView W) → frame ≡ Some (frame_of old) → Grew old new → frame ≡ Some (frame_of new)
+  frame_kept frame old new is g = is ∙ sym (ap (λ (c : ClusterView W). Some (frame_of c)) g.is)
+
+  pub unreserved : (seen : List Entry) (old new : ClusterView W) → seen ≡ old.journal → Grows old new → filter is_reserved new.journal ≡ filter is_reserved seen
+  unreserved seen old new is g =
+      ap (λ (c : ClusterView W). filter is_reserved c.journal) g.is
+      ∙ filter-append is_reserved old.journal g.own
+      ∙ ap (λ l. filter is_reserved old.journal ++ l) g.plain
+      ∙ append-nil (filter is_reserved old.journal)
+      ∙ sym (ap (filter is_reserved) is)
+
+  pub called : (plan : W → TaskPlan) (old mid new : PassView Entry (Frame W)) (before after : ClusterView W) (Does : ClusterView W → ClusterView W → Type 0) →
+      old.holds ≡ false → mid ≡ pass_with_value before.journal old → IsPrefix old.seen before.journal → old.frame ≡ Some (frame_of before) →
+      (old.number ≡ 0 → filter is_reserved before.journal ≡ filter is_reserved old.seen) →
+      Does before after → Grew before after → IsHistory (setup_of plan after) after.journal → new ≡ pass_without_value after.journal mid → Called plan old new Does
+  called plan old mid new before after Does free entered prefix frame quiet does grew history left = record {
+    before = before;
+    after = after;
+    frame = frame;
+    others = prefix.0;
+    came = sym prefix.1;
+    quiet = λ zero. append_cancel_left (filter is_reserved old.seen) (filter is_reserved prefix.0) []
+        (sym (filter-append is_reserved old.seen prefix.0) ∙ ap (filter is_reserved) prefix.1 ∙ quiet zero ∙ sym (append-nil (filter is_reserved old.seen)));
+    does = does;
+    grew = grew;
+    history = history;
+    same = left ∙ ap (pass_without_value after.journal) entered ∙ (λ i. record old { holds = sym free i; seen = after.journal; made = old.made + (length after.journal - length before.journal) });
+  }

@@ -1,0 +1,7 @@
+use Rattle.ks_shared.proofs.Turns.{called, grows_grew}
+use Rattle.ks_shared.proofs.shared.Shared.hold.Goals as goal
+
+pub returns : goal.returns
+returns g c =
+    let e = c.enter-state.ensures in
+    called g.W.Work.plan _ _ _ _ _ _ c.requires.free e.pass e.begins e.frame e.reserved (c.hold-answer.ensures.ok, c.hold-answer.ensures.err) (grows_grew _ _ c.hold-answer.ensures.grows) c.tell.ensures c.leave.ensures

@@ -1,0 +1,58 @@
+// A worker's own requests: they are made where nobody else used its number.
+ghost use Rattle.std.specs.Prelude.{◌≡◌, IfOk, OnErr};
+ghost use Rattle.ks_history.specs.declared.journal.Request.TheVariants.{Init, Add};
+ghost use Rattle.ks_history.specs.declared.journal.Reply.TheVariants.{Done, Number};
+ghost use Rattle.ks_history.specs.History.{Meets};
+ghost use Rattle.ks_history.specs.Touched.{touched};
+ghost use Rattle.ks_cluster.specs.View.{setup_of, state_of, AddsEntry};
+ghost use Rattle.ks_shared.specs.Own.{IsOwn};
+
+use crate::barred::Barred;
+use crate::touched::touched_in;
+use ks_cluster::{Cluster, Work};
+use ks_row::PartId;
+use std::alloc::{AllocError, Global};
+
+pub(crate) fn init_own<W: Work>(
+    cluster: &mut Cluster<W>,
+    alloc: Global,
+    w: u8,
+    last: &mut u64,
+) -> Result<u64, AllocError>
+    requires { Meets (setup_of W.plan cluster.old) (state_of W.plan cluster.old) (Init w) }
+    ensures ok { IfOk result (λ n. AddsEntry W.plan cluster.old cluster.new (Init w) (Number n)) }
+    ensures last { IfOk result (λ n. last.new ≡ touched w cluster.new.journal) }
+    ensures err { OnErr result (cluster.new ≡ cluster.old) }
+    ensures last_stays { OnErr result (last.new ≡ last.old) }
+{
+    let epoch = cluster.init(alloc, w)?;
+    *last = touched_in(cluster.journal(), w);
+    Ok(epoch)
+}
+
+pub(crate) fn add_own<W: Work>(
+    cluster: &mut Cluster<W>,
+    alloc: Global,
+    w: u8,
+    epoch: u64,
+    part: PartId,
+    last: &mut u64,
+) -> Result<Result<(), Barred>, AllocError>
+    requires { Meets (setup_of W.plan cluster.old) (state_of W.plan cluster.old) (Add w epoch part) }
+    ensures ok { IfOk result
+        (λ r. IsOwn W.plan cluster.old cluster.new w last.old last.new (Add w epoch part) (λ u. Done) r) }
+    ensures err { OnErr result (cluster.new ≡ cluster.old) }
+    ensures last_stays { OnErr result (last.new ≡ last.old) }
+{
+    let at = touched_in(cluster.journal(), w);
+    if at != *last {
+        return Ok(Err(Barred::Touched { at }));
+    }
+    match cluster.add(alloc, w, epoch, part)? {
+        Ok(()) => {
+            *last = touched_in(cluster.journal(), w);
+            Ok(Ok(()))
+        }
+        Err(refused) => Ok(Err(Barred::Refused(refused))),
+    }
+}

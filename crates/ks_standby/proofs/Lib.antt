@@ -1,0 +1,3 @@
+pub mod Feeding
+pub mod Shelving
+pub mod Summing
