@@ -14,11 +14,12 @@ use Rattle.ks_history.specs.Count.{records_in}
 use Rattle.ks_log.specs.Written.{total}
 use Rattle.ks_cluster.specs.Moves.{IsAt, Moves, IsNew}
 use Rattle.ks_cluster.specs.View.{ClusterView, setup_of, state_of, setup_at, AddsEntry, BrokerFollows}
-use Rattle.ks_cluster.proofs.Steps.{new_at}
+use Rattle.ks_group.specs.Group.{GroupView}
+use Rattle.ks_cluster.proofs.Groups.{new_at}
 
 -- a broker that moved has the tasks that it had
-moved_tasks : (setup : Setup) (s : State) (old new : Broker) (request : Request) (reply : Reply) → setup.tasks ≡ old.group.tasks.items → IsAt setup s old → Moves old new request reply
-    → old.group.tasks.items ≡ new.group.tasks.items
+moved_tasks : (setup : Setup) (s : State) (old new : Broker) (request : Request) (reply : Reply) → setup.tasks ≡ old.group.tasks → IsAt setup s old → Moves old new request reply
+    → old.group.tasks ≡ new.group.tasks
 moved_tasks setup s old new request reply same k m = sym same ∙ sym (m.step setup s k).1.group_is.tasks_is
 
 pub moved_kept : (plan : TaskPlan) (counts : List ℕ) (journal : List Entry) (old new : Broker) (request : Request) (reply : Reply)
@@ -45,22 +46,22 @@ moved_kept plan counts journal old new request reply k meets faithful m =
     }
 
 pub answered : {W : Type 0} (plan : W → TaskPlan) (work : W) (counts : List ℕ) (journal journal' : List Entry) (old new : Broker) (value : ClusterView W) (request : Request) (reply : Reply)
-    → record { work = work; counts = counts; tasks = old.group.tasks.items; journal = journal } ≡ value
+    → record { work = work; counts = counts; tasks = old.group.tasks; journal = journal } ≡ value
     → journal' ≡ journal ++ record { request = request; reply = reply } ∷ []
     → BrokerFollows (plan work) counts journal old → Moves old new request reply
-    → AddsEntry plan value (record { work = work; counts = counts; tasks = new.group.tasks.items; journal = journal' }) request reply
+    → AddsEntry plan value (record { work = work; counts = counts; tasks = new.group.tasks; journal = journal' }) request reply
 answered {W} plan work counts journal journal' old new value request reply view is k m =
     let setup : Setup = setup_at (plan work) counts old in
-    subst (λ (v : ClusterView W). AddsEntry plan v (record { work = work; counts = counts; tasks = new.group.tasks.items; journal = journal' }) request reply) view (record {
+    subst (λ (v : ClusterView W). AddsEntry plan v (record { work = work; counts = counts; tasks = new.group.tasks; journal = journal' }) request reply) view (record {
       step = (m.step setup (at setup journal) k.stands).0;
       journal = ap (λ (ts : List TaskId). record { work = work; counts = counts; tasks = ts; journal = journal' }) (sym (moved_tasks setup (at setup journal) old new request reply refl k.stands m))
-          ∙ ap (λ (j : List Entry). record { work = work; counts = counts; tasks = old.group.tasks.items; journal = j }) is;
+          ∙ ap (λ (j : List Entry). record { work = work; counts = counts; tasks = old.group.tasks; journal = j }) is;
     })
 
-pub new_kept : (plan : TaskPlan) (counts : List ℕ) (tasks : List TaskId) (b : Broker) → IsNew tasks b → BrokerFollows plan counts [] b
+pub new_kept : (plan : TaskPlan) (counts : List ℕ) (tasks : List TaskId) (b : Broker) → IsNew plan tasks b → BrokerFollows plan counts [] b
 new_kept plan counts tasks b new = record {
   history = record { legal = tt; faithful = tt };
-  stands = new_at (setup_at plan counts b) b (subst (λ (ts : List TaskId). IsNew ts b) (sym new.tasks_is) new);
+  stands = new_at (setup_at plan counts b) b (subst (λ (ts : List TaskId). IsNew plan ts b) (ap (λ (g : GroupView). g.tasks) (sym new.group)) new);
   wrote = omega arith;
 }
 

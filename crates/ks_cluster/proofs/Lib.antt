@@ -1,5 +1,9 @@
 pub mod Lists
+pub mod ParkedPairs
+pub mod Plain
+pub mod Rows
 pub mod Steps
 pub mod Groups
 pub mod Readings
 pub mod Entries
+pub mod StatusParts

@@ -1,7 +1,8 @@
 -- Lists with one element in place of another, and functions with another value at one number.
-use Rattle.std.proofs.Common.{◌≡◌, ◌≢◌, ℕ, zero, suc, ◌<◌, true, false, cond, eqb, List, [], ◌∷◌, length, set, get_or, drop, refl, sym, ap, ◌∙◌, subst, arith, ⊎_elim}
+use Rattle.std.proofs.Common.{◌≡◌, ◌≢◌, ℕ, zero, suc, ◌+◌, ◌<◌, true, false, cond, eqb, List, [], ◌∷◌, length, set, get_or, drop, refl, sym, ap, ◌∙◌, subst, arith, ⊎_elim}
 use Rattle.std.specs.Prelude.{replicate}
 use Rattle.std.proofs.lemmas.Bool.Decides.{eqb_tells}
+use Rattle.std.proofs.lemmas.List.{drop_more}
 use Rattle.ks_history.specs.State.{with_number}
 
 pub get_or-set_same : {A : Type 0} (xs : List A) (w : ℕ) (x d : A) → w < length xs → get_or (set xs w x) w d ≡ x
@@ -38,3 +39,7 @@ with_element f xs w x d h is v =
 pub first_and_rest : {A : Type 0} (xs : List A) (d : A) → length xs ≢ 0 → xs ≡ get_or xs 0 d ∷ drop 1 xs
 first_and_rest [] d h = absurd (h refl)
 first_and_rest (x ∷ xs) d h = refl
+
+-- what is left from an item on is this item and what follows
+pub rest_at : {A : Type 0} (xs : List A) (i : ℕ) (x : A) → i < length xs → x ≡ get_or xs i x → drop i xs ≡ x ∷ drop (i + 1) xs
+rest_at xs i x h is = drop_more xs i x h ∙ ap (λ y. y ∷ drop (i + 1) xs) (sym is)

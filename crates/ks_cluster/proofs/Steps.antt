@@ -1,38 +1,38 @@
 -- What each request does to a broker: the lemma of each method.
-use Rattle.std.proofs.Common.{◌≡◌, ℕ, suc, ◌+◌, ◌<◌, ◌≤◌, ◌^◌, Bool, true, false, cond, List, [], ◌∷◌, ◌++◌, length, set, get_or, length-set, Option, Some, None, refl, sym, ap, ◌∙◌, subst, arith}
-use Rattle.std.specs.Prelude.{◌&&◌}
+use Rattle.std.proofs.Common.{◌≡◌, ◌≢◌, ne_eqb, ℕ, suc, ◌+◌, ◌<◌, ◌≤◌, ◌^◌, Bool, true, false, cond, List, [], ◌∷◌, ◌++◌, length, set, get_or, drop, length-set, Option, Some, None, Result, Ok, Err, refl, sym, ap, ◌∙◌, subst, arith}
+use Rattle.std.specs.Prelude.{◌&&◌, ◌||◌, ◌==◌, if◌then◌else◌, not, map}
+use Rattle.std.proofs.lemmas.Bool.{eq-eqb}
 use Rattle.ks_row.specs.declared.record.Rec.{Rec}
 use Rattle.ks_row.specs.declared.record.PartId.{PartId}
 use Rattle.ks_row.specs.declared.record.TaskId.{TaskId}
 use Rattle.ks_row.specs.declared.assignment.Refused.{Refused}
-use Rattle.ks_row.specs.declared.assignment.Refused.TheVariants.{NoTransaction, AlreadyDecided}
+use Rattle.ks_row.specs.declared.assignment.Refused.TheVariants.{OutOfSequence, Unstable}
 use Rattle.ks_row.specs.declared.assignment.Assignment.{Assignment}
 use Rattle.ks_row.specs.declared.assignment.Marker.{Marker}
 use Rattle.ks_history.specs.declared.partition.Slot.{Slot}
 use Rattle.ks_history.specs.declared.partition.Slot.TheVariants.{Plain, Mark}
 use Rattle.ks_history.specs.declared.journal.Request.{Request}
-use Rattle.ks_history.specs.declared.journal.Request.TheVariants.{Produce, Init, Add, Append, SendOffsets, Decide, MarkNext, Join, Assign}
+use Rattle.ks_history.specs.declared.journal.Request.TheVariants.{Produce, Init, Add, Append, SendOffsets, Decide, MarkNext, Join, Expire, Hold, Probe, Assign, Park, Unpark}
 use Rattle.ks_history.specs.declared.journal.Reply.{Reply}
 use Rattle.ks_history.specs.declared.journal.Reply.TheVariants.{Done, Number, Truth, Mark as Marked, Refused as Refuse}
 use Rattle.ks_history.specs.declared.transaction.Pending.{Pending}
-use Rattle.ks_history.specs.declared.transaction.Transaction.{Transaction}
 use Rattle.ks_history.specs.declared.transaction.Producer.{Producer}
 use Rattle.ks_history.specs.Partition.{count_sent, sent_slots, is_none}
-use Rattle.ks_history.specs.State.{State, Setup, start, new_producer, with_number, grown, insert_part, insert_number, with_pending}
-use Rattle.ks_history.specs.Step.{or_else, fenced, markers_waiting, without_part, none_undecided, has_pending, unstable_from, refusal, answer, effect, reply_by, state_by, tx_of, closed, renewed, markers_for, pending_at, with_late, bad_assignment}
-use Rattle.ks_log.specs.declared.log.Written.{Written}
-use Rattle.ks_group.specs.declared.group.Group.{Group}
-use Rattle.ks_cluster.specs.declared.broker.Broker.{Broker}
-use Rattle.ks_log.specs.Written.{slots_in, total, with_slots}
-use Rattle.ks_cluster.specs.Producers.{sequence_fault, unstable_in, counts_for}
-use Rattle.ks_group.specs.Committed.{offset_with, offset_after}
-use Rattle.ks_group.specs.Group.{generation_fault, owner_at, owner_fault, is_parked_in}
+use Rattle.ks_history.specs.State.{State, Setup, start, new_producer, with_number, grown, insert_number, without_number, has_number, with_pending, committed_with}
+use Rattle.ks_history.specs.Step.{or_else, fenced, markers_waiting, without_part, out_of_sequence, old_generation, not_assigned, unstable_beside, unstable_from, has_pending, is_undecided, can_expire, refusal, answer, effect, reply_by, state_by, closed, renewed, pending_at, with_late, bad_assignment}
 use Rattle.ks_history.specs.Count.{records_by}
-use Rattle.ks_cluster.specs.Moves.{IsGroupAt, IsAt, Moves, IsNew, sending_fault}
-use Rattle.ks_group.proofs.Commits.{offset_after-more}
-use Rattle.ks_cluster.proofs.Lists.{get_or-within, get_or-replicate, with_element}
-use Rattle.std.proofs.lemmas.List.{length-replicate}
+use Rattle.ks_log.specs.declared.log.Written.{Written}
+use Rattle.ks_log.specs.Written.{slots_in, total, with_slots}
 use Rattle.ks_log.proofs.Logs.{all_grown, total-with, length-sent}
+use Rattle.ks_txn.specs.Outcomes.{producer_at, done_by, changed_by, start_fault, has_fault, decide_fault, started, added, first_marker}
+use Rattle.ks_group.specs.Committed.{row_with}
+use Rattle.ks_group.specs.Pending.{is_pending, unstable_in, counts_for}
+use Rattle.ks_group.specs.Group.{GroupView, generation_fault, owner_at, owner_fault, speak_fault, assign_fault, next_generation, expired, assigned, pended, resolved}
+use Rattle.ks_cluster.specs.declared.broker.Broker.{Broker}
+use Rattle.ks_cluster.specs.Replies.{done_or}
+use Rattle.ks_cluster.specs.Moves.{IsGroupAt, IsAt, Moves, plain, rows_at, sending_fault}
+use Rattle.ks_cluster.proofs.Plain.{start_plain, has_plain, decide_plain, open_plain, pending_plain, markers_plain, closed_plain, renewed_plain, added_plain, appended_plain, started_plain, closed_pending, renewed_pending, added_pending, appended_pending, offset_pending, appended, offset, changed, unchanged}
+use Rattle.ks_cluster.proofs.Rows.{rows_with}
 
 -- ---- refused and accepted requests
 pub refused_moves : (b : Broker) (request : Request) (r : Refused) → ((setup : Setup) (s : State) → IsAt setup s b → refusal setup s request ≡ Some r)
@@ -54,450 +54,321 @@ accepted_moves old new request reply none replied goes wrote = record {
 }
 
 -- ---- the parts of a broker
--- what an index reads is the producer of the state
-pub producer_read : (setup : Setup) (s : State) (b : Broker) (w : ℕ) (p : Producer) → IsAt setup s b → w ≤ 16 → p ≡ get_or b.producers.items w p → p ≡ s.producer w
-producer_read setup s b w p k h read = read ∙ get_or-within b.producers.items w p new_producer (omega (arith, k.count)) ∙ k.producers_is w
+-- what is kept of a producer is what the state has
+pub producer_is : (setup : Setup) (s : State) (b : Broker) (w : ℕ) → IsAt setup s b → producer_at b.txns w ≡ plain (s.producer w)
+producer_is setup s b w k = k.producers_are w
 
--- with one producer in place of another
-pub producer_at : (setup : Setup) (s : State) (old new : Broker) (w : ℕ) (p : Producer) → IsAt setup s old → w ≤ 16
-    → new.log ≡ old.log → new.producers.items ≡ set old.producers.items w p → new.group ≡ old.group
-    → IsAt setup (record s { producer = with_number s.producer w p }) new
-producer_at setup s old new w p k h log producers group = record {
-  log_is = λ q. ap (slots_in q) log ∙ k.log_is q;
-  few = subst (λ (l : List Written). total l < 2 ^ 48) (sym log) k.few;
-  producers_is = λ v. ap (λ l. get_or l v new_producer) producers ∙ with_element s.producer old.producers.items w p new_producer (omega (arith, k.count)) k.producers_is v;
-  count = ap length producers ∙ length-set old.producers.items w p ∙ k.count;
-  group_is = subst (λ (g : Group). IsGroupAt setup (record s { producer = with_number s.producer w p }) g) (sym group) (record {
-    tasks_is = k.group_is.tasks_is;
-    generation_is = k.group_is.generation_is;
-    members_is = k.group_is.members_is;
-    assignment_is = k.group_is.assignment_is;
-    committed_is = k.group_is.committed_is;
-    late_is = k.group_is.late_is;
-    held_is = k.group_is.held_is;
-    held_count = k.group_is.held_count;
-    parked_is = k.group_is.parked_is;
-  });
+-- the group stays where other parts of the state change, and producers keep what is pending
+pub group_stays : (setup : Setup) (s : State) (g : GroupView) (partition : PartId → List Slot) (producer : ℕ → Producer) (parked : ℕ → TaskId → Bool) → IsGroupAt setup s g
+    → ((w : ℕ) → get_or g.pending w [] ≡ pending_at (producer w)) → IsGroupAt setup (record s { partition = partition; producer = producer; parked = parked }) g
+group_stays setup s g partition producer parked k pending = record {
+  tasks_is = k.tasks_is;
+  generation_is = k.generation_is;
+  members_is = k.members_is;
+  assignment_is = k.assignment_is;
+  offsets_are = k.offsets_are;
+  late_is = k.late_is;
+  held_is = k.held_is;
+  held_count = k.held_count;
+  pending_is = pending;
+  pending_count = k.pending_count;
+}
+
+-- with nothing pending of one producer
+none_pending : (setup : Setup) (s : State) (g : GroupView) (w : ℕ) (p : Producer) (offsets : List (TaskId × List (ℕ × ℕ))) (late : ℕ) (committed : TaskId → ℕ → ℕ) {total_late : ℕ} → w ≤ 16 → IsGroupAt setup s g
+    → [] ≡ pending_at p → offsets ≡ rows_at setup (record s { committed = committed }) → late ≡ total_late
+    → IsGroupAt setup (record s { producer = with_number s.producer w p; committed = committed; late = total_late }) (record g { pending = set g.pending w []; offsets = offsets; late = late })
+none_pending setup s g w p offsets late committed h k none rows lates = record {
+  tasks_is = k.tasks_is;
+  generation_is = k.generation_is;
+  members_is = k.members_is;
+  assignment_is = k.assignment_is;
+  offsets_are = rows;
+  late_is = lates;
+  held_is = k.held_is;
+  held_count = k.held_count;
+  pending_is = changed pending_at s.producer g.pending w p [] [] (omega (arith, k.pending_count)) k.pending_is none;
+  pending_count = length-set g.pending w [] ∙ k.pending_count;
 }
 
 -- ---- produce
 pub produced : (old new : Broker) (p : PartId) (rec : Rec) (n : ℕ) → new.log ≡ with_slots p (Plain rec ∷ []) old.log → total new.log < 2 ^ 48
-    → new.producers ≡ old.producers → new.group ≡ old.group → n ≡ length (slots_in p old.log) → Moves old new (Produce p rec) (Number n)
-produced old new p rec n log few producers group is = accepted_moves old new (Produce p rec) (Number n)
+    → new ≡ record old { log = new.log } → n ≡ length (slots_in p old.log) → Moves old new (Produce p rec) (Number n)
+produced old new p rec n log few same is = subst (λ (b : Broker). Moves old b (Produce p rec) (Number n)) (sym same) (accepted_moves old (record old { log = new.log }) (Produce p rec) (Number n)
     (λ setup s k. refl)
     (λ setup s k. ap Number (is ∙ ap length (k.log_is p)))
     (λ setup s k. record {
       log_is = λ q. ap (slots_in q) log ∙ all_grown s.partition old.log p (Plain rec ∷ []) k.log_is q;
       few = few;
-      producers_is = λ v. ap (λ l. get_or l.items v new_producer) producers ∙ k.producers_is v;
-      count = ap (λ l. length l.items) producers ∙ k.count;
-      group_is = subst (λ (g : Group). IsGroupAt setup (effect s (Produce p rec)) g) (sym group) (record {
-        tasks_is = k.group_is.tasks_is;
-        generation_is = k.group_is.generation_is;
-        members_is = k.group_is.members_is;
-        assignment_is = k.group_is.assignment_is;
-        committed_is = k.group_is.committed_is;
-        late_is = k.group_is.late_is;
-        held_is = k.group_is.held_is;
-        held_count = k.group_is.held_count;
-        parked_is = k.group_is.parked_is;
-      });
+      producers_are = k.producers_are;
+      count = k.count;
+      group_is = group_stays setup s old.group _ _ _ k.group_is k.group_is.pending_is;
+      parked_is = k.parked_is;
     })
-    (omega (arith, ap total log ∙ total-with p (Plain rec ∷ []) old.log))
+    (omega (arith, ap total log ∙ total-with p (Plain rec ∷ []) old.log)))
+
+-- ---- requests that change one producer
+-- the producers with one of them changed
+pub producers_changed : (setup : Setup) (s : State) (b : Broker) (txns : List Producer) (w : ℕ) (q p : Producer) → w ≤ 16 → IsAt setup s b → txns ≡ set b.txns w q → q ≡ plain p
+    → ((v : ℕ) → get_or txns v new_producer ≡ plain (with_number s.producer w p v)) × (length txns ≡ 17)
+producers_changed setup s b txns w q p h k is made = (
+  λ v. ap (λ l. get_or l v new_producer) is ∙ changed plain s.producer b.txns w p q new_producer (omega (arith, k.count)) k.producers_are made v,
+  ap length is ∙ length-set b.txns w q ∙ k.count,
+)
+
+pub added_moves : (old new : Broker) (w e : ℕ) (part : PartId) → w ≤ 16 → start_fault (producer_at old.txns w) e ≡ None
+    → new.txns ≡ set old.txns w (added (producer_at old.txns w) part) → new ≡ record old { txns = new.txns } → Moves old new (Add w e part) Done
+added_moves old new w e part h none txns same = subst (λ (b : Broker). Moves old b (Add w e part) Done) (sym same) (accepted_moves old (record old { txns = new.txns }) (Add w e part) Done
+    (λ setup s k. sym (ap (λ q. start_fault q e) (producer_is setup s old w k) ∙ start_plain (s.producer w) e) ∙ none)
+    (λ setup s k. refl)
+    (λ setup s k.
+    let p : Producer = added (s.producer w) part in
+    let all : ((v : ℕ) → get_or new.txns v new_producer ≡ plain (with_number s.producer w p v)) × (length new.txns ≡ 17) =
+    producers_changed setup s old new.txns w (added (producer_at old.txns w) part) p h k txns (ap (λ q. added q part) (producer_is setup s old w k) ∙ added_plain (s.producer w) part) in
+    record {
+      log_is = k.log_is;
+      few = k.few;
+      producers_are = all.0;
+      count = all.1;
+      group_is = group_stays setup s old.group _ _ _ k.group_is (unchanged pending_at s.producer old.group.pending w p [] k.group_is.pending_is (added_pending (s.producer w) part));
+      parked_is = k.parked_is;
+    })
+    (omega arith))
+
+pub add_refused : (b : Broker) (w e : ℕ) (part : PartId) (r : Refused) → start_fault (producer_at b.txns w) e ≡ Some r → Moves b b (Add w e part) (Refuse r)
+add_refused b w e part r is = refused_moves b (Add w e part) r (λ setup s k. sym (ap (λ q. start_fault q e) (producer_is setup s b w k) ∙ start_plain (s.producer w) e) ∙ is) refl
 
 -- ---- init
-closed_none : (p : Producer) → (closed p false).undecided ≡ None
-closed_none p = by_tx p.undecided refl
-  where
-    by_tx : (u : Option Transaction) → p.undecided ≡ u → (elim u as (λ _. Producer) [ None ↦ p | Some tx ↦ record p { undecided = None; waiting = p.waiting ++ markers_for p.epoch false tx.parts; last = Some false } ]).undecided ≡ None
-    by_tx None is = is
-    by_tx (Some tx) is = refl
-
-pub renewed-is : (p : Producer) (waiting : List Marker) → waiting ≡ (closed p false).waiting → record { epoch = p.epoch + 1; undecided = None; last = None; waiting = waiting } ≡ renewed p
-renewed-is p waiting is = λ i. record { epoch = p.epoch + 1; undecided = sym (closed_none p) i; last = None; waiting = is i }
-
-pub renewed_moves : (old new : Broker) (w : ℕ) (p q : Producer) (waiting : List Marker) → w ≤ 16
-    → p ≡ get_or old.producers.items w p → waiting ≡ (closed p false).waiting
-    → q ≡ record { epoch = p.epoch + 1; undecided = None; last = None; waiting = waiting }
-    → new.log ≡ old.log → new.producers.items ≡ set old.producers.items w q → new.group ≡ old.group
-    → Moves old new (Init w) (Number (p.epoch + 1))
-renewed_moves old new w p q waiting h read waits made log producers group = accepted_moves old new (Init w) (Number (p.epoch + 1))
+pub renewed_moves : (old new : Broker) (w n : ℕ) → w ≤ 16 → n ≡ (producer_at old.txns w).epoch + 1 → new.txns ≡ set old.txns w (renewed (producer_at old.txns w)) → new.group ≡ resolved old.group w false
+    → new ≡ record old { txns = new.txns; group = new.group } → Moves old new (Init w) (Number n)
+renewed_moves old new w n h next txns group same = subst (λ (b : Broker). Moves old b (Init w) (Number n)) (sym same) (accepted_moves old (record old { txns = new.txns; group = new.group }) (Init w) (Number n)
     (λ setup s k. refl)
-    (λ setup s k. ap (λ (r : Producer). Number (r.epoch + 1)) (producer_read setup s old w p k h read))
-    (λ setup s k. subst (λ (r : Producer). IsAt setup (record s { producer = with_number s.producer w r }) new)
-    (made ∙ renewed-is p waiting waits ∙ ap renewed (producer_read setup s old w p k h read))
-    (producer_at setup s old new w q k h log producers group))
-    (omega (arith, ap total log))
-
--- ---- requests that change one producer, or are refused by it
-pub add_refused : (setup : Setup) (s : State) (b : Broker) (w e : ℕ) (part : PartId) (p : Producer) (r : Option Refused) → IsAt setup s b → w ≤ 16
-    → p ≡ get_or b.producers.items w p → r ≡ or_else (fenced p e) (markers_waiting p) → refusal setup s (Add w e part) ≡ r
-add_refused setup s b w e part p r k h read told = ap (λ (q : Producer). or_else (fenced q e) (markers_waiting q)) (sym (producer_read setup s b w p k h read)) ∙ sym told
-
-pub added_moves : (old new : Broker) (w e : ℕ) (part : PartId) (p p' q : Producer) (parts : List PartId) → w ≤ 16
-    → p ≡ get_or old.producers.items w p → p' ≡ get_or old.producers.items w p' → None ≡ or_else (fenced p e) (markers_waiting p)
-    → parts ≡ insert_part part (tx_of p).parts → q ≡ record p' { undecided = Some (record (tx_of p') { parts = parts }) }
-    → new.log ≡ old.log → new.producers.items ≡ set old.producers.items w q → new.group ≡ old.group
-    → Moves old new (Add w e part) Done
-added_moves old new w e part p p' q parts h read read' none with_part made log producers group = accepted_moves old new (Add w e part) Done
-    (λ setup s k. add_refused setup s old w e part p None k h read none)
-    (λ setup s k. refl)
+    (λ setup s k. ap Number (next ∙ ap (λ (q : Producer). q.epoch + 1) (producer_is setup s old w k)))
     (λ setup s k.
-    let is : p ≡ s.producer w = producer_read setup s old w p k h read in
-    let is' : p' ≡ s.producer w = producer_read setup s old w p' k h read' in
-    subst (λ (r : Producer). IsAt setup (record s { producer = with_number s.producer w r }) new)
-    (made ∙ ap (λ (r : Producer). record r { undecided = Some (record (tx_of r) { parts = parts }) }) is'
-    ∙ ap (λ (l : List PartId). record (s.producer w) { undecided = Some (record (tx_of (s.producer w)) { parts = l }) }) (with_part ∙ ap (λ (r : Producer). insert_part part (tx_of r).parts) is))
-    (producer_at setup s old new w q k h log producers group))
-    (omega (arith, ap total log))
+    let p : Producer = renewed (s.producer w) in
+    let all : ((v : ℕ) → get_or new.txns v new_producer ≡ plain (with_number s.producer w p v)) × (length new.txns ≡ 17) =
+    producers_changed setup s old new.txns w (renewed (producer_at old.txns w)) p h k txns (ap renewed (producer_is setup s old w k) ∙ renewed_plain (s.producer w)) in
+    record {
+      log_is = k.log_is;
+      few = k.few;
+      producers_are = all.0;
+      count = all.1;
+      group_is = subst (λ (g : GroupView). IsGroupAt setup (effect s (Init w)) g) (sym group)
+          (none_pending setup s old.group w p old.group.offsets old.group.late s.committed h k.group_is (renewed_pending (s.producer w)) k.group_is.offsets_are k.group_is.late_is);
+      parked_is = k.parked_is;
+    })
+    (omega arith))
 
 -- ---- append
-pub append_refused : (setup : Setup) (s : State) (b : Broker) (w e number : ℕ) (t : TaskId) (part : PartId) (recs : List Rec) (p : Producer) (n : ℕ) (r : Option Refused) → IsAt setup s b → w ≤ 16
-    → p ≡ get_or b.producers.items w p → n ≡ count_sent w e (slots_in part b.log) → r ≡ or_else (fenced p e) (or_else (without_part p part) (sequence_fault n number))
-    → refusal setup s (Append w e number t part recs) ≡ r
-append_refused setup s b w e number t part recs p n r k h read count told =
-    ap (λ (l : List Slot). or_else (fenced (s.producer w) e) (or_else (without_part (s.producer w) part) (sequence_fault (count_sent w e l) number))) (sym (k.log_is part))
-    ∙ ap (λ (m : ℕ). or_else (fenced (s.producer w) e) (or_else (without_part (s.producer w) part) (sequence_fault m number))) (sym count)
-    ∙ ap (λ (q : Producer). or_else (fenced q e) (or_else (without_part q part) (sequence_fault n number))) (sym (producer_read setup s b w p k h read))
-    ∙ sym told
+abbrev pub append_fault : Broker → ℕ → ℕ → ℕ → PartId → ℕ → Option Refused
+append_fault b w e number part count = or_else (has_fault (producer_at b.txns w) e part) (if number == count then None else Some (OutOfSequence count))
 
-pub appended_moves : (old new : Broker) (w e number : ℕ) (t : TaskId) (part : PartId) (recs : List Rec) (p p' q : Producer) (tasks : List TaskId) (n first : ℕ) → w ≤ 16
-    → p ≡ get_or old.producers.items w p → p' ≡ get_or old.producers.items w p' → n ≡ count_sent w e (slots_in part old.log)
-    → None ≡ or_else (fenced p e) (or_else (without_part p part) (sequence_fault n number))
-    → tasks ≡ (tx_of p).tasks ++ t ∷ [] → q ≡ record p' { undecided = Some (record (tx_of p') { tasks = tasks }) }
-    → first ≡ length (slots_in part old.log)
+or_else-assoc : (a b c : Option Refused) → or_else (or_else a b) c ≡ or_else a (or_else b c)
+or_else-assoc None b c = refl
+or_else-assoc (Some r) b c = refl
+
+append_is : (setup : Setup) (s : State) (b : Broker) (w e number : ℕ) (t : TaskId) (part : PartId) (recs : List Rec) (n : ℕ) → IsAt setup s b → n ≡ count_sent w e (slots_in part b.log)
+    → refusal setup s (Append w e number t part recs) ≡ append_fault b w e number part n
+append_is setup s b w e number t part recs n k count =
+    sym (or_else-assoc (fenced (s.producer w) e) (without_part (s.producer w) part) (out_of_sequence (s.partition part) w e number))
+    ∙ ap (λ o. or_else o (out_of_sequence (s.partition part) w e number)) (sym (ap (λ q. has_fault q e part) (producer_is setup s b w k) ∙ has_plain (s.producer w) e part))
+    ∙ ap (λ (m : ℕ). or_else (has_fault (producer_at b.txns w) e part) (if number == m then None else Some (OutOfSequence m))) (ap (count_sent w e) (sym (k.log_is part)) ∙ sym count)
+
+pub append_refused : (b : Broker) (w e number : ℕ) (t : TaskId) (part : PartId) (recs : List Rec) (n : ℕ) (r : Refused) → n ≡ count_sent w e (slots_in part b.log)
+    → append_fault b w e number part n ≡ Some r → Moves b b (Append w e number t part recs) (Refuse r)
+append_refused b w e number t part recs n r count is = refused_moves b (Append w e number t part recs) r (λ setup s k. append_is setup s b w e number t part recs n k count ∙ is) refl
+
+pub appended_moves : (old new : Broker) (w e number : ℕ) (t : TaskId) (part : PartId) (recs : List Rec) (n first : ℕ) → w ≤ 16
+    → n ≡ count_sent w e (slots_in part old.log) → has_fault (producer_at old.txns w) e part ≡ None → number ≡ n → first ≡ length (slots_in part old.log)
     → new.log ≡ with_slots part (sent_slots w e number t recs) old.log → total new.log < 2 ^ 48
-    → new.producers.items ≡ set old.producers.items w q → new.group ≡ old.group
-    → Moves old new (Append w e number t part recs) (Number first)
-appended_moves old new w e number t part recs p p' q tasks n first h read read' count none with_task made first_is log few producers group = accepted_moves old new (Append w e number t part recs) (Number first)
-    (λ setup s k. append_refused setup s old w e number t part recs p n None k h read count none)
+    → new ≡ record old { log = new.log } → Moves old new (Append w e number t part recs) (Number first)
+appended_moves old new w e number t part recs n first h count has next first_is log few same = subst (λ (b : Broker). Moves old b (Append w e number t part recs) (Number first)) (sym same)
+    (accepted_moves old (record old { log = new.log }) (Append w e number t part recs) (Number first)
+    (λ setup s k. append_is setup s old w e number t part recs n k count ∙ none)
     (λ setup s k. ap Number (first_is ∙ ap length (k.log_is part)))
     (λ setup s k.
-    let is : p ≡ s.producer w = producer_read setup s old w p k h read in
-    let is' : p' ≡ s.producer w = producer_read setup s old w p' k h read' in
-    let made' : q ≡ record (s.producer w) { undecided = Some (record (tx_of (s.producer w)) { tasks = (tx_of (s.producer w)).tasks ++ t ∷ [] }) } =
-    made ∙ ap (λ (r : Producer). record r { undecided = Some (record (tx_of r) { tasks = tasks }) }) is'
-    ∙ ap (λ (l : List TaskId). record (s.producer w) { undecided = Some (record (tx_of (s.producer w)) { tasks = l }) }) (with_task ∙ ap (λ (r : Producer). (tx_of r).tasks ++ t ∷ []) is) in
+    let p : Producer = appended (s.producer w) t in
+    let had : has_fault (s.producer w) e part ≡ None = sym (ap (λ q. has_fault q e part) (producer_is setup s old w k) ∙ has_plain (s.producer w) e part) ∙ has in
     record {
       log_is = λ q. ap (slots_in q) log ∙ all_grown s.partition old.log part (sent_slots w e number t recs) k.log_is q;
       few = few;
-      producers_is = λ v. ap (λ l. get_or l v new_producer) producers ∙ with_element s.producer old.producers.items w q new_producer (omega (arith, k.count)) k.producers_is v
-          ∙ ap (λ r. with_number s.producer w r v) made';
-      count = ap length producers ∙ length-set old.producers.items w q ∙ k.count;
-      group_is = subst (λ (g : Group). IsGroupAt setup (effect s (Append w e number t part recs)) g) (sym group) (record {
-        tasks_is = k.group_is.tasks_is;
-        generation_is = k.group_is.generation_is;
-        members_is = k.group_is.members_is;
-        assignment_is = k.group_is.assignment_is;
-        committed_is = k.group_is.committed_is;
-        late_is = k.group_is.late_is;
-        held_is = k.group_is.held_is;
-        held_count = k.group_is.held_count;
-        parked_is = k.group_is.parked_is;
-      });
+      producers_are = unchanged plain s.producer old.txns w p new_producer k.producers_are (appended_plain (s.producer w) t e part had);
+      count = k.count;
+      group_is = group_stays setup s old.group _ _ _ k.group_is (unchanged pending_at s.producer old.group.pending w p [] k.group_is.pending_is (appended_pending (s.producer w) t));
+      parked_is = k.parked_is;
     })
-    (omega (arith, ap total log ∙ total-with part (sent_slots w e number t recs) old.log ∙ ap (λ m. total old.log + m) (length-sent w e number t recs)))
+    (omega (arith, ap total log ∙ total-with part (sent_slots w e number t recs) old.log ∙ ap (λ m. total old.log + m) (length-sent w e number t recs))))
+  where
+    none : append_fault old w e number part n ≡ None
+    none = ap (λ o. or_else o (if number == n then None else Some (OutOfSequence n))) has ∙ ap (λ c. cond c None (Some (OutOfSequence n))) (eq-eqb number n next)
 
 -- ---- send_offsets
-counted : (b : Bool) (c : Bool) (v : ℕ) (x y y' : Option Refused) → b ≡ c → y ≡ y' → cond b x y ≡ cond c x y'
-counted b c v x y y' same rest = ap (λ d. cond d x y) same ∙ ap (λ z. cond c x z) rest
-
-shifted : (v i : ℕ) → v + suc i ≡ (v + 1) + i
-shifted v i = omega arith
-
-pub unstable-is : (s : State) (t : TaskId) (counts : ℕ → Bool) (v : ℕ) (ps : List Producer) → ((i : ℕ) → i < length ps → get_or ps i new_producer ≡ s.producer (v + i))
-    → unstable_in t counts v ps ≡ unstable_from s t counts v (length ps)
+unstable-is : (s : State) (t : TaskId) (counts : ℕ → Bool) (v : ℕ) (all : List (List Pending)) → ((i : ℕ) → i < length all → get_or all i [] ≡ pending_at (s.producer (v + i)))
+    → unstable_in t counts v all ≡ unstable_from s t counts v (length all)
 unstable-is s t counts v [] is = refl
-unstable-is s t counts v (p ∷ ps) is =
-    let here : p ≡ s.producer v = is 0 (omega arith) ∙ ap s.producer (omega arith) in
-    let rest : unstable_in t counts (v + 1) ps ≡ unstable_from s t counts (v + 1) (length ps) =
-    unstable-is s t counts (v + 1) ps (λ i h. is (suc i) (omega arith) ∙ ap s.producer (shifted v i)) in
-    counted _ _ v _ _ _ (ap (λ (q : Producer). counts v && has_pending q t) here) rest
+unstable-is s t counts v (pending ∷ more) is =
+    ap (λ b. cond (counts v && b) (Some (Unstable v)) (unstable_in t counts (v + 1) more)) (ap (is_pending t) (is 0 (omega arith) ∙ ap (λ n. pending_at (s.producer n)) (omega arith)) ∙ pending_plain (s.producer v) t)
+    ∙ ap (λ o. cond (counts v && has_pending (s.producer v) t) (Some (Unstable v)) o) (unstable-is s t counts (v + 1) more (λ i h. is (suc i) (omega arith) ∙ ap (λ n. pending_at (s.producer n)) (omega arith)))
 
-pub send_refused : (setup : Setup) (s : State) (b : Broker) (w e g : ℕ) (t : TaskId) (offsets order : List (ℕ × ℕ)) (late : ℕ) (r : Option Refused) → IsAt setup s b
-    → r ≡ sending_fault b w e g t → refusal setup s (SendOffsets w e g t offsets order late) ≡ r
-send_refused setup s b w e g t offsets order late r k told =
-    ap (λ (u : Option Refused). or_else (fenced (s.producer w) e) (or_else (generation_fault s.generation g) (or_else (owner_fault (owner_at s.assignment s.members t) w) (or_else (markers_waiting (s.producer w)) u))))
-    (sym (unstable-is s t (counts_for (Some w)) 0 b.producers.items (λ i h. k.producers_is i ∙ ap s.producer (omega arith)) ∙ ap (unstable_from s t (counts_for (Some w)) 0) k.count))
-    ∙ ap (λ (q : Producer). or_else (fenced q e) (or_else (generation_fault s.generation g) (or_else (owner_fault (owner_at s.assignment s.members t) w) (or_else (markers_waiting q) (unstable_in t (counts_for (Some w)) 0 b.producers.items))))) (sym (k.producers_is w))
-    ∙ ap (λ (n : ℕ). or_else (fenced (get_or b.producers.items w new_producer) e) (or_else (generation_fault n g) (or_else (owner_fault (owner_at s.assignment s.members t) w) (or_else (markers_waiting (get_or b.producers.items w new_producer)) (unstable_in t (counts_for (Some w)) 0 b.producers.items))))) (sym k.group_is.generation_is)
-    ∙ ap (λ (a : Option Assignment). or_else (fenced (get_or b.producers.items w new_producer) e) (or_else (generation_fault b.group.generation g) (or_else (owner_fault (owner_at a s.members t) w) (or_else (markers_waiting (get_or b.producers.items w new_producer)) (unstable_in t (counts_for (Some w)) 0 b.producers.items))))) (sym k.group_is.assignment_is)
-    ∙ ap (λ (m : List ℕ). or_else (fenced (get_or b.producers.items w new_producer) e) (or_else (generation_fault b.group.generation g) (or_else (owner_fault (owner_at b.group.assignment m t) w) (or_else (markers_waiting (get_or b.producers.items w new_producer)) (unstable_in t (counts_for (Some w)) 0 b.producers.items))))) (sym k.group_is.members_is)
-    ∙ sym told
+pub unstable_all : (setup : Setup) (s : State) (g : GroupView) (t : TaskId) (counts : ℕ → Bool) → IsGroupAt setup s g → unstable_in t counts 0 g.pending ≡ unstable_from s t counts 0 17
+unstable_all setup s g t counts k =
+    unstable-is s t counts 0 g.pending (λ i h. k.pending_is i ∙ ap (λ n. pending_at (s.producer n)) (omega arith)) ∙ ap (unstable_from s t counts 0) k.pending_count
 
-pub offsets_moves : (old new : Broker) (w e g : ℕ) (pend : Pending) (p p' q : Producer) (pending : List Pending) → w ≤ 16
-    → p ≡ get_or old.producers.items w p → p' ≡ get_or old.producers.items w p' → None ≡ sending_fault old w e g pend.task
-    → pending ≡ with_pending pend (tx_of p).pending → q ≡ record p' { undecided = Some (record (tx_of p') { pending = pending }) }
-    → new.log ≡ old.log → new.producers.items ≡ set old.producers.items w q → new.group ≡ old.group
-    → Moves old new (SendOffsets w e g pend.task pend.offsets pend.order pend.late) Done
-offsets_moves old new w e g pend p p' q pending h read read' none with_new made log producers group = accepted_moves old new (SendOffsets w e g pend.task pend.offsets pend.order pend.late) Done
-    (λ setup s k. send_refused setup s old w e g pend.task pend.offsets pend.order pend.late None k none)
+pub speak_is : (setup : Setup) (s : State) (g : GroupView) (w generation : ℕ) (t : TaskId) → IsGroupAt setup s g → speak_fault g w generation t ≡ or_else (old_generation s generation) (not_assigned s w t)
+speak_is setup s g w generation t k =
+    ap (λ (n : ℕ). or_else (generation_fault n generation) (owner_fault (owner_at g.assignment g.members t) w)) k.generation_is
+    ∙ ap (λ (a : Option Assignment). or_else (old_generation s generation) (owner_fault (owner_at a g.members t) w)) k.assignment_is
+    ∙ ap (λ (ms : List ℕ). or_else (old_generation s generation) (owner_fault (owner_at s.assignment ms t) w)) k.members_is
+
+sending_is : (setup : Setup) (s : State) (b : Broker) (w e g : ℕ) (t : TaskId) (offsets order : List (ℕ × ℕ)) (late : ℕ) → IsAt setup s b
+    → refusal setup s (SendOffsets w e g t offsets order late) ≡ sending_fault b w e g t
+sending_is setup s b w e g t offsets order late k =
+    ap (or_else (fenced (s.producer w) e)) (sym (or_else-assoc (old_generation s g) (not_assigned s w t) (or_else (markers_waiting (s.producer w)) (unstable_beside s w t)))
+    ∙ ap (λ o. or_else o (or_else (markers_waiting (s.producer w)) (unstable_beside s w t))) (sym (speak_is setup s b.group w g t k.group_is))
+    ∙ ap (λ o. or_else (speak_fault b.group w g t) (or_else o (unstable_beside s w t))) (sym (ap markers_waiting (producer_is setup s b w k) ∙ markers_plain (s.producer w)))
+    ∙ ap (λ o. or_else (speak_fault b.group w g t) (or_else (markers_waiting (producer_at b.txns w)) o)) (sym (unstable_all setup s b.group t (counts_for (Some w)) k.group_is)))
+    ∙ ap (λ (q : Producer). or_else (fenced q e) (or_else (speak_fault b.group w g t) (or_else (markers_waiting (producer_at b.txns w)) (unstable_in t (counts_for (Some w)) 0 b.group.pending)))) (sym (producer_is setup s b w k))
+
+pub send_refused : (b : Broker) (w e g : ℕ) (t : TaskId) (offsets order : List (ℕ × ℕ)) (late : ℕ) (r : Refused) → sending_fault b w e g t ≡ Some r → Moves b b (SendOffsets w e g t offsets order late) (Refuse r)
+send_refused b w e g t offsets order late r is = refused_moves b (SendOffsets w e g t offsets order late) r (λ setup s k. sending_is setup s b w e g t offsets order late k ∙ is) refl
+
+pub offsets_moves : (old new : Broker) (w e g : ℕ) (more : Pending) → w ≤ 16 → sending_fault old w e g more.task ≡ None
+    → new.txns ≡ set old.txns w (started (producer_at old.txns w)) → new.group ≡ pended old.group w more
+    → new ≡ record old { txns = new.txns; group = new.group } → Moves old new (SendOffsets w e g more.task more.offsets more.order more.late) Done
+offsets_moves old new w e g more h none txns group same = subst (λ (b : Broker). Moves old b (SendOffsets w e g more.task more.offsets more.order more.late) Done) (sym same)
+    (accepted_moves old (record old { txns = new.txns; group = new.group }) (SendOffsets w e g more.task more.offsets more.order more.late) Done
+    (λ setup s k. sending_is setup s old w e g more.task more.offsets more.order more.late k ∙ none)
     (λ setup s k. refl)
     (λ setup s k.
-    let is : p ≡ s.producer w = producer_read setup s old w p k h read in
-    let is' : p' ≡ s.producer w = producer_read setup s old w p' k h read' in
-    subst (λ (r : Producer). IsAt setup (record s { producer = with_number s.producer w r }) new)
-    (made ∙ ap (λ (r : Producer). record r { undecided = Some (record (tx_of r) { pending = pending }) }) is'
-    ∙ ap (λ (l : List Pending). record (s.producer w) { undecided = Some (record (tx_of (s.producer w)) { pending = l }) }) (with_new ∙ ap (λ (r : Producer). with_pending pend (tx_of r).pending) is))
-    (producer_at setup s old new w q k h log producers group))
-    (omega (arith, ap total log))
-
--- ---- decide
-pub decide_refused : (setup : Setup) (s : State) (b : Broker) (w e : ℕ) (commit : Bool) (p : Producer) (r : Option Refused) → IsAt setup s b → w ≤ 16
-    → p ≡ get_or b.producers.items w p → r ≡ or_else (fenced p e) (none_undecided p) → refusal setup s (Decide w e commit) ≡ r
-decide_refused setup s b w e commit p r k h read told = ap (λ (q : Producer). or_else (fenced q e) (none_undecided q)) (sym (producer_read setup s b w p k h read)) ∙ sym told
-
--- a producer whose decision isn't refused has something undecided
-none_left : (p : Producer) (e : ℕ) → None ≡ or_else (fenced p e) (none_undecided p) → (tx : Transaction) × (p.undecided ≡ Some tx)
-none_left p e none = by_fence (fenced p e) none
-  where
-    by_last : (l : Option Bool) → None ≡ (elim l as (λ _. Option Refused) [ None ↦ Some NoTransaction | Some commit ↦ Some (AlreadyDecided commit) ]) → ⊥
-    by_last None h = absurd (cc)
-    by_last (Some commit) h = absurd (cc)
-
-    by_tx : (u : Option Transaction) → p.undecided ≡ u → None ≡ (elim u as (λ _. Option Refused) [ Some tx ↦ None | None ↦ elim p.last [ None ↦ Some NoTransaction | Some commit ↦ Some (AlreadyDecided commit) ] ]) → (tx : Transaction) × (p.undecided ≡ Some tx)
-    by_tx None is h = absurd (by_last p.last h)
-    by_tx (Some tx) is h = (tx, is)
-
-    by_fence : (f : Option Refused) → None ≡ or_else f (none_undecided p) → (tx : Transaction) × (p.undecided ≡ Some tx)
-    by_fence None h = by_tx p.undecided refl h
-    by_fence (Some r) h = absurd (cc)
-
-closed-some : (p : Producer) (commit : Bool) (tx : Transaction) → p.undecided ≡ Some tx → closed p commit ≡ record p { undecided = None; waiting = p.waiting ++ markers_for p.epoch commit tx.parts; last = Some commit }
-closed-some p commit tx h =
-    ap (λ (u : Option Transaction). elim u as (λ _. Producer) [
-      | None ↦ p
-      | Some t ↦ record p { undecided = None; waiting = p.waiting ++ markers_for p.epoch commit t.parts; last = Some commit }
-    ]) h
-
-closed-is : (p q : Producer) (e : ℕ) (commit : Bool) (waiting : List Marker) → None ≡ or_else (fenced p e) (none_undecided p) → waiting ≡ (closed p commit).waiting
-    → q ≡ record p { undecided = None; waiting = waiting; last = Some commit } → q ≡ closed p commit
-closed-is p q e commit waiting none waits made =
-    let some = none_left p e none in
-    made ∙ ap (λ (l : List Marker). record p { undecided = None; waiting = l; last = Some commit }) (waits ∙ ap (λ (c : Producer). c.waiting) (closed-some p commit some.0 some.1))
-    ∙ sym (closed-some p commit some.0 some.1)
-
--- the decided producer in place of the old one
-closed_at : (setup : Setup) (s : State) (old : Broker) (w e : ℕ) (commit : Bool) (p p' q : Producer) (waiting : List Marker) → IsAt setup s old → w ≤ 16
-    → p ≡ get_or old.producers.items w p → p' ≡ get_or old.producers.items w p' → None ≡ or_else (fenced p e) (none_undecided p)
-    → waiting ≡ (closed p commit).waiting → q ≡ record p' { undecided = None; waiting = waiting; last = Some commit }
-    → q ≡ closed (s.producer w) commit
-closed_at setup s old w e commit p p' q waiting k h read read' none waits made =
-    let is : p ≡ s.producer w = producer_read setup s old w p k h read in
-    let is' : p' ≡ s.producer w = producer_read setup s old w p' k h read' in
-    closed-is p q e commit waiting none waits (made ∙ ap (λ (r : Producer). record r { undecided = None; waiting = waiting; last = Some commit }) (is' ∙ sym is))
-    ∙ ap (λ (r : Producer). closed r commit) is
-
-pub aborted_moves : (old new : Broker) (w e : ℕ) (p p' q : Producer) (waiting : List Marker) → w ≤ 16
-    → p ≡ get_or old.producers.items w p → p' ≡ get_or old.producers.items w p' → None ≡ or_else (fenced p e) (none_undecided p)
-    → waiting ≡ (closed p false).waiting → q ≡ record p' { undecided = None; waiting = waiting; last = Some false }
-    → new.log ≡ old.log → new.producers.items ≡ set old.producers.items w q → new.group ≡ old.group
-    → Moves old new (Decide w e false) Done
-aborted_moves old new w e p p' q waiting h read read' none waits made log producers group = accepted_moves old new (Decide w e false) Done
-    (λ setup s k. decide_refused setup s old w e false p None k h read none)
-    (λ setup s k. refl)
-    (λ setup s k. subst (λ (r : Producer). IsAt setup (record s { producer = with_number s.producer w r }) new)
-    (closed_at setup s old w e false p p' q waiting k h read read' none waits made)
-    (producer_at setup s old new w q k h log producers group))
-    (omega (arith, ap total log))
-
-pub committed_moves : (old new : Broker) (w e : ℕ) (p p' q : Producer) (waiting : List Marker) (pending : List Pending) → w ≤ 16
-    → p ≡ get_or old.producers.items w p → p' ≡ get_or old.producers.items w p' → None ≡ or_else (fenced p e) (none_undecided p)
-    → waiting ≡ (closed p true).waiting → q ≡ record p' { undecided = None; waiting = waiting; last = Some true } → pending ≡ pending_at p
-    → new.log ≡ old.log → new.producers.items ≡ set old.producers.items w q
-    → new.group.tasks.items ≡ old.group.tasks.items → new.group.generation ≡ old.group.generation → new.group.members ≡ old.group.members → new.group.assignment ≡ old.group.assignment → new.group.held.items ≡ old.group.held.items → new.group.parked ≡ old.group.parked
-    → new.group.commits ≡ old.group.commits ++ pending ∷ [] → new.group.late ≡ with_late old.group.late pending
-    → Moves old new (Decide w e true) Done
-committed_moves old new w e p p' q waiting pending h read read' none waits made pends log producers tasks generation members assignment held parked commits late = accepted_moves old new (Decide w e true) Done
-    (λ setup s k. decide_refused setup s old w e true p None k h read none)
-    (λ setup s k. refl)
-    (λ setup s k.
-    let pends' : pending ≡ pending_at (s.producer w) = pends ∙ ap pending_at (producer_read setup s old w p k h read) in
+    let p : Producer = offset (s.producer w) more in
+    let all : ((v : ℕ) → get_or new.txns v new_producer ≡ plain (with_number s.producer w p v)) × (length new.txns ≡ 17) =
+    producers_changed setup s old new.txns w (started (producer_at old.txns w)) p h k txns (ap started (producer_is setup s old w k) ∙ started_plain (s.producer w) more) in
     record {
-      log_is = λ v. ap (slots_in v) log ∙ k.log_is v;
-      few = subst (λ (l : List Written). total l < 2 ^ 48) (sym log) k.few;
-      producers_is = λ v. ap (λ l. get_or l v new_producer) producers ∙ with_element s.producer old.producers.items w q new_producer (omega (arith, k.count)) k.producers_is v
-          ∙ ap (λ r. with_number s.producer w r v) (closed_at setup s old w e true p p' q waiting k h read read' none waits made);
-      count = ap length producers ∙ length-set old.producers.items w q ∙ k.count;
-      group_is = record {
-        tasks_is = tasks ∙ k.group_is.tasks_is;
-        generation_is = generation ∙ k.group_is.generation_is;
-        members_is = members ∙ k.group_is.members_is;
-        assignment_is = assignment ∙ k.group_is.assignment_is;
-        committed_is = λ t topic. ap (λ l. offset_after 0 l t topic) commits ∙ offset_after-more 0 old.group.commits pending t topic
-            ∙ ap (λ n. offset_with n pending t topic) (k.group_is.committed_is t topic) ∙ ap (λ l. offset_with (s.committed t topic) l t topic) pends';
-        late_is = late ∙ ap (λ n. with_late n pending) k.group_is.late_is ∙ ap (with_late s.late) pends';
-        held_is = λ v. ap (λ l. get_or l v []) held ∙ k.group_is.held_is v;
-        held_count = ap length held ∙ k.group_is.held_count;
-        parked_is = λ i t. ap (is_parked_in i t) parked ∙ k.group_is.parked_is i t;
-      };
-    })
-    (omega (arith, ap total log))
-
--- ---- mark_next
-pub unmarked_moves : (b : Broker) (w : ℕ) (p : Producer) → w ≤ 16 → p ≡ get_or b.producers.items w p → p.waiting ≡ [] → Moves b b (MarkNext w) (Marked None)
-unmarked_moves b w p h read none = accepted_moves b b (MarkNext w) (Marked None)
-    (λ setup s k. refl)
-    (λ setup s k. sym (ap (λ (ms : List Marker). elim ms as (λ _. Reply) [ [] ↦ Marked None | m ∷ rest ↦ Marked (Some (m.part, m.commit)) ]) (waits setup s k)))
-    (λ setup s k. subst (λ (t : State). IsAt setup t b)
-    (sym (ap (λ (ms : List Marker). elim ms as (λ _. State) [
-      | [] ↦ s
-      | m ∷ rest ↦ record s {
-        partition = grown s.partition m.part (Mark w m.epoch m.commit ∷ []);
-        producer = with_number s.producer w (record (s.producer w) { waiting = rest });
-      }
-    ]) (waits setup s k))) k)
-    (omega arith)
-  where
-    waits : (setup : Setup) (s : State) → IsAt setup s b → (s.producer w).waiting ≡ []
-    waits setup s k = ap (λ (q : Producer). q.waiting) (sym (producer_read setup s b w p k h read)) ∙ none
-
-pub marked_moves : (old new : Broker) (w : ℕ) (p p' q : Producer) (m : Marker) (rest : List Marker) → w ≤ 16
-    → p ≡ get_or old.producers.items w p → p' ≡ get_or old.producers.items w p' → p.waiting ≡ m ∷ rest
-    → q ≡ record p' { waiting = rest }
-    → new.log ≡ with_slots m.part (Mark w m.epoch m.commit ∷ []) old.log → total new.log < 2 ^ 48
-    → new.producers.items ≡ set old.producers.items w q → new.group ≡ old.group
-    → Moves old new (MarkNext w) (Marked (Some (m.part, m.commit)))
-marked_moves old new w p p' q m rest h read read' some made log few producers group = accepted_moves old new (MarkNext w) (Marked (Some (m.part, m.commit)))
-    (λ setup s k. refl)
-    (λ setup s k. sym (ap (λ (ms : List Marker). elim ms as (λ _. Reply) [ [] ↦ Marked None | x ∷ xs ↦ Marked (Some (x.part, x.commit)) ]) (waits setup s k)))
-    (λ setup s k. subst (λ (t : State). IsAt setup t new)
-    (sym (ap (λ (ms : List Marker). elim ms as (λ _. State) [
-      | [] ↦ s
-      | x ∷ xs ↦ record s {
-        partition = grown s.partition x.part (Mark w x.epoch x.commit ∷ []);
-        producer = with_number s.producer w (record (s.producer w) { waiting = xs });
-      }
-    ]) (waits setup s k)))
-    (record {
-      log_is = λ v. ap (slots_in v) log ∙ all_grown s.partition old.log m.part (Mark w m.epoch m.commit ∷ []) k.log_is v;
-      few = few;
-      producers_is = λ v. ap (λ l. get_or l v new_producer) producers ∙ with_element s.producer old.producers.items w q new_producer (omega (arith, k.count)) k.producers_is v
-          ∙ ap (λ r. with_number s.producer w r v) (made ∙ ap (λ (r : Producer). record r { waiting = rest }) (producer_read setup s old w p' k h read'));
-      count = ap length producers ∙ length-set old.producers.items w q ∙ k.count;
-      group_is = subst (λ (g : Group). IsGroupAt setup (record s { partition = grown s.partition m.part (Mark w m.epoch m.commit ∷ []); producer = with_number s.producer w (record (s.producer w) { waiting = rest }) }) g) (sym group) (record {
+      log_is = k.log_is;
+      few = k.few;
+      producers_are = all.0;
+      count = all.1;
+      group_is = subst (λ (v : GroupView). IsGroupAt setup (record s { producer = with_number s.producer w p }) v) (sym group) (record {
         tasks_is = k.group_is.tasks_is;
         generation_is = k.group_is.generation_is;
         members_is = k.group_is.members_is;
         assignment_is = k.group_is.assignment_is;
-        committed_is = k.group_is.committed_is;
+        offsets_are = k.group_is.offsets_are;
         late_is = k.group_is.late_is;
         held_is = k.group_is.held_is;
         held_count = k.group_is.held_count;
-        parked_is = k.group_is.parked_is;
+        pending_is = changed pending_at s.producer old.group.pending w p (with_pending more (get_or old.group.pending w [])) [] (omega (arith, k.group_is.pending_count)) k.group_is.pending_is
+            (ap (with_pending more) (k.group_is.pending_is w) ∙ offset_pending (s.producer w) more);
+        pending_count = length-set old.group.pending w (with_pending more (get_or old.group.pending w [])) ∙ k.group_is.pending_count;
       });
-    }))
-    (omega (arith, ap total log ∙ total-with m.part (Mark w m.epoch m.commit ∷ []) old.log))
-  where
-    waits : (setup : Setup) (s : State) → IsAt setup s old → (s.producer w).waiting ≡ m ∷ rest
-    waits setup s k = ap (λ (r : Producer). r.waiting) (sym (producer_read setup s old w p k h read)) ∙ some
-
--- ---- the group
-pub joined_moves : (old new : Broker) (w n : ℕ) → n ≡ old.group.generation + 1
-    → new.log ≡ old.log → new.producers ≡ old.producers
-    → new.group ≡ record old.group { members = insert_number w old.group.members; generation = old.group.generation + 1; assignment = None }
-    → Moves old new (Join w) (Number n)
-joined_moves old new w n next log producers group = accepted_moves old new (Join w) (Number n)
-    (λ setup s k. refl)
-    (λ setup s k. ap Number (next ∙ ap (λ g. g + 1) k.group_is.generation_is))
-    (λ setup s k. record {
-      log_is = λ v. ap (slots_in v) log ∙ k.log_is v;
-      few = subst (λ (l : List Written). total l < 2 ^ 48) (sym log) k.few;
-      producers_is = λ v. ap (λ l. get_or l.items v new_producer) producers ∙ k.producers_is v;
-      count = ap (λ l. length l.items) producers ∙ k.count;
-      group_is = subst (λ (g : Group). IsGroupAt setup (effect s (Join w)) g) (sym group) (record {
-        tasks_is = k.group_is.tasks_is;
-        generation_is = ap (λ g. g + 1) k.group_is.generation_is;
-        members_is = ap (insert_number w) k.group_is.members_is;
-        assignment_is = refl;
-        committed_is = k.group_is.committed_is;
-        late_is = k.group_is.late_is;
-        held_is = k.group_is.held_is;
-        held_count = k.group_is.held_count;
-        parked_is = k.group_is.parked_is;
-      });
+      parked_is = k.parked_is;
     })
-    (omega (arith, ap total log))
+    (omega arith))
 
-pub assign_refused : (setup : Setup) (s : State) (b : Broker) (w g : ℕ) (a : Assignment) (r : Option Refused) → IsAt setup s b
-    → r ≡ or_else (generation_fault b.group.generation g) (bad_assignment b.group.tasks.items b.group.members a.active) → refusal setup s (Assign w g a) ≡ r
-assign_refused setup s b w g a r k told =
-    ap (λ (n : ℕ). or_else (generation_fault n g) (bad_assignment setup.tasks s.members a.active)) (sym k.group_is.generation_is)
-    ∙ ap (λ (ts : List TaskId). or_else (generation_fault b.group.generation g) (bad_assignment ts s.members a.active)) (sym k.group_is.tasks_is)
-    ∙ ap (λ (ms : List ℕ). or_else (generation_fault b.group.generation g) (bad_assignment b.group.tasks.items ms a.active)) (sym k.group_is.members_is)
-    ∙ sym told
+-- ---- decide
+decide_is : (setup : Setup) (s : State) (b : Broker) (w e : ℕ) (commit : Bool) → IsAt setup s b → refusal setup s (Decide w e commit) ≡ decide_fault (producer_at b.txns w) e
+decide_is setup s b w e commit k = sym (ap (λ q. decide_fault q e) (producer_is setup s b w k) ∙ decide_plain (s.producer w) e)
 
-pub assigned_moves : (old new : Broker) (w g : ℕ) (a : Assignment) → None ≡ or_else (generation_fault old.group.generation g) (bad_assignment old.group.tasks.items old.group.members a.active)
-    → old.group.assignment ≡ None → new.log ≡ old.log → new.producers ≡ old.producers → new.group ≡ record old.group { assignment = Some a }
-    → Moves old new (Assign w g a) (Truth true)
-assigned_moves old new w g a none empty log producers group = accepted_moves old new (Assign w g a) (Truth true)
-    (λ setup s k. assign_refused setup s old w g a None k none)
-    (λ setup s k. ap (λ (o : Option Assignment). Truth (is_none o)) (sym (empties setup s k)))
-    (λ setup s k. subst (λ (t : State). IsAt setup t new)
-    (sym (ap (λ (o : Option Assignment). elim o as (λ _. State) [ None ↦ record s { assignment = Some a } | Some b ↦ s ]) (empties setup s k)))
-    (record {
-      log_is = λ v. ap (slots_in v) log ∙ k.log_is v;
-      few = subst (λ (l : List Written). total l < 2 ^ 48) (sym log) k.few;
-      producers_is = λ v. ap (λ l. get_or l.items v new_producer) producers ∙ k.producers_is v;
-      count = ap (λ l. length l.items) producers ∙ k.count;
-      group_is = subst (λ (h : Group). IsGroupAt setup (record s { assignment = Some a }) h) (sym group) (record {
-        tasks_is = k.group_is.tasks_is;
-        generation_is = k.group_is.generation_is;
-        members_is = k.group_is.members_is;
-        assignment_is = refl;
-        committed_is = k.group_is.committed_is;
-        late_is = k.group_is.late_is;
-        held_is = k.group_is.held_is;
-        held_count = k.group_is.held_count;
-        parked_is = k.group_is.parked_is;
-      });
-    }))
-    (omega (arith, ap total log))
+pub decide_refused : (b : Broker) (w e : ℕ) (commit : Bool) (r : Refused) → decide_fault (producer_at b.txns w) e ≡ Some r → Moves b b (Decide w e commit) (Refuse r)
+decide_refused b w e commit r is = refused_moves b (Decide w e commit) r (λ setup s k. decide_is setup s b w e commit k ∙ is) refl
+
+pub decided_moves : (old new : Broker) (w e : ℕ) (commit : Bool) → w ≤ 16 → decide_fault (producer_at old.txns w) e ≡ None
+    → new.txns ≡ set old.txns w (closed (producer_at old.txns w) commit) → new.group ≡ resolved old.group w commit
+    → new ≡ record old { txns = new.txns; group = new.group } → Moves old new (Decide w e commit) Done
+decided_moves old new w e commit h none txns group same = subst (λ (b : Broker). Moves old b (Decide w e commit) Done) (sym same)
+    (accepted_moves old (record old { txns = new.txns; group = new.group }) (Decide w e commit) Done
+    (λ setup s k. decide_is setup s old w e commit k ∙ none)
+    (λ setup s k. refl)
+    (λ setup s k.
+    let p : Producer = closed (s.producer w) commit in
+    let all : ((v : ℕ) → get_or new.txns v new_producer ≡ plain (with_number s.producer w p v)) × (length new.txns ≡ 17) =
+    producers_changed setup s old new.txns w (closed (producer_at old.txns w) commit) p h k txns (ap (λ q. closed q commit) (producer_is setup s old w k) ∙ closed_plain (s.producer w) commit) in
+    record {
+      log_is = k.log_is;
+      few = k.few;
+      producers_are = all.0;
+      count = all.1;
+      group_is = subst (λ (v : GroupView). IsGroupAt setup (effect s (Decide w e commit)) v) (sym group) (settled setup s k commit);
+      parked_is = k.parked_is;
+    })
+    (omega arith))
   where
-    empties : (setup : Setup) (s : State) → IsAt setup s old → s.assignment ≡ None
-    empties setup s k = sym k.group_is.assignment_is ∙ empty
+    settled : (setup : Setup) (s : State) → IsAt setup s old → (c : Bool) → IsGroupAt setup (effect s (Decide w e c)) (resolved old.group w c)
+    settled setup s k false = none_pending setup s old.group w (closed (s.producer w) false) old.group.offsets old.group.late s.committed h k.group_is (closed_pending (s.producer w) false) k.group_is.offsets_are k.group_is.late_is
+    settled setup s k true =
+        let pending : get_or old.group.pending w [] ≡ pending_at (s.producer w) = k.group_is.pending_is w in
+        none_pending setup s old.group w (closed (s.producer w) true) (map (row_with (get_or old.group.pending w [])) old.group.offsets) (with_late old.group.late (get_or old.group.pending w []))
+        (committed_with s.committed (pending_at (s.producer w))) h k.group_is (closed_pending (s.producer w) true)
+        (ap (λ l. map (row_with l) old.group.offsets) pending ∙ rows_with setup s (pending_at (s.producer w)) old.group.offsets k.group_is.offsets_are)
+        (ap (λ n. with_late n (get_or old.group.pending w [])) k.group_is.late_is ∙ ap (with_late s.late) pending)
 
-pub kept_moves : (b : Broker) (w g : ℕ) (a c : Assignment) → None ≡ or_else (generation_fault b.group.generation g) (bad_assignment b.group.tasks.items b.group.members a.active)
-    → b.group.assignment ≡ Some c → Moves b b (Assign w g a) (Truth false)
-kept_moves b w g a c none some = accepted_moves b b (Assign w g a) (Truth false)
-    (λ setup s k. assign_refused setup s b w g a None k none)
-    (λ setup s k. ap (λ (o : Option Assignment). Truth (is_none o)) (sym (stands setup s k)))
-    (λ setup s k. subst (λ (t : State). IsAt setup t b)
-    (sym (ap (λ (o : Option Assignment). elim o as (λ _. State) [ None ↦ record s { assignment = Some a } | Some x ↦ s ]) (stands setup s k))) k)
-    (omega arith)
+-- ---- requests whose outcome tells whether they were refused
+-- without a refusal of the offsets the transaction may begin
+may_start : (f s m u : Option Refused) → or_else f (or_else s (or_else m u)) ≡ None → or_else f m ≡ None
+may_start None None None u none = refl
+may_start None None (Some r) u none = absurd (cc)
+may_start None (Some r) m u none = absurd (cc)
+may_start (Some r) s m u none = absurd (cc)
+
+pub add_step : (old new : Broker) (w e : ℕ) (part : PartId) (r : Result (Unit {0}) Refused) → w ≤ 16 → r ≡ done_by (start_fault (producer_at old.txns w) e)
+    → new.txns ≡ changed_by (start_fault (producer_at old.txns w) e) old.txns w (added (producer_at old.txns w) part) → new ≡ record old { txns = new.txns } → Moves old new (Add w e part) (done_or r)
+add_step old new w e part r h answers txns same = by (start_fault (producer_at old.txns w) e) refl answers txns
   where
-    stands : (setup : Setup) (s : State) → IsAt setup s b → s.assignment ≡ Some c
-    stands setup s k = sym k.group_is.assignment_is ∙ some
+    by : (o : Option Refused) → start_fault (producer_at old.txns w) e ≡ o → r ≡ done_by o → new.txns ≡ changed_by o old.txns w (added (producer_at old.txns w) part) → Moves old new (Add w e part) (done_or r)
+    by None is told kept = subst (λ x. Moves old new (Add w e part) (done_or x)) (sym told) (added_moves old new w e part h is kept same)
+    by (Some refused) is told kept = subst (λ x. Moves old new (Add w e part) (done_or x)) (sym told)
+        (subst (λ (b : Broker). Moves old b (Add w e part) (Refuse refused)) (sym (same ∙ ap (λ l. record old { txns = l }) kept)) (add_refused old w e part refused is))
 
--- ---- a new broker
-abbrev nothing_held : List (TaskId × ℕ)
-nothing_held = []
+pub offsets_step : (old new : Broker) (w e g : ℕ) (more : Pending) (r : Result (Unit {0}) Refused) → w ≤ 16 → None ≡ sending_fault old w e g more.task → r ≡ done_by (start_fault (producer_at old.txns w) e)
+    → new.txns ≡ changed_by (start_fault (producer_at old.txns w) e) old.txns w (started (producer_at old.txns w)) → new.group ≡ pended old.group w more
+    → new ≡ record old { txns = new.txns; group = new.group } → Moves old new (SendOffsets w e g more.task more.offsets more.order more.late) (done_or r)
+offsets_step old new w e g more r h none answers txns group same =
+    let may : start_fault (producer_at old.txns w) e ≡ None = may_start (fenced (producer_at old.txns w) e) (speak_fault old.group w g more.task) (markers_waiting (producer_at old.txns w)) _ (sym none) in
+    subst (λ x. Moves old new (SendOffsets w e g more.task more.offsets more.order more.late) (done_or x)) (sym (answers ∙ ap done_by may))
+    (offsets_moves old new w e g more h (sym none) (txns ∙ ap (λ o. changed_by o old.txns w (started (producer_at old.txns w))) may) group same)
 
-pub new_at : (setup : Setup) (b : Broker) → IsNew setup.tasks b → IsAt setup start b
-new_at setup b new = record {
-  log_is = λ p. ap (slots_in p) new.log;
-  few = subst (λ (l : List Written). total l < 2 ^ 48) (sym new.log) (omega arith);
-  producers_is = λ w. ap (λ l. get_or l w new_producer) new.producers ∙ get_or-replicate 17 w new_producer;
-  count = ap length new.producers ∙ length-replicate 17 new_producer;
-  group_is = record {
-    tasks_is = new.tasks_is;
-    generation_is = new.generation;
-    members_is = new.members;
-    assignment_is = new.assignment;
-    committed_is = λ t topic. ap (λ l. offset_after 0 l t topic) new.commits;
-    late_is = new.late;
-    held_is = λ w. ap (λ l. get_or l w []) new.held ∙ get_or-replicate 17 w [];
-    held_count = ap length new.held ∙ length-replicate 17 nothing_held;
-    parked_is = λ i t. ap (is_parked_in i t) new.parked;
-  };
-}
+-- a decision: the group is settled where nothing is refused
+pub decide_done : (old new : Broker) (w e : ℕ) (commit : Bool) → w ≤ 16 → Ok tt ≡ done_by (decide_fault (producer_at old.txns w) e)
+    → new.txns ≡ changed_by (decide_fault (producer_at old.txns w) e) old.txns w (closed (producer_at old.txns w) commit) → new.group ≡ resolved old.group w commit
+    → new ≡ record old { txns = new.txns; group = new.group } → Moves old new (Decide w e commit) Done
+decide_done old new w e commit h answers txns group same = by (decide_fault (producer_at old.txns w) e) refl answers txns
+  where
+    by : (o : Option Refused) → decide_fault (producer_at old.txns w) e ≡ o → Ok tt ≡ done_by o → new.txns ≡ changed_by o old.txns w (closed (producer_at old.txns w) commit) → Moves old new (Decide w e commit) Done
+    by None is told kept = decided_moves old new w e commit h is kept group same
+    by (Some refused) is told kept = absurd (cc)
 
-pub committed_if : (old new : Broker) (w e : ℕ) (commit : Bool) (p p' q : Producer) (waiting : List Marker) (pending : List Pending) → commit ≡ true → w ≤ 16
-    → p ≡ get_or old.producers.items w p → p' ≡ get_or old.producers.items w p' → None ≡ or_else (fenced p e) (none_undecided p)
-    → waiting ≡ (closed p commit).waiting → q ≡ record p' { undecided = None; waiting = waiting; last = Some true } → pending ≡ pending_at p
-    → new.log ≡ old.log → new.producers.items ≡ set old.producers.items w q
-    → new.group.tasks.items ≡ old.group.tasks.items → new.group.generation ≡ old.group.generation → new.group.members ≡ old.group.members → new.group.assignment ≡ old.group.assignment → new.group.held.items ≡ old.group.held.items → new.group.parked ≡ old.group.parked
-    → new.group.commits ≡ old.group.commits ++ pending ∷ [] → new.group.late ≡ with_late old.group.late pending
-    → Moves old new (Decide w e commit) Done
-committed_if old new w e true p p' q waiting pending on = committed_moves old new w e p p' q waiting pending
-committed_if old new w e false p p' q waiting pending on = absurd (cc)
+pub decide_stops : (old new : Broker) (w e : ℕ) (commit : Bool) (r : Refused) → Err r ≡ done_by (decide_fault (producer_at old.txns w) e)
+    → new.txns ≡ changed_by (decide_fault (producer_at old.txns w) e) old.txns w (closed (producer_at old.txns w) commit) → new ≡ record old { txns = new.txns } → Moves old new (Decide w e commit) (Refuse r)
+decide_stops old new w e commit r answers txns same = by (decide_fault (producer_at old.txns w) e) refl answers txns
+  where
+    by : (o : Option Refused) → decide_fault (producer_at old.txns w) e ≡ o → Err r ≡ done_by o → new.txns ≡ changed_by o old.txns w (closed (producer_at old.txns w) commit) → Moves old new (Decide w e commit) (Refuse r)
+    by None is told kept = absurd (cc)
+    by (Some refused) is told kept =
+        subst (λ (x : Result (Unit {0}) Refused). Moves old new (Decide w e commit) (done_or x)) (sym told)
+        (subst (λ (b : Broker). Moves old b (Decide w e commit) (Refuse refused)) (sym (same ∙ ap (λ l. record old { txns = l }) kept)) (decide_refused old w e commit refused is))
+
+has_none : (o : Option Refused) → Ok tt ≡ done_by o → o ≡ None
+has_none None is = refl
+has_none (Some r) is = absurd (cc)
+
+has_some : (o : Option Refused) (r : Refused) → Err r ≡ done_by o → o ≡ Some r
+has_some None r is = absurd (cc)
+has_some (Some q) r is = cc
+
+-- an append whose producer may not write, whose number is wrong, and one that is taken
+pub append_barred : (b : Broker) (w e number : ℕ) (t : TaskId) (part : PartId) (recs : List Rec) (n : ℕ) (r : Refused) → n ≡ count_sent w e (slots_in part b.log)
+    → Err r ≡ done_by (has_fault (producer_at b.txns w) e part) → Moves b b (Append w e number t part recs) (Refuse r)
+append_barred b w e number t part recs n r count told = append_refused b w e number t part recs n r count
+    (ap (λ o. or_else o (if number == n then None else Some (OutOfSequence n))) (has_some (has_fault (producer_at b.txns w) e part) r told))
+
+pub append_late : (b : Broker) (w e number : ℕ) (t : TaskId) (part : PartId) (recs : List Rec) (n : ℕ) → n ≡ count_sent w e (slots_in part b.log)
+    → Ok tt ≡ done_by (has_fault (producer_at b.txns w) e part) → number ≢ n → Moves b b (Append w e number t part recs) (Refuse (OutOfSequence n))
+append_late b w e number t part recs n count told apart = append_refused b w e number t part recs n (OutOfSequence n) count
+    (ap (λ o. or_else o (if number == n then None else Some (OutOfSequence n))) (has_none (has_fault (producer_at b.txns w) e part) told) ∙ ap (λ c. cond c None (Some (OutOfSequence n))) (ne_eqb number n apart))
+
+pub append_done : (old new : Broker) (w e number : ℕ) (t : TaskId) (part : PartId) (recs : List Rec) (n first : ℕ) → w ≤ 16
+    → n ≡ count_sent w e (slots_in part old.log) → Ok tt ≡ done_by (has_fault (producer_at old.txns w) e part) → number ≡ n → first ≡ length (slots_in part old.log)
+    → new.log ≡ with_slots part (sent_slots w e number t recs) old.log → total new.log < 2 ^ 48
+    → new ≡ record old { log = new.log } → Moves old new (Append w e number t part recs) (Number first)
+append_done old new w e number t part recs n first h count told next first_is log few same =
+    appended_moves old new w e number t part recs n first h count (has_none (has_fault (producer_at old.txns w) e part) told) next first_is log few same

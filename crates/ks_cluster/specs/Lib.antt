@@ -1,4 +1,5 @@
-pub mod Producers
+pub mod ParkedPairs
 pub mod Replies
 pub mod Moves
 pub mod View
+pub mod Statuses

@@ -37,7 +37,7 @@ pub record AddsEntry {W : Type 0} (plan : W → TaskPlan) (old new : ClusterView
   pub journal : new ≡ record old { journal = old.journal ++ record { request = request; reply = reply } ∷ [] }
 
 abbrev pub setup_at : TaskPlan → List ℕ → Broker → Setup
-setup_at plan counts b = record { plan = plan; counts = counts; tasks = b.group.tasks.items }
+setup_at plan counts b = record { plan = plan; counts = counts; tasks = b.group.tasks }
 
 -- the journal is a history, the broker stands where it leads, and the log has all its records
 pub record BrokerFollows (plan : TaskPlan) (counts : List ℕ) (journal : List Entry) (b : Broker) : Type 0 where

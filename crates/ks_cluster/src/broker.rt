@@ -1,19 +1,21 @@
-//! The log, the producers and the group, without the journal: each call answers a request as the step does.
-ghost use Rattle.std.specs.Prelude.{◌≡◌, ℕ, ◌≤◌, IfOk, OnOk, OnErr, length};
+//! The log, the producers, the group and the parked pairs, without the journal: each call answers a request as the step does.
+ghost use Rattle.std.specs.Prelude.{◌≡◌, ℕ, ◌≤◌, ◌||◌, IfOk, OnOk, OnErr};
 ghost use Rattle.ks_history.specs.declared.journal.Request.TheVariants.{Produce, Init, Add, Append, SendOffsets, Decide, MarkNext, Join, Expire, Hold, Probe, Assign, Park, Unpark};
 ghost use Rattle.ks_history.specs.declared.journal.Reply.TheVariants.{Done, Number, Truth, Mark as Marked};
-ghost use Rattle.ks_cluster.specs.Moves.{Moves, IsNew, sending_fault, reading_fault};
+ghost use Rattle.ks_history.specs.State.{has_number};
+ghost use Rattle.ks_history.specs.Step.{is_undecided};
+ghost use Rattle.ks_txn.specs.Outcomes.{producer_at};
+ghost use Rattle.ks_cluster.specs.Moves.{Moves, IsNew, sending_fault};
 ghost use Rattle.ks_cluster.specs.Replies.{done_or, number_or, truth_or};
 
-use crate::producers::{
-    add_refusal, append_refusal, but_first, close, decide_refusal, late_with, markers_refusal,
-    new_producers, parts_with, pending_copies, pending_with, renew, set_parts, set_pending,
-    set_tasks, set_waiting, tasks_with, unstable_refusal, waiting_with,
-};
-use ks_group::{Group, copy_assignment, is_member, is_parked, without_member, without_parked};
-use ks_history::{Pending, Producer, Slot};
+use crate::inputs::task_inputs;
+use crate::parked::{is_parked, without_parked};
+use crate::work::Work;
+use ks_group::Group;
+use ks_history::{Pending, Slot};
 use ks_log::{Log, one_slot, sent};
 use ks_row::{Assignment, PartId, Rec, Refused, Seq, TaskId};
+use ks_txn::Txns;
 use std::alloc::{AllocError, Global};
 use std::thread::Threads;
 
@@ -21,9 +23,10 @@ use std::thread::Threads;
 #[derive(Drop)]
 pub struct Broker {
     pub log: Log,
-    /// Producers 0 to 16.
-    pub producers: Vec<Producer>,
+    pub txns: Txns,
     pub group: Group,
+    /// The parked pairs of an instance and a task; a pair may stand twice.
+    pub parked: Seq<(u8, TaskId)>,
 }
 
 impl Broker {
@@ -31,20 +34,23 @@ impl Broker {
     pub fn let_go<R: Threads + Sync>(self, rt: &R) {
         let Broker {
             log,
-            producers: _,
+            txns: _,
             group: _,
+            parked: _,
         } = self;
         log.let_go(rt);
     }
 
-    /// An empty broker.
-    pub fn new(alloc: Global, tasks: Vec<TaskId>) -> Result<Broker, AllocError>
-        ensures { IfOk result (λ b. IsNew tasks.items b) }
+    /// An empty broker of this work and these tasks.
+    pub fn new<W: Work>(alloc: Global, work: &W, tasks: &[TaskId]) -> Result<Broker, AllocError>
+        ensures { IfOk result (λ b. IsNew (W.plan work.now) tasks.now b) }
     {
+        let inputs = task_inputs(alloc, work, tasks)?;
         Ok(Broker {
             log: Log::new(alloc),
-            producers: new_producers(alloc)?,
-            group: Group::new(alloc, tasks)?,
+            txns: Txns::new(alloc)?,
+            group: Group::new(alloc, inputs.as_slice())?,
+            parked: Seq::new(alloc),
         })
     }
 
@@ -57,19 +63,15 @@ impl Broker {
     }
 
     pub fn init(&mut self, alloc: Global, w: u8) -> Result<u64, AllocError>
-        requires worker { w ≤ 16 }
-        requires count { length self.old.producers.items ≡ 17 }
+        requires { w ≤ 16 }
         ensures ok { IfOk result (λ n. Moves self.old self.new (Init w) (Number n)) }
         ensures err { OnErr result (self.new ≡ self.old) }
     {
-        let p = &self.producers[w as usize];
-        let waiting = waiting_with(alloc, p, false)?;
-        let Some(epoch) = p.epoch.checked_add(1) else {
+        if self.txns.epoch(w) == u64::MAX {
             return Err(AllocError);
-        };
-        let p = &mut self.producers[w as usize];
-        renew(p, epoch, waiting);
-        Ok(epoch)
+        }
+        self.group.resolve(alloc, w, false);
+        Ok(self.txns.init(w))
     }
 
     pub fn add(
@@ -79,19 +81,12 @@ impl Broker {
         epoch: u64,
         part: PartId,
     ) -> Result<Result<(), Refused>, AllocError>
-        requires worker { w ≤ 16 }
-        requires count { length self.old.producers.items ≡ 17 }
+        requires { w ≤ 16 }
         ensures ok { IfOk result (λ r. Moves self.old self.new (Add w epoch part) (done_or r)) }
         ensures err { OnErr result (self.new ≡ self.old) }
     {
-        let p = &self.producers[w as usize];
-        if let Some(refused) = add_refusal(p, epoch)? {
-            return Ok(Err(refused));
-        }
-        let parts = parts_with(alloc, p, part)?;
-        let p = &mut self.producers[w as usize];
-        set_parts(alloc, p, parts);
-        Ok(Ok(()))
+        let outcome = self.txns.add(alloc, w, epoch, part)?;
+        Ok(outcome)
     }
 
     pub fn append(
@@ -104,66 +99,40 @@ impl Broker {
         part: PartId,
         recs: Vec<Rec>,
     ) -> Result<Result<u64, Refused>, AllocError>
-        requires worker { w ≤ 16 }
-        requires count { length self.old.producers.items ≡ 17 }
+        requires { w ≤ 16 }
         ensures ok { IfOk result (λ r. Moves self.old self.new (Append w epoch number task part recs.items) (number_or r)) }
         ensures err { OnErr result (self.new ≡ self.old) }
     {
-        let p = &self.producers[w as usize];
         let slots = self.log.part(part);
         let count = slots.count(w, epoch);
         let first = slots.end();
-        if let Some(refused) = append_refusal(p, epoch, part, number, count) {
+        if let Err(refused) = self.txns.has(w, epoch, part) {
             return Ok(Err(refused));
         }
-        let tasks = tasks_with(alloc, p, task)?;
+        if number != count {
+            return Ok(Err(Refused::OutOfSequence { expected: count }));
+        }
         let more = sent(alloc, w, epoch, number, task, recs)?;
         self.log.append(alloc, part, more)?;
-        let p = &mut self.producers[w as usize];
-        set_tasks(alloc, p, tasks);
         Ok(Ok(first))
     }
 
     /// Why a worker may not send offsets for a task.
-    fn send_refusal(
-        &self,
-        w: u8,
-        epoch: u64,
-        generation: u64,
-        task: TaskId,
-    ) -> Result<Option<Refused>, AllocError>
-        requires worker { w ≤ 16 }
-        requires count { length self.now.producers.items ≡ 17 }
-        ensures { IfOk result (λ r. r ≡ sending_fault self.now w epoch generation task) }
+    fn send_refusal(&self, w: u8, epoch: u64, generation: u64, task: TaskId) -> Option<Refused>
+        requires { w ≤ 16 }
+        ensures { result ≡ sending_fault self.now w epoch generation task }
     {
-        let p = &self.producers[w as usize];
-        if epoch != p.epoch {
-            return Ok(Some(Refused::Fenced { held: p.epoch }));
+        let held = self.txns.epoch(w);
+        if epoch != held {
+            return Some(Refused::Fenced { held });
         }
-        if let Some(refused) = self.group.generation_refusal(generation) {
-            return Ok(Some(refused));
-        }
-        if let Some(refused) = self.group.owner_refusal(w, task) {
-            return Ok(Some(refused));
-        }
-        if let Some(refused) = markers_refusal(p)? {
-            return Ok(Some(refused));
-        }
-        Ok(unstable_refusal(self.producers.as_slice(), task, Some(w)))
-    }
-
-    /// Why a worker may not read the committed offsets of a task.
-    pub fn read_refusal(&self, w: u8, generation: u64, task: TaskId) -> Option<Refused>
-        requires { length self.now.producers.items ≡ 17 }
-        ensures { result ≡ reading_fault self.now w generation task }
-    {
-        if let Some(refused) = self.group.generation_refusal(generation) {
+        if let Some(refused) = self.group.speak_refusal(w, generation, task) {
             return Some(refused);
         }
-        if let Some(refused) = self.group.owner_refusal(w, task) {
+        if let Some(refused) = self.txns.markers_refusal(w) {
             return Some(refused);
         }
-        unstable_refusal(self.producers.as_slice(), task, None)
+        self.group.unstable_refusal(w, task)
     }
 
     pub fn send_offsets(
@@ -174,66 +143,36 @@ impl Broker {
         generation: u64,
         new: Pending,
     ) -> Result<Result<(), Refused>, AllocError>
-        requires worker { w ≤ 16 }
-        requires count { length self.old.producers.items ≡ 17 }
+        requires { w ≤ 16 }
         ensures ok { IfOk result (λ r. Moves self.old self.new (SendOffsets w epoch generation new.task new.offsets new.order new.late) (done_or r)) }
         ensures err { OnErr result (self.new ≡ self.old) }
     {
-        if let Some(refused) = self.send_refusal(w, epoch, generation, new.task)? {
+        if let Some(refused) = self.send_refusal(w, epoch, generation, new.task) {
             return Ok(Err(refused));
         }
-        let p = &self.producers[w as usize];
-        let pending = pending_with(alloc, p, new)?;
-        let p = &mut self.producers[w as usize];
-        set_pending(alloc, p, pending);
-        Ok(Ok(()))
+        self.group.pend(alloc, w, new)?;
+        Ok(self.txns.start(w, epoch))
     }
 
-    pub fn decide(
-        &mut self,
-        alloc: Global,
-        w: u8,
-        epoch: u64,
-        commit: bool,
-    ) -> Result<Result<(), Refused>, AllocError>
-        requires worker { w ≤ 16 }
-        requires count { length self.old.producers.items ≡ 17 }
-        ensures ok { IfOk result (λ r. Moves self.old self.new (Decide w epoch commit) (done_or r)) }
-        ensures err { OnErr result (self.new ≡ self.old) }
+    pub fn decide(&mut self, alloc: Global, w: u8, epoch: u64, commit: bool) -> Result<(), Refused>
+        requires { w ≤ 16 }
+        ensures { Moves self.old self.new (Decide w epoch commit) (done_or result) }
     {
-        let p = &self.producers[w as usize];
-        if let Some(refused) = decide_refusal(p, epoch) {
-            return Ok(Err(refused));
+        if let Err(refused) = self.txns.decide(w, epoch, commit) {
+            return Err(refused);
         }
-        let waiting = waiting_with(alloc, p, commit)?;
-        if !commit {
-            let p = &mut self.producers[w as usize];
-            close(p, false, waiting);
-            return Ok(Ok(()));
-        }
-        let pending = pending_copies(alloc, p)?;
-        let late = late_with(self.group.late, pending.as_slice());
-        self.group.commits.push(Seq::of(pending))?;
-        self.group.late = late;
-        let p = &mut self.producers[w as usize];
-        close(p, true, waiting);
-        Ok(Ok(()))
+        self.group.resolve(alloc, w, commit);
+        Ok(())
     }
 
     pub fn mark_next(&mut self, alloc: Global, w: u8) -> Result<Option<(PartId, bool)>, AllocError>
-        requires worker { w ≤ 16 }
-        requires count { length self.old.producers.items ≡ 17 }
+        requires { w ≤ 16 }
         ensures ok { IfOk result (λ m. Moves self.old self.new (MarkNext w) (Marked m)) }
         ensures err { OnErr result (self.new ≡ self.old) }
     {
-        let p = &self.producers[w as usize];
-        let markers = p.waiting.as_slice();
-        let left = markers.len();
-        if left == 0 {
+        let Some(marker) = self.txns.next_marker(w) else {
             return Ok(None);
-        }
-        let marker = markers[0];
-        let rest = but_first(alloc, markers)?;
+        };
         let slot = Slot::Mark {
             producer: w,
             epoch: marker.epoch,
@@ -241,8 +180,7 @@ impl Broker {
         };
         let more = one_slot(alloc, slot)?;
         self.log.append(alloc, marker.part, more)?;
-        let p = &mut self.producers[w as usize];
-        set_waiting(p, rest);
+        self.txns.marked(w);
         Ok(Some((marker.part, marker.commit)))
     }
 
@@ -250,7 +188,11 @@ impl Broker {
         ensures ok { IfOk result (λ n. Moves self.old self.new (Join w) (Number n)) }
         ensures err { OnErr result (self.new ≡ self.old) }
     {
-        self.group.join(alloc, w)
+        if self.group.generation() == u64::MAX {
+            return Err(AllocError);
+        }
+        let generation = self.group.join(alloc, w)?;
+        Ok(generation)
     }
 
     /// The request is that of any worker.
@@ -263,55 +205,45 @@ impl Broker {
         ensures ok { IfOk result (λ r. (w : ℕ) → Moves self.old self.new (Assign w generation a.now) (truth_or r)) }
         ensures err { OnErr result (self.new ≡ self.old) }
     {
-        if let Some(refused) = self.group.assign_refusal(generation, a) {
-            return Ok(Err(refused));
-        }
-        if self.group.assignment.is_some() {
-            return Ok(Ok(false));
-        }
-        let copy = copy_assignment(alloc, a)?;
-        self.group.assignment = Some(copy);
-        Ok(Ok(true))
+        let outcome = self.group.assign(alloc, generation, a)?;
+        Ok(outcome)
+    }
+
+    /// Whether there is something to remove of a worker.
+    fn can_expire(&self, w: u8) -> bool
+        requires { w ≤ 16 }
+        ensures { result ≡ (has_number w self.now.group.members || is_undecided (producer_at self.now.txns w)) }
+    {
+        self.group.has_member(w) || self.txns.undecided(w)
     }
 
     /// Removes a worker, whose undecided transaction is aborted and whose epoch rises: false where there is nothing to remove.
     pub fn expire(&mut self, alloc: Global, w: u8) -> Result<bool, AllocError>
-        requires worker { w ≤ 16 }
-        requires count { length self.old.producers.items ≡ 17 }
-        requires held { length self.old.group.held.items ≡ 17 }
+        requires { w ≤ 16 }
         ensures ok { IfOk result (λ b. Moves self.old self.new (Expire w) (Truth b)) }
         ensures err { OnErr result (self.new ≡ self.old) }
     {
-        let p = &self.producers[w as usize];
-        let member = is_member(self.group.members.as_slice(), w);
-        let undecided = p.undecided.is_some();
-        if !(member || undecided) {
+        if !self.can_expire(w) {
             return Ok(false);
         }
-        let waiting = waiting_with(alloc, p, false)?;
-        let members = without_member(alloc, self.group.members.as_slice(), w)?;
-        let (Some(epoch), Some(generation)) = (
-            p.epoch.checked_add(1),
-            self.group.generation.checked_add(1),
-        ) else {
+        if self.txns.epoch(w) == u64::MAX {
             return Err(AllocError);
-        };
-        self.group.members = Seq::of(members);
-        self.group.generation = generation;
-        self.group.assignment = None;
-        self.group.held[w as usize] = Seq::new(alloc);
-        let p = &mut self.producers[w as usize];
-        renew(p, epoch, waiting);
+        }
+        if self.group.generation() == u64::MAX {
+            return Err(AllocError);
+        }
+        self.group.expire(alloc, w)?;
+        self.group.resolve(alloc, w, false);
+        self.txns.fence(w);
         Ok(true)
     }
 
     /// Replaces the positions that a worker holds.
     pub fn hold(&mut self, w: u8, held: Vec<(TaskId, u64)>)
-        requires worker { w ≤ 16 }
-        requires held { length self.old.group.held.items ≡ 17 }
+        requires { w ≤ 16 }
         ensures { Moves self.old self.new (Hold w held.items) Done }
     {
-        self.group.held[w as usize] = Seq::of(held);
+        self.group.hold(w, held);
     }
 
     /// The request is that of any worker.
@@ -319,22 +251,17 @@ impl Broker {
         ensures ok { IfOk result (λ r. (w : ℕ) → Moves self.old self.new (Probe w generation) (number_or r)) }
         ensures err { OnErr result (self.new ≡ self.old) }
     {
-        if let Some(refused) = self.group.generation_refusal(generation) {
-            return Ok(Err(refused));
-        }
-        let Some(next) = self.group.generation.checked_add(1) else {
+        if self.group.generation() == u64::MAX {
             return Err(AllocError);
-        };
-        self.group.generation = next;
-        self.group.assignment = None;
-        Ok(Ok(next))
+        }
+        Ok(self.group.probe(generation))
     }
 
     pub fn park(&mut self, instance: u8, task: TaskId) -> Result<(), AllocError>
         ensures ok { OnOk result (Moves self.old self.new (Park instance task) Done) }
         ensures err { OnErr result (self.new ≡ self.old) }
     {
-        self.group.parked.push((instance, task))?;
+        self.parked.push((instance, task))?;
         Ok(())
     }
 
@@ -343,13 +270,13 @@ impl Broker {
         ensures ok { IfOk result (λ b. Moves self.old self.new (Unpark instance task) (Truth b)) }
         ensures err { OnErr result (self.new ≡ self.old) }
     {
-        let parked = self.group.parked.as_slice();
+        let parked = self.parked.as_slice();
         let there = is_parked(parked, instance, task);
         if !there {
             return Ok(false);
         }
         let left = without_parked(alloc, parked, instance, task)?;
-        self.group.parked = Seq::of(left);
+        self.parked = Seq::of(left);
         Ok(true)
     }
 }

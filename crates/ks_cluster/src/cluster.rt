@@ -6,17 +6,18 @@ ghost use Rattle.ks_history.specs.declared.journal.Reply.TheVariants.{Done, Numb
 ghost use Rattle.ks_history.specs.Machine.{has_topic};
 ghost use Rattle.ks_history.specs.State.{IsSetup, IsPart, has_task};
 ghost use Rattle.ks_history.specs.History.{Meets, CommitsFaithfully, IsHistory};
-ghost use Rattle.ks_history.specs.Reads.{MayFetch, fetched, committed_refusal, committed_offsets, ends_of, decided_records, pending_producers};
+ghost use Rattle.ks_history.specs.Reads.{MayFetch, fetched, committed_refusal, committed_offsets, ends_of, decided_records, pending_producers, status};
 ghost use Rattle.ks_cluster.specs.Replies.{done_or, number_or, truth_or};
 ghost use Rattle.ks_history.specs.Count.{records_in};
 ghost use Rattle.ks_cluster.specs.View.{ClusterView, setup_of, setup_from, state_of, AddsEntry, Refuses};
 
 use crate::broker::Broker;
-use crate::producers::{new_pending, pending_count};
 use crate::replies::{done, numbered, told};
+use crate::status::{changelog_ends, copy_given, copy_members, held_rows};
+use crate::waiting::{marker_count, pending_count};
 use crate::work::Work;
-use ks_group::{copy_assignment, copy_held};
-use ks_history::{Entry, Journal, Reply, Request};
+use ks_group::{copy_assignment, copy_held, new_pending};
+use ks_history::{Entry, Journal, Reply, Request, Status};
 use ks_log::{copies, copy, ends_in, next_in};
 use ks_row::{Assignment, PartId, Rec, Refused, Seq, TaskId};
 use std::alloc::{AllocError, Global};
@@ -43,7 +44,7 @@ impl<W: Work> Model for Cluster<W> {
 
     ghost Value = { ClusterView W };
 
-    ghost view = { λ c. record { work = c.work; counts = c.counts.items; tasks = c.broker.group.tasks.items; journal = c.journal.items } };
+    ghost view = { λ c. record { work = c.work; counts = c.counts.items; tasks = c.broker.group.tasks; journal = c.journal.items } };
 
     ghost invariant = { λ c. BrokerFollows (W.plan c.work) c.counts.items c.journal.items c.broker };
 }
@@ -59,7 +60,7 @@ impl<W: Work> Cluster<W> {
         requires { IsSetup (setup_from (W.plan work) parts.items tasks.items) }
         ensures { IfOk result (λ c. c ≡ record { work = work; counts = parts.items; tasks = tasks.items; journal = [] }) }
     {
-        let broker = Broker::new(alloc, tasks)?;
+        let broker = Broker::new(alloc, &work, tasks.as_slice())?;
         Ok(Cluster {
             work,
             counts: parts,
@@ -210,7 +211,7 @@ impl<W: Work> Cluster<W> {
         ensures err { OnErr result (self.new ≡ self.old) }
     {
         self.journal.reserve(1)?;
-        let outcome = self.broker.decide(alloc, w, epoch, commit)?;
+        let outcome = self.broker.decide(alloc, w, epoch, commit);
         self.journal.push_reserved(Entry {
             request: Request::Decide { w, epoch, commit },
             reply: done(&outcome),
@@ -396,11 +397,8 @@ impl<W: Work> Cluster<W> {
         ensures offsets { IfOk result (λ r. IfOk r (λ v. v.items ≡ committed_offsets (setup_of W.plan self.now) (state_of W.plan self.now) task)) }
         ensures refused { IfOk result (λ r. Refuses (committed_refusal (state_of W.plan self.now) w generation task) r) }
     {
-        if let Some(refused) = self.broker.read_refusal(w, generation, task) {
-            return Ok(Err(refused));
-        }
-        let inputs = self.work.inputs(task.sub);
-        Ok(Ok(self.broker.group.offsets(alloc, task, inputs)?))
+        let outcome = self.broker.group.committed(alloc, w, generation, task)?;
+        Ok(outcome)
     }
 
     /// The ends of some partitions.
@@ -409,6 +407,29 @@ impl<W: Work> Cluster<W> {
         ensures { IfOk result (λ v. v.items ≡ ends_of (state_of W.plan self.now) parts.now) }
     {
         ends_in(alloc, &self.broker.log, parts)
+    }
+
+    /// The group and the changelogs at this moment: the generation, the members (rising), the assignment, the positions that
+    /// workers hold (by worker, and then in the order of the last `hold`), how many markers wait, and the end of each partition of
+    /// a changelog (by topic and partition). Want of memory, the one error, comes also where the cluster has more than 65,536
+    /// topics. Kafka Streams: what an assignor is told of the members' task lags and the end offsets (KIP-441).
+    pub fn status(&self, alloc: Global) -> Result<Status, AllocError>
+        ensures { IfOk result (λ r. r ≡ status (setup_of W.plan self.now) (state_of W.plan self.now)) }
+    {
+        let group = &self.broker.group;
+        let tasks = group.tasks();
+        let members = copy_members(alloc, group.members())?;
+        let held = held_rows(alloc, group.held())?;
+        let counts = self.counts.as_slice();
+        let ends = changelog_ends(alloc, &self.work, tasks, counts, &self.broker.log)?;
+        Ok(Status {
+            generation: group.generation(),
+            members: Seq::of(members),
+            assignment: copy_given(alloc, group.assignment())?,
+            held: Seq::of(held),
+            waiting: marker_count(&self.broker.txns)?,
+            ends: Seq::of(ends),
+        })
     }
 
     /// The journal. It is legal and faithful, and has fewer than 2^48 records.
@@ -455,7 +476,7 @@ impl<W: Work> Cluster<W> {
     pub fn late(&self) -> u64
         ensures { result ≡ (state_of W.plan self.now).late }
     {
-        self.broker.group.late
+        self.broker.group.late()
     }
 
     /// The committed offset of a task's input.
@@ -471,7 +492,7 @@ impl<W: Work> Cluster<W> {
     pub fn pending(&self) -> u32
         ensures { result ≡ pending_producers (state_of W.plan self.now) }
     {
-        pending_count(self.broker.producers.as_slice())
+        pending_count(&self.broker.txns)
     }
 
     /// The decided records of a partition, with their offsets.
@@ -479,8 +500,9 @@ impl<W: Work> Cluster<W> {
         requires { IsPart (setup_of W.plan self.now) part }
         ensures { IfOk result (λ v. v.items ≡ decided_records (state_of W.plan self.now) part) }
     {
-        let producers = self.broker.producers.as_slice();
-        let made = self.broker.log.part(part).decided(alloc, producers, part)?;
+        let producers = self.broker.txns.describe(alloc)?;
+        let slots = self.broker.log.part(part);
+        let made = slots.decided(alloc, producers.as_slice(), part)?;
         Ok(made)
     }
 }

@@ -3,8 +3,11 @@
 
 mod broker;
 mod cluster;
-mod producers;
+mod inputs;
+mod parked;
 mod replies;
+mod status;
+mod waiting;
 mod work;
 
 pub use cluster::Cluster;

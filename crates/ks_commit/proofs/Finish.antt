@@ -28,14 +28,14 @@ use Rattle.ks_law_restore.specs.Views.{WorkView, names_part, pending_work}
 use Rattle.ks_law_restore.specs.Commits.{commit_by}
 use Rattle.ks_commit.specs.declared.publisher.Publisher.{Publisher}
 use Rattle.ks_commit.specs.Alone.{IsIdle}
-use Rattle.ks_commit.specs.Sending.{put_count, Sends, Marked, adds_in, puts_in, adds_of, puts_of, pendings_of}
+use Rattle.ks_commit.specs.Sending.{put_count, IsPublishing, Sends, Marked, adds_in, puts_in, adds_of, puts_of, pendings_of}
 use Rattle.ks_commit.specs.Committed.{IsReady, IsSame, IsSending, EachMay, EachOf, EachPlaced, AreApart, names_in, own_in, own_of_each, ends_of_each, EachEnds, Committed}
 use Rattle.ks_commit.proofs.Slots.{is_stable}
 use Rattle.ks_commit.proofs.Gaining.{has_part-append, put_count-append}
 use Rattle.ks_commit.proofs.Free.{none_then, not_fenced, has_tx, can_decide}
 use Rattle.ks_commit.proofs.Faith.{or_false, is_faithful, pending_now}
 use Rattle.ks_commit.proofs.Marking.{Decides, decide_decides}
-use Rattle.ks_commit.proofs.Entries.{later_setup, longer_both, commits_both, produce_none-append, new_state, one_commits}
+use Rattle.ks_commit.proofs.Entries.{later_setup, longer_both, commits_both, publishing_both, publishing_commit, markers_publish, new_state, one_commits}
 use Rattle.ks_commit.proofs.Ends.{each_ends}
 
 -- ---- works
@@ -192,7 +192,7 @@ module _ {W : Type 0} (plan : W → TaskPlan) (old sent : ClusterView W) (p q : 
         record {
           more = (sends.more ++ entry) ++ marked.more;
           is = longer_both old decided new (sends.more ++ entry) marked.more (longer_both old sent decided sends.more entry sends.is decides.journal) marked.is;
-          quiet = produce_none-append (sends.more ++ entry) marked.more (produce_none-append sends.more entry sends.quiet refl) marked.quiet;
+          publishing = publishing_both p.worker 1 0 (sends.more ++ entry) marked.more (publishing_both p.worker 0 1 sends.more entry sends.publishing (publishing_commit p.worker q.worker q.epoch reply same.0)) (subst (λ (w : ℕ). IsPublishing w 0 marked.more) same.0 (markers_publish q.worker marked.more marked.own));
           commits = λ t.
               commits_both plan old decided (sends.more ++ entry) marked.more t (longer_both old sent decided sends.more entry sends.is decides.journal)
               ∙ ap₂ (λ x y. x ++ y)

@@ -12,8 +12,10 @@ use Rattle.ks_history.specs.declared.transaction.Producer.{Producer}
 use Rattle.ks_history.specs.declared.transaction.Pending.{Pending}
 use Rattle.ks_history.specs.declared.partition.Slot.{Slot}
 use Rattle.ks_history.specs.Partition.{count_sent, is_none}
-use Rattle.ks_history.specs.State.{State, has_part, pending_of}
-use Rattle.ks_history.specs.Step.{or_else, fenced, markers_waiting, without_part, out_of_sequence, none_undecided, old_generation, owner, not_assigned, has_pending, unstable_from, unstable_beside, tx_of, pending_at, no_tx}
+use Rattle.ks_history.specs.State.{State, Setup, has_part, has_task, pending_of}
+use Rattle.ks_history.specs.Step.{or_else, fenced, markers_waiting, without_part, out_of_sequence, none_undecided, old_generation, owner, not_assigned, has_pending, unstable_from, unstable, unstable_beside, tx_of, pending_at, no_tx}
+use Rattle.ks_history.specs.Reads.{committed_refusal}
+use Rattle.ks_commit.specs.Alone.{IsAlone}
 
 pub none_then : (a b : Option Refused) → a ≡ None → b ≡ None → or_else a b ≡ None
 none_then a b e f = ap (λ o. or_else o b) e ∙ f
@@ -73,3 +75,13 @@ has_tx p t x is = by p.undecided refl is
 
 pub can_decide : (p : Producer) (tx : Transaction) → p.undecided ≡ Some tx → none_undecided p ≡ None
 can_decide p tx is = ap (λ (u : Option Transaction). elim u as (λ _. Option Refused) [ Some tx ↦ None | None ↦ elim p.last as (λ _. Option Refused) [ None ↦ Some NoTransaction | Some commit ↦ Some (AlreadyDecided commit) ] ]) is
+
+-- ---- what the publisher reads
+none_pending : (s : State) (t : TaskId) → ((v : ℕ) → (s.producer v).undecided ≡ None) → (v left : ℕ) → unstable_from s t (λ v. true) v left ≡ None
+none_pending s t idle v zero = refl
+none_pending s t idle v (suc left) = ap (λ b. cond b (Some (Unstable v)) (unstable_from s t (λ v. true) (v + 1) left)) (nothing_pending (s.producer v) t (idle v)) ∙ none_pending s t idle (v + 1) left
+
+pub can_read : (setup : Setup) (s : State) (w e g : ℕ) (t : TaskId) → IsAlone setup s w e g → has_task t setup.tasks ≡ true → committed_refusal s w g t ≡ None
+can_read setup s w e g t alone there =
+    none_then (old_generation s g) (or_else (not_assigned s w t) (unstable s t)) (now_generation s g alone.generation)
+    (none_then (not_assigned s w t) (unstable s t) (is_assigned s w t (alone.owns t there)) (none_pending s t (λ v. (alone.idle v).0) 0 17))

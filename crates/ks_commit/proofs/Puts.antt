@@ -1,7 +1,7 @@
 -- What a publisher sends, call by call.
 use Rattle.std.proofs.Common.{◌≡◌, ℕ, ◌+◌, ◌≤◌, ◌<◌, Bool, true, false, cond, ◌&&◌, ◌||◌, List, [], ◌∷◌, ◌++◌, length, Option, Some, None, refl, sym, ap, ap₂, subst, ◌∙◌, arith, append-nil, append_assoc, length-append, ⊎_elim, leb}
 use Rattle.std.specs.Prelude.{◌==◌, nat_le}
-use Rattle.std.proofs.lemmas.Bool.{and_parts, and_from, le-leb, true≢false}
+use Rattle.std.proofs.lemmas.Bool.{and_parts, and_from, eq-eqb, le-leb, true≢false}
 use Rattle.std.proofs.lemmas.Bool.Decides.{leb_tells}
 use Rattle.ks_row.specs.declared.record.Rec.{Rec}
 use Rattle.ks_row.specs.declared.record.PartId.{PartId}
@@ -88,7 +88,7 @@ module _ {W : Type 0} (plan : W → TaskPlan) (old new : ClusterView W) (p : Pub
 
   pub add_sends : (part : PartId) (reply : Reply) → AddsEntry plan old new (Add p.worker p.epoch part) reply → Sends plan old new p.worker (part ∷ []) [] []
   add_sends part reply a =
-      sends_one plan old new p.worker (part ∷ []) [] [] (Add p.worker p.epoch part) reply a (add_free part) refl (λ t. refl) (add_gains (state_of plan old) p.worker p.epoch part)
+      sends_one plan old new p.worker (part ∷ []) [] [] (Add p.worker p.epoch part) reply a (add_free part) (eq-eqb p.worker p.worker refl) refl (λ t. refl) (add_gains (state_of plan old) p.worker p.epoch part)
 
   pub offsets_free : (t : TaskId) (offsets order : List (ℕ × ℕ)) (late : ℕ) → has_task t (setup_of plan old).tasks ≡ true → refusal (setup_of plan old) (state_of plan old) (SendOffsets p.worker p.epoch p.generation t offsets order late) ≡ None
   offsets_free t offsets order late has =
@@ -104,7 +104,7 @@ module _ {W : Type 0} (plan : W → TaskPlan) (old new : ClusterView W) (p : Pub
       → Sends plan old new p.worker [] [] (record { task = t; offsets = offsets; order = order; late = late } ∷ [])
   offsets_sends t offsets order late reply has a =
       sends_one plan old new p.worker [] [] (record { task = t; offsets = offsets; order = order; late = late } ∷ []) (SendOffsets p.worker p.epoch p.generation t offsets order late) reply a (offsets_free t offsets order late has)
-      refl (λ t. refl) (offsets_gains (state_of plan old) p.worker p.epoch p.generation t offsets order late)
+      (eq-eqb p.worker p.worker refl) refl (λ t. refl) (offsets_gains (state_of plan old) p.worker p.epoch p.generation t offsets order late)
 
 -- ---- records that are put
 or_there : (a : Bool) → a || (true || false) ≡ true
@@ -136,7 +136,7 @@ module _ {W : Type 0} (plan : W → TaskPlan) (old mid : ClusterView W) (p : Pub
   put_sends new second b =
       sends_both plan old mid new p.worker (part ∷ []) [] [] ((t, part, rs) ∷ []) [] [] one
       (sends_one plan mid new p.worker [] ((t, part, rs) ∷ []) [] (Append p.worker p.epoch before t part rs) second b append_free
-      refl (λ t. refl) (append_gains (state_of plan mid) p.worker p.epoch before t part rs (sym epoch_is)))
+      (eq-eqb p.worker p.worker refl) refl (λ t. refl) (append_gains (state_of plan mid) p.worker p.epoch before t part rs (sym epoch_is)))
 
 pub put_counts : {W : Type 0} (plan : W → TaskPlan) (old new : ClusterView W) (p : Publisher) (adds : List PartId) (puts : List Put) → IsSending (setup_of plan old) (state_of plan old) p → Sends plan old new p.worker adds puts [] → (q : PartId) →
     count_sent p.worker p.epoch ((state_of plan new).partition q) ≡ count_sent p.worker p.epoch ((state_of plan old).partition q) + put_count q puts

@@ -131,14 +131,20 @@ module _ {W : Type 0} (plan : W → TaskPlan) (old first second new : ClusterVie
   three : state_of plan new ≡ effect (effect (effect (state_of plan old) (Init w)) (Join w)) (Assign w generation (everything w old.tasks))
   three = new_state plan second new (Assign w generation a) reply assign free ∙ ap₂ (λ (s : State) (b : Assignment). effect s (Assign w generation b)) two all
 
+  itself : (w == w) ≡ true
+  itself = eq-eqb w w refl
+
   joined : IsLonger old second ((record { request = Init w; reply = Number epoch } ∷ []) ++ (record { request = Join w; reply = Number generation } ∷ []))
   joined = longer_both old first second (record { request = Init w; reply = Number epoch } ∷ []) (record { request = Join w; reply = Number generation } ∷ []) init.journal join.journal
 
-  pub is_started : Started plan old new
+  pub is_started : Started plan old new w
   is_started = record {
     more = ((record { request = Init w; reply = Number epoch } ∷ []) ++ (record { request = Join w; reply = Number generation } ∷ [])) ++ (record { request = Assign w generation a; reply = reply } ∷ []);
     is = longer_both old second new ((record { request = Init w; reply = Number epoch } ∷ []) ++ (record { request = Join w; reply = Number generation } ∷ [])) (record { request = Assign w generation a; reply = reply } ∷ []) joined assign.journal;
-    quiet = refl;
+    publishing = record {
+      own = and_from (w == w) ((w == w) && ((w == w) && true)) itself (and_from (w == w) ((w == w) && true) itself (and_from (w == w) true itself refl));
+      commits = omega arith;
+    };
     commits = λ t.
         commits_both plan old second ((record { request = Init w; reply = Number epoch } ∷ []) ++ (record { request = Join w; reply = Number generation } ∷ [])) (record { request = Assign w generation a; reply = reply } ∷ []) t joined
         ∙ ap₂ (λ x y. x ++ y)

@@ -1,6 +1,8 @@
 -- One marker that is written, if one waits.
 use Rattle.std.proofs.Common.{◌≡◌, ℕ, ◌+◌, Bool, true, false, cond, List, [], ◌∷◌, length, Option, Some, None, refl, sym, ap, subst, ◌∙◌, arith}
 use Rattle.std.specs.Option.{is_some}
+use Rattle.std.specs.Prelude.{◌==◌}
+use Rattle.std.proofs.lemmas.Bool.{and_from, eq-eqb}
 use Rattle.ks_row.specs.declared.record.PartId.{PartId}
 use Rattle.ks_row.specs.declared.assignment.Marker.{Marker}
 use Rattle.ks_history.specs.declared.partition.Slot.TheVariants.{Mark}
@@ -15,7 +17,7 @@ use Rattle.ks_cluster.specs.View.{ClusterView, state_of, AddsEntry}
 use Rattle.ks_commit.specs.Sending.{Marks, Marked}
 use Rattle.ks_commit.proofs.Gaining.{at_it}
 use Rattle.ks_commit.proofs.Marking.{mark_marks, marks_nothing}
-use Rattle.ks_commit.proofs.Entries.{new_state, one_commits, one_quiet}
+use Rattle.ks_commit.proofs.Entries.{new_state, one_commits}
 
 record Moves (s new : State) (w : ℕ) (m : Option (PartId × Bool)) : Type 0 where
   marks : Marks s new w
@@ -63,7 +65,7 @@ mark_step plan old new w m a =
       marked = record {
         more = record { request = MarkNext w; reply = Told m } ∷ [];
         is = a.journal;
-        quiet = one_quiet (MarkNext w) (Told m) refl;
+        own = and_from (w == w) true (eq-eqb w w refl) refl;
         commits = λ t. one_commits plan old (MarkNext w) (Told m) t refl;
         marks = moves.marks;
       };

@@ -17,7 +17,7 @@ use Rattle.ks_commit.specs.declared.work.Frozen.{Frozen}
 use Rattle.ks_commit.specs.declared.publisher.Publisher.{Publisher}
 use Rattle.ks_commit.specs.Work.{work_view}
 use Rattle.ks_commit.specs.Alone.{IsAlone, IsNumbered}
-use Rattle.ks_commit.specs.Sending.{IsLonger, produce_none, pendings_of}
+use Rattle.ks_commit.specs.Sending.{IsLonger, IsPublishing, pendings_of}
 
 abbrev pub works_of : List Frozen → List WorkView
 works_of [] = []
@@ -104,22 +104,22 @@ abbrev pub ends_of_each : State → List (List PartId) → List (List (ℕ × �
 ends_of_each s [] = []
 ends_of_each s (own ∷ all) = ends_at s own ∷ ends_of_each s all
 
--- one transaction committed these works
+-- one transaction of the worker committed these works
 pub record Committed {W : Type 0} (plan : W → TaskPlan) (old new : ClusterView W) (w : ℕ) (fs : List WorkView) (told : List (List (ℕ × ℕ))) : Type 0 where
   pub more : List Entry
   pub is : IsLonger old new more
-  pub quiet : produce_none more ≡ true
+  pub publishing : IsPublishing w 1 more
   -- the one commit, by this worker, has of each task what its work leaves pending, and of no other task anything
   pub commits : (t : TaskId) → commits_for (setup_of plan old) (state_of plan old) more t ≡ commit_by w (pending_of t (pendings_of fs))
   pub others : (q : PartId) → names_in q fs ≡ false → (state_of plan new).partition q ≡ (state_of plan old).partition q
   pub committed : (t : TaskId) (topic : ℕ) → (state_of plan new).committed t topic ≡ committed_with (state_of plan old).committed (pendings_of fs) t topic
   pub ends : EachEnds (setup_of plan old) (state_of plan new) fs told
 
--- a worker has joined a cluster and has every task: nothing is produced, committed or put anywhere
-pub record Started {W : Type 0} (plan : W → TaskPlan) (old new : ClusterView W) : Type 0 where
+-- a worker has joined a cluster and has every task: nothing is committed or put anywhere
+pub record Started {W : Type 0} (plan : W → TaskPlan) (old new : ClusterView W) (w : ℕ) : Type 0 where
   pub more : List Entry
   pub is : IsLonger old new more
-  pub quiet : produce_none more ≡ true
+  pub publishing : IsPublishing w 0 more
   pub commits : (t : TaskId) → commits_for (setup_of plan old) (state_of plan old) more t ≡ []
   pub partition : (state_of plan new).partition ≡ (state_of plan old).partition
   pub committed : (state_of plan new).committed ≡ (state_of plan old).committed

@@ -1,5 +1,5 @@
 -- What a producer's requests add to a transaction that isn't decided yet (KIP-98).
-use Rattle.std.specs.Prelude.{◌≡◌, ℕ, ◌+◌, ◌==◌, ◌&&◌, ◌||◌, Bool, true, false, if◌then◌else◌, Option, Some, List, [], ◌∷◌, ◌++◌, length}
+use Rattle.std.specs.Prelude.{◌≡◌, ℕ, ◌+◌, ◌≤◌, ◌==◌, ◌&&◌, ◌||◌, Bool, true, false, if◌then◌else◌, Option, Some, List, [], ◌∷◌, ◌++◌, length}
 use Rattle.ks_row.specs.declared.record.Rec.{Rec}
 use Rattle.ks_row.specs.declared.record.PartId.{PartId}
 use Rattle.ks_row.specs.declared.record.TaskId.{TaskId}
@@ -8,7 +8,7 @@ use Rattle.ks_row.specs.Parts.{same_part, same_task}
 use Rattle.ks_history.specs.declared.partition.Slot.{Slot}
 use Rattle.ks_history.specs.declared.partition.Slot.TheVariants.{Plain, Sent, Mark}
 use Rattle.ks_history.specs.declared.journal.Request.{Request}
-use Rattle.ks_history.specs.declared.journal.Request.TheVariants.{Produce}
+use Rattle.ks_history.specs.declared.journal.Request.TheVariants.{Produce, Init, Join, Assign, Add, Append, SendOffsets, Decide, MarkNext}
 use Rattle.ks_history.specs.declared.journal.Entry.{Entry}
 use Rattle.ks_history.specs.declared.transaction.Pending.{Pending}
 use Rattle.ks_history.specs.Partition.{recs, open_from, count_sent}
@@ -77,21 +77,52 @@ abbrev pub produce_none : List Entry → Bool
 produce_none [] = true
 produce_none (entry ∷ entries) = if is_produce entry.request then false else produce_none entries
 
+-- a request by which this worker publishes: it begins an epoch, joins the group and assigns; it sends, decides to commit, and writes
+-- its markers
+abbrev pub publishes : ℕ → Request → Bool
+publishes w (Init v) = v == w
+publishes w (Join v) = v == w
+publishes w (Assign v g a) = v == w
+publishes w (Add v e p) = v == w
+publishes w (Append v e number t p recs) = v == w
+publishes w (SendOffsets v e g t offsets order late) = v == w
+publishes w (Decide v e commit) = (v == w) && commit
+publishes w (MarkNext v) = v == w
+publishes w _ = false
+
+abbrev pub all_publish : ℕ → List Entry → Bool
+all_publish w [] = true
+all_publish w (entry ∷ entries) = publishes w entry.request && all_publish w entries
+
+abbrev pub decides_commit : Request → Bool
+decides_commit (Decide w e commit) = commit
+decides_commit _ = false
+
+-- how many of these entries decide to commit
+abbrev pub count_commits : List Entry → ℕ
+count_commits [] = 0
+count_commits (entry ∷ entries) = if decides_commit entry.request then count_commits entries + 1 else count_commits entries
+
+-- entries by which a worker publishes, of which at most so many decide to commit
+pub record IsPublishing (w most : ℕ) (entries : List Entry) : Type 0 where
+  pub own : all_publish w entries ≡ true
+  pub commits : count_commits entries ≤ most
+
 -- the journal is longer, and all else of the cluster is the same
 abbrev pub IsLonger : {W : Type 0} → ClusterView W → ClusterView W → List Entry → Type 0
 IsLonger old new more = new ≡ record old { journal = old.journal ++ more }
 
--- the journal is longer, with no further input; all else is the same
-pub record Longer {W : Type 0} (old new : ClusterView W) : Type 0 where
+-- the journal is longer by entries by which a worker publishes, of which at most so many decide to commit; all else is the same
+pub record Longer {W : Type 0} (w most : ℕ) (old new : ClusterView W) : Type 0 where
   pub more : List Entry
   pub is : IsLonger old new more
-  pub quiet : produce_none more ≡ true
+  pub publishing : IsPublishing w most more
 
--- the cluster gained this, and neither is anything produced nor committed
+-- the cluster gained this by entries of the worker, and nothing is committed
 pub record Sends {W : Type 0} (plan : W → TaskPlan) (old new : ClusterView W) (w : ℕ) (adds : List PartId) (puts : List Put) (ps : List Pending) : Type 0 where
   pub more : List Entry
   pub is : IsLonger old new more
-  pub quiet : produce_none more ≡ true
+  pub publishing : IsPublishing w 0 more
   pub commits : (t : TaskId) → commits_for (setup_of plan old) (state_of plan old) more t ≡ []
   pub gains : Gains (state_of plan old) (state_of plan new) w adds puts ps
 
@@ -133,9 +164,18 @@ pub record Marks (s new : State) (w : ℕ) : Type 0 where
   pub partition : (q : PartId) → marks_part q (s.producer w).waiting ≡ false → new.partition q ≡ s.partition q
   pub waiting : (q : PartId) → marks_part q (s.producer w).waiting ≡ false → marks_part q (new.producer w).waiting ≡ false
 
+-- these entries write markers of the producer, and nothing else
+abbrev pub writes_marker : ℕ → Request → Bool
+writes_marker w (MarkNext v) = v == w
+writes_marker w _ = false
+
+abbrev pub all_markers : ℕ → List Entry → Bool
+all_markers w [] = true
+all_markers w (entry ∷ entries) = writes_marker w entry.request && all_markers w entries
+
 pub record Marked {W : Type 0} (plan : W → TaskPlan) (old new : ClusterView W) (w : ℕ) : Type 0 where
   pub more : List Entry
   pub is : IsLonger old new more
-  pub quiet : produce_none more ≡ true
+  pub own : all_markers w more ≡ true
   pub commits : (t : TaskId) → commits_for (setup_of plan old) (state_of plan old) more t ≡ []
   pub marks : Marks (state_of plan old) (state_of plan new) w

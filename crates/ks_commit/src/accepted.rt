@@ -1,5 +1,7 @@
 //! Requests that aren't refused.
-ghost use Rattle.std.specs.Prelude.{◌≡◌, true, None, OnOk, IfOk, OnErr};
+ghost use Rattle.std.specs.Prelude.{◌≡◌, ◌≤◌, true, None, OnOk, IfOk, OnErr};
+ghost use Rattle.ks_history.specs.State.{has_task};
+ghost use Rattle.ks_history.specs.Reads.{committed_refusal, committed_offsets};
 ghost use Rattle.ks_history.specs.declared.journal.Request.TheVariants.{Add, Append, SendOffsets, Decide, Assign};
 ghost use Rattle.ks_history.specs.declared.journal.Reply.TheVariants.{Done, Number, Truth};
 ghost use Rattle.ks_history.specs.Step.{refusal};
@@ -108,6 +110,25 @@ pub fn assign<W: Work>(
 {
     match cluster.assign(alloc, w, generation, a)? {
         Ok(first) => Ok(first),
+        Err(_) => unreachable!(),
+    }
+}
+
+/// The committed offset of each input of a task, in the order of its inputs.
+pub fn committed<W: Work>(
+    alloc: Global,
+    cluster: &Cluster<W>,
+    w: u8,
+    generation: u64,
+    task: TaskId,
+) -> Result<Vec<(u16, u64)>, AllocError>
+    requires worker { w ≤ 16 }
+    requires task { has_task task (setup_of W.plan cluster.now).tasks ≡ true }
+    requires free { committed_refusal (state_of W.plan cluster.now) w generation task ≡ None }
+    ensures { IfOk result (λ v. v.items ≡ committed_offsets (setup_of W.plan cluster.now) (state_of W.plan cluster.now) task) }
+{
+    match cluster.committed(alloc, w, generation, task)? {
+        Ok(offsets) => Ok(offsets),
         Err(_) => unreachable!(),
     }
 }

@@ -93,7 +93,7 @@ pub fn commit<W: Work>(
     ensures committed { IfOk result (λ ends. Committed W.plan cluster.old cluster.new publisher.old.worker (works_of works.items) ends.items) }
     ensures ready { OnOk result (IsReady (setup_of W.plan cluster.new) (state_of W.plan cluster.new) publisher.new) }
     ensures same { OnOk result (IsSame publisher.old publisher.new) }
-    ensures err { OnErr result (Longer cluster.old cluster.new) }
+    ensures err { OnErr result (Longer publisher.old.worker 1 cluster.old cluster.new) }
 {
     let _before = cluster.journal();
     let own = all_own(alloc, works.as_slice())?;

@@ -11,5 +11,6 @@ mod sending;
 mod work;
 
 pub use committing::commit;
+pub use markers::write_markers;
 pub use publisher::Publisher;
 pub use work::Frozen;

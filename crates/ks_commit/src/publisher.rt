@@ -1,14 +1,15 @@
 //! A worker that publishes.
 ghost use Rattle.std.specs.Prelude.{◌≡◌, ℕ, ◌≤◌, true, IfOk, OnErr};
 ghost use Rattle.ks_history.specs.Machine.{IsNetwork};
-ghost use Rattle.ks_history.specs.State.{are_once};
+ghost use Rattle.ks_history.specs.State.{are_once, has_task};
+ghost use Rattle.ks_history.specs.Reads.{committed_offsets};
 ghost use Rattle.ks_cluster.specs.View.{setup_of, state_of};
 ghost use Rattle.ks_commit.specs.Alone.{IsIdle};
 ghost use Rattle.ks_commit.specs.Committed.{IsReady, Started};
 ghost use Rattle.ks_commit.specs.Sending.{Longer};
 ghost use Rattle.ks_commit.specs.Everything.{everything};
 
-use crate::accepted::assign;
+use crate::accepted::{assign, committed};
 use ks_cluster::{Cluster, Work};
 use ks_row::{Assignment, PartId, Seq, TaskId};
 use std::alloc::{AllocError, Global};
@@ -52,8 +53,8 @@ impl Publisher {
         requires once { are_once cluster.old.tasks ≡ true }
         ensures ready { IfOk result (λ p. IsReady (setup_of W.plan cluster.new) (state_of W.plan cluster.new) p) }
         ensures worker { IfOk result (λ p. p.worker ≡ worker) }
-        ensures started { IfOk result (λ p. Started W.plan cluster.old cluster.new) }
-        ensures err { OnErr result (Longer cluster.old cluster.new) }
+        ensures started { IfOk result (λ p. Started W.plan cluster.old cluster.new worker) }
+        ensures err { OnErr result (Longer worker 0 cluster.old cluster.new) }
     {
         let _journal = cluster.journal();
         let epoch = cluster.init(alloc, worker)?;
@@ -66,5 +67,19 @@ impl Publisher {
             generation,
             numbers: Vec::new(alloc),
         })
+    }
+
+    /// The committed offset of each input of a task, in the order of its inputs, as the worker that has every task is told them.
+    pub fn committed<W: Work>(
+        &self,
+        alloc: Global,
+        cluster: &Cluster<W>,
+        task: TaskId,
+    ) -> Result<Vec<(u16, u64)>, AllocError>
+        requires ready { IsReady (setup_of W.plan cluster.now) (state_of W.plan cluster.now) self.now }
+        requires task { has_task task cluster.now.tasks ≡ true }
+        ensures { IfOk result (λ v. v.items ≡ committed_offsets (setup_of W.plan cluster.now) (state_of W.plan cluster.now) task) }
+    {
+        committed(alloc, cluster, self.worker, self.generation, task)
     }
 }

@@ -31,7 +31,7 @@ fn put<W: Work>(
     ensures sends { OnOk result (Sends W.plan cluster.old cluster.new publisher.old.worker (part ∷ []) ((task, part, recs.now) ∷ []) []) }
     ensures sending { OnOk result (IsSending (setup_of W.plan cluster.new) (state_of W.plan cluster.new) publisher.new) }
     ensures same { OnOk result (IsSame publisher.old publisher.new) }
-    ensures err { OnErr result (Longer cluster.old cluster.new) }
+    ensures err { OnErr result (Longer publisher.old.worker 0 cluster.old cluster.new) }
 {
     let (worker, epoch) = (publisher.worker, publisher.epoch);
     let before = number(publisher.numbers.as_slice(), part);
@@ -60,7 +60,7 @@ fn put_all<W: Work>(
     ensures sends { OnOk result (Sends W.plan cluster.old cluster.new publisher.old.worker (adds_in outputs.items) (puts_in task outputs.items) []) }
     ensures sending { OnOk result (IsSending (setup_of W.plan cluster.new) (state_of W.plan cluster.new) publisher.new) }
     ensures same { OnOk result (IsSame publisher.old publisher.new) }
-    ensures err { OnErr result (Longer cluster.old cluster.new) }
+    ensures err { OnErr result (Longer publisher.old.worker 0 cluster.old cluster.new) }
 {
     for out in outputs {
         put(alloc, cluster, publisher, task, out.0, out.1.as_slice())?;
@@ -80,7 +80,7 @@ fn send<W: Work>(
     ensures sends { OnOk result (Sends W.plan cluster.old cluster.new publisher.old.worker (adds_in work.outputs) (puts_in work.task work.outputs) (pending_work (work_view work) ∷ [])) }
     ensures sending { OnOk result (IsSending (setup_of W.plan cluster.new) (state_of W.plan cluster.new) publisher.new) }
     ensures same { OnOk result (IsSame publisher.old publisher.new) }
-    ensures err { OnErr result (Longer cluster.old cluster.new) }
+    ensures err { OnErr result (Longer publisher.old.worker 0 cluster.old cluster.new) }
 {
     let Frozen {
         task,
@@ -116,7 +116,7 @@ pub fn send_all<W: Work>(
     ensures sends { OnOk result (Sends W.plan cluster.old cluster.new publisher.old.worker (adds_of (works_of works.items)) (puts_of (works_of works.items)) (pendings_of (works_of works.items))) }
     ensures sending { OnOk result (IsSending (setup_of W.plan cluster.new) (state_of W.plan cluster.new) publisher.new) }
     ensures same { OnOk result (IsSame publisher.old publisher.new) }
-    ensures err { OnErr result (Longer cluster.old cluster.new) }
+    ensures err { OnErr result (Longer publisher.old.worker 0 cluster.old cluster.new) }
 {
     for work in works {
         send(alloc, cluster, publisher, work)?;

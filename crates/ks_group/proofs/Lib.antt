@@ -1,2 +1,1 @@
-pub mod Parked
-pub mod Commits
+pub mod Each

@@ -1,12 +1,30 @@
--- The group's part of the refusals, each over what it needs.
-use Rattle.std.specs.Prelude.{ℕ, ◌==◌, ◌&&◌, ◌||◌, Bool, false, if◌then◌else◌, Option, Some, None, List, [], ◌∷◌}
-use Rattle.ks_row.specs.Parts.{same_task}
+-- A group as contracts see it, and its part of the refusals and of what requests do.
+use Rattle.std.specs.Prelude.{ℕ, ◌+◌, ◌==◌, if◌then◌else◌, Bool, Option, Some, None, List, [], get_or, set, map}
 use Rattle.ks_row.specs.declared.record.TaskId.{TaskId}
 use Rattle.ks_row.specs.declared.assignment.Assignment.{Assignment}
 use Rattle.ks_row.specs.declared.assignment.Refused.{Refused}
 use Rattle.ks_row.specs.declared.assignment.Refused.TheVariants.{OldGeneration, NotAssigned}
-use Rattle.ks_history.specs.Step.{place_in}
+use Rattle.ks_history.specs.declared.transaction.Pending.{Pending}
+use Rattle.ks_history.specs.State.{without_number, with_pending}
+use Rattle.ks_history.specs.Step.{or_else, place_in, bad_assignment, with_late}
+use Rattle.ks_group.specs.Committed.{row_with}
+use Rattle.ks_group.specs.Pending.{unstable_in, counts_for}
 
+-- lists of a worker or a producer each stand at its number
+pub record GroupView : Type 0 where
+  pub tasks : List TaskId
+  pub generation : ℕ
+  pub members : List ℕ
+  pub assignment : Option Assignment
+  pub held : List (List (TaskId × ℕ))
+  pub pending : List (List Pending)
+  pub offsets : List (TaskId × List (ℕ × ℕ))
+  pub late : ℕ
+
+abbrev pub pending_in : GroupView → ℕ → List Pending
+pending_in g w = get_or g.pending w []
+
+-- ---- refusals (KIP-447)
 -- the generation isn't the present one
 abbrev pub generation_fault : ℕ → ℕ → Option Refused
 generation_fault now g = if g == now then None else Some (OldGeneration now)
@@ -18,12 +36,36 @@ owner_at assignment members t = elim assignment [ None ↦ None | Some a ↦ pla
 abbrev pub owner_fault : Option ℕ → ℕ → Option Refused
 owner_fault owner w = elim owner [ None ↦ Some (NotAssigned None) | Some v ↦ if v == w then None else Some (NotAssigned (Some v)) ]
 
--- a task is parked at an instance
-abbrev pub is_parked_in : ℕ → TaskId → List (ℕ × TaskId) → Bool
-is_parked_in i t [] = false
-is_parked_in i t (pair ∷ pairs) = ((i == pair.0) && same_task t pair.1) || is_parked_in i t pairs
+-- a worker may not speak for a task
+abbrev pub speak_fault : GroupView → ℕ → ℕ → TaskId → Option Refused
+speak_fault g w generation t = or_else (generation_fault g.generation generation) (owner_fault (owner_at g.assignment g.members t) w)
 
--- without a task at an instance
-abbrev pub unparked_in : ℕ → TaskId → List (ℕ × TaskId) → List (ℕ × TaskId)
-unparked_in i t [] = []
-unparked_in i t (pair ∷ pairs) = if (i == pair.0) && same_task t pair.1 then unparked_in i t pairs else pair ∷ unparked_in i t pairs
+-- committed offsets of a task may not be read
+abbrev pub committed_fault : GroupView → ℕ → ℕ → TaskId → Option Refused
+committed_fault g w generation t = or_else (speak_fault g w generation t) (unstable_in t (counts_for None) 0 g.pending)
+
+abbrev pub assign_fault : GroupView → ℕ → Assignment → Option Refused
+assign_fault g generation a = or_else (generation_fault g.generation generation) (bad_assignment g.tasks g.members a.active)
+
+-- ---- what requests leave
+-- the next generation, without an assignment
+abbrev pub next_generation : GroupView → GroupView
+next_generation g = record g { generation = g.generation + 1; assignment = None }
+
+abbrev pub expired : GroupView → ℕ → GroupView
+expired g w = record (next_generation g) { members = without_number w g.members; held = set g.held w [] }
+
+-- with this assignment, unless it has one
+abbrev pub assigned : GroupView → Assignment → GroupView
+assigned g a = elim g.assignment [ None ↦ record g { assignment = Some a } | Some b ↦ g ]
+
+abbrev pub pended : GroupView → ℕ → Pending → GroupView
+pended g w new = record g { pending = set g.pending w (with_pending new (pending_in g w)) }
+
+-- a producer's pending offsets are committed or dropped
+abbrev pub resolved : GroupView → ℕ → Bool → GroupView
+resolved g w commit = record g {
+  pending = set g.pending w [];
+  offsets = if commit then map (row_with (pending_in g w)) g.offsets else g.offsets;
+  late = if commit then with_late g.late (pending_in g w) else g.late;
+}

@@ -1,2 +1,4 @@
 pub mod Committed
 pub mod Group
+pub mod Pending
+pub mod New

@@ -1,39 +1,56 @@
-//! The group: its members, where the tasks stand, and what was committed.
-ghost use Rattle.std.specs.Prelude.{◌≡◌, ◌++◌, ◌+◌, ◌<◌, ◌≤◌, ◌∷◌, [], IfOk, OnErr, None, Some, length, map, replicate};
-ghost use Rattle.ks_history.specs.State.{has_number, insert_number, without_number};
+//! The group: its members, where the tasks stand, what is pending, and what was committed.
+ghost use Rattle.std.specs.Prelude.{◌≡◌, ◌++◌, ◌+◌, ◌-◌, ◌<◌, ◌≤◌, ◌^◌, ◌∷◌, [], IfOk, OnOk, OnErr, None, Some, length, map, replicate, set, option_copied};
+ghost use Rattle.ks_history.specs.Partition.{is_none};
+ghost use Rattle.ks_history.specs.State.{has_number, insert_number, without_number, offset_in};
 ghost use Rattle.ks_history.specs.Step.{or_else, is_place, place_in, places_of, badly_placed, bad_assignment};
-ghost use Rattle.ks_group.specs.Committed.{offset_after};
-ghost use Rattle.ks_group.specs.Group.{generation_fault, owner_at, owner_fault, is_parked_in, unparked_in};
+ghost use Rattle.ks_group.specs.Committed.{offsets_of};
+ghost use Rattle.ks_group.specs.Pending.{counts_for, unstable_in};
+ghost use Rattle.ks_group.specs.Group.{generation_fault, owner_at, owner_fault, speak_fault, committed_fault, assign_fault, next_generation, expired, assigned, pended, resolved};
+ghost use Rattle.ks_group.specs.New.{new_group, Refuses};
 
-use crate::committed::offset_with;
+use crate::committed::{TaskInputs, TaskOffsets, commit_rows, new_rows, offset_of, offsets_in};
+use crate::pending::{late_with, unstable_refusal, with_one_pending};
 use ks_history::Pending;
 use ks_row::{Assignment, Refused, Seq, TaskId};
 use std::alloc::{AllocError, Global};
+use std::marker::Model;
+use std::mem;
 
-/// The group of the workers, and what their tasks committed. Its fields are plain data: any values are a group, and each
-/// function says what it makes of them.
+/// The group of the workers, what their producers have pending, and what was committed (in Kafka: the group coordinator). In
+/// all calls a worker or producer `w` is at most 16. It is seen as a record of lists.
 #[derive(Drop)]
 pub struct Group {
     /// All tasks, of which an assignment makes each active at exactly one member.
-    pub tasks: Vec<TaskId>,
+    tasks: Vec<TaskId>,
     /// The number of the present generation.
-    pub generation: u64,
-    /// The workers in the group, rising where all came by `join`.
-    pub members: Seq<u8>,
+    generation: u64,
+    /// The workers in the group, rising.
+    members: Seq<u8>,
     /// Where the tasks stand in this generation; none until one is given.
-    pub assignment: Option<Assignment>,
-    /// What was pending at each commit, in order.
-    pub commits: Seq<Seq<Pending>>,
-    /// The committed late total.
-    pub late: u64,
+    assignment: Option<Assignment>,
     /// Of each worker, 0 to 16, the positions that it holds.
-    pub held: Vec<Seq<(TaskId, u64)>>,
-    /// The parked pairs of an instance and a task; a pair may stand twice.
-    pub parked: Seq<(u8, TaskId)>,
+    held: Vec<Seq<(TaskId, u64)>>,
+    /// Of each producer, 0 to 16, the offsets that are pending in its undecided transaction.
+    pending: Vec<Seq<Pending>>,
+    /// Of each task the committed offsets.
+    offsets: Vec<TaskOffsets>,
+    /// The committed late total.
+    late: u64,
+}
+
+impl Model for Group {
+    ghost use Rattle.std.specs.Prelude.{◌≡◌, length};
+    ghost use Rattle.ks_group.specs.Group.{GroupView};
+
+    ghost Value = { GroupView };
+
+    ghost view = { λ g. record { tasks = g.tasks.items; generation = g.generation; members = g.members; assignment = g.assignment; held = g.held.items; pending = g.pending.items; offsets = g.offsets.items; late = g.late } };
+
+    ghost invariant = { λ g. (length g.held.items ≡ 17) × (length g.pending.items ≡ 17) };
 }
 
 /// Whether a worker is among members.
-pub fn is_member(members: &[u8], w: u8) -> bool
+fn is_member(members: &[u8], w: u8) -> bool
     ensures { result ≡ has_number w members.now }
 {
     for m in members {
@@ -65,8 +82,8 @@ fn with_member(alloc: Global, members: &[u8], w: u8) -> Result<Vec<u8>, AllocErr
     Ok(made)
 }
 
-/// Members without one, in their order; all of them where it isn't among them. Want of memory for the list is the one error.
-pub fn without_member(alloc: Global, members: &[u8], w: u8) -> Result<Vec<u8>, AllocError>
+/// Members without one, in their order.
+fn without_member(alloc: Global, members: &[u8], w: u8) -> Result<Vec<u8>, AllocError>
     ensures { IfOk result (λ made. made.items ≡ without_number w members.now) }
 {
     let mut made = Vec::new(alloc);
@@ -95,37 +112,6 @@ pub fn copy_held(alloc: Global, held: &[(TaskId, u64)]) -> Result<Vec<(TaskId, u
 {
     let mut made = Vec::new(alloc);
     made.extend_from_slice(held)?;
-    Ok(made)
-}
-
-/// Whether a task is parked at an instance: whether the two stand together among parked pairs.
-pub fn is_parked(parked: &[(u8, TaskId)], instance: u8, task: TaskId) -> bool
-    ensures { result ≡ is_parked_in instance task parked.now }
-{
-    for pair in parked {
-        if instance == pair.0 && task.is(pair.1) {
-            return true;
-        }
-    }
-    false
-}
-
-/// Parked pairs without one, wherever and however often it stands; the others stay in their order. Want of memory for the
-/// list is the one error.
-pub fn without_parked(
-    alloc: Global,
-    parked: &[(u8, TaskId)],
-    instance: u8,
-    task: TaskId,
-) -> Result<Vec<(u8, TaskId)>, AllocError>
-    ensures { IfOk result (λ made. made.items ≡ unparked_in instance task parked.now) }
-{
-    let mut made = Vec::new(alloc);
-    for pair in parked {
-        if !(instance == pair.0 && task.is(pair.1)) {
-            made.push(*pair)?;
-        }
-    }
     Ok(made)
 }
 
@@ -199,28 +185,105 @@ pub fn copy_assignment(alloc: Global, a: &Assignment) -> Result<Assignment, Allo
     })
 }
 
+/// Seventeen producers of which nothing is pending.
+fn none_pending(alloc: Global) -> Result<Vec<Seq<Pending>>, AllocError>
+    ensures { IfOk result (λ made. made.items ≡ replicate 17 []) }
+{
+    let mut made = Vec::new(alloc);
+    for _ in 0..17usize {
+        made.push(Seq::new(alloc))?;
+    }
+    Ok(made)
+}
+
+/// The tasks alone.
+fn tasks_of(alloc: Global, tasks: &[TaskInputs]) -> Result<Vec<TaskId>, AllocError>
+    ensures { IfOk result (λ made. made.items ≡ map (λ t. t.task) tasks.now) }
+{
+    let mut made = Vec::new(alloc);
+    for one in tasks {
+        made.push(one.task)?;
+    }
+    Ok(made)
+}
+
 impl Group {
-    /// A group of these tasks at generation 0, without members, assignment, commits and parked tasks, in which none of
-    /// seventeen workers holds a position. Want of memory is the one error.
-    pub fn new(alloc: Global, tasks: Vec<TaskId>) -> Result<Group, AllocError>
-        ensures group { IfOk result (λ g. g ≡ record { tasks = tasks; generation = 0; members = []; assignment = None; commits = []; late = 0; held = g.held; parked = [] }) }
-        ensures held { IfOk result (λ g. g.held.items ≡ replicate 17 []) }
+    /// A group of these tasks at generation 0, without members and assignment, of which nothing is committed, held or pending;
+    /// it has the room for all committed offsets. Want of memory is the one error.
+    pub fn new(alloc: Global, tasks: &[TaskInputs]) -> Result<Group, AllocError>
+        ensures { IfOk result (λ g. g ≡ new_group tasks.now) }
     {
-        let held = none_held(alloc)?;
         Ok(Group {
-            tasks,
+            tasks: tasks_of(alloc, tasks)?,
             generation: 0,
             members: Seq::new(alloc),
             assignment: None,
-            commits: Seq::new(alloc),
+            held: none_held(alloc)?,
+            pending: none_pending(alloc)?,
+            offsets: new_rows(alloc, tasks)?,
             late: 0,
-            held,
-            parked: Seq::new(alloc),
         })
     }
 
+    /// All tasks.
+    pub fn tasks(&self) -> &[TaskId]
+        ensures { result.now ≡ self.now.tasks }
+    {
+        self.tasks.as_slice()
+    }
+
+    /// The number of the present generation.
+    pub fn generation(&self) -> u64
+        ensures { result ≡ self.now.generation }
+    {
+        self.generation
+    }
+
+    /// The members, in the order in which the group has them.
+    pub fn members(&self) -> &[u8]
+        ensures { result.now ≡ self.now.members }
+    {
+        self.members.as_slice()
+    }
+
+    /// Where the tasks stand, if the generation has an assignment.
+    pub fn assignment(&self) -> Option<&Assignment>
+        ensures { option_copied result ≡ self.now.assignment }
+    {
+        self.assignment.as_ref()
+    }
+
+    /// Of each worker, 0 to 16, the positions that it holds.
+    pub fn held(&self) -> &[Seq<(TaskId, u64)>]
+        ensures value { result.now ≡ self.now.held }
+        ensures count { length result.now ≡ 17 }
+    {
+        self.held.as_slice()
+    }
+
+    /// The committed late total.
+    pub fn late(&self) -> u64
+        ensures { result ≡ self.now.late }
+    {
+        self.late
+    }
+
+    /// The committed offset of a task's input; 0 where the task has no such input. Kafka: a consumer group's committed offset.
+    pub fn offset(&self, task: TaskId, topic: u16) -> u64
+        ensures { result ≡ offset_in 0 topic (offsets_of task self.now.offsets) }
+    {
+        offset_of(self.offsets.as_slice(), task, topic)
+    }
+
+    /// Whether a worker is a member.
+    pub fn has_member(&self, w: u8) -> bool
+        ensures { result ≡ has_number w self.now.members }
+    {
+        is_member(self.members.as_slice(), w)
+    }
+
     /// Why a request of a generation is refused: OldGeneration, with the present one, where it names another; else none.
-    pub fn generation_refusal(&self, generation: u64) -> Option<Refused>
+    fn generation_refusal(&self, generation: u64) -> Option<Refused>
         ensures { result ≡ generation_fault self.now.generation generation }
     {
         if generation == self.generation {
@@ -242,12 +305,15 @@ impl Group {
         }
     }
 
-    /// Why a worker may not speak for a task: NotAssigned, with the member at which the task is active, or none where it is
-    /// active at no member or nothing is assigned. None where it is active at this worker. Of several members at which a task
-    /// is active the first in `active` counts.
-    pub fn owner_refusal(&self, w: u8, task: TaskId) -> Option<Refused>
-        ensures { result ≡ owner_fault (owner_at self.now.assignment self.now.members task) w }
+    /// Why a worker may not speak for a task: OldGeneration where the generation isn't the present one; NotAssigned, with the
+    /// member at which the task is active, or none where it is active at no member or nothing is assigned. None where it is active
+    /// at this worker. Of several members at which a task is active the first in `active` counts.
+    pub fn speak_refusal(&self, w: u8, generation: u64, task: TaskId) -> Option<Refused>
+        ensures { result ≡ speak_fault self.now w generation task }
     {
+        if let Some(refused) = self.generation_refusal(generation) {
+            return Some(refused);
+        }
         match self.owner(task) {
             None => Some(Refused::NotAssigned { owner: None }),
             Some(v) => {
@@ -260,10 +326,108 @@ impl Group {
         }
     }
 
+    /// Why a task's offsets may not be sent beside others: Unstable, with the least other producer that has some pending for it.
+    pub fn unstable_refusal(&self, w: u8, task: TaskId) -> Option<Refused>
+        ensures { result ≡ unstable_in task (counts_for (Some w)) 0 self.now.pending }
+    {
+        unstable_refusal(self.pending.as_slice(), task, Some(w))
+    }
+
+    /// Why committed offsets may not be read.
+    fn committed_refusal(&self, w: u8, generation: u64, task: TaskId) -> Option<Refused>
+        ensures { result ≡ committed_fault self.now w generation task }
+    {
+        if let Some(refused) = self.speak_refusal(w, generation, task) {
+            return Some(refused);
+        }
+        unstable_refusal(self.pending.as_slice(), task, None)
+    }
+
+    /// The committed offset of each input of a task, in the order of its inputs. Refused: OldGeneration, NotAssigned, then Unstable
+    /// with the least producer that has offsets pending for the task. Want of memory for the list is the outer error.
+    pub fn committed(
+        &self,
+        alloc: Global,
+        w: u8,
+        generation: u64,
+        task: TaskId,
+    ) -> Result<Result<Vec<(u16, u64)>, Refused>, AllocError>
+        ensures offsets { IfOk result (λ r. IfOk r (λ v. v.items ≡ offsets_of task self.now.offsets)) }
+        ensures refused { IfOk result (λ r. Refuses (committed_fault self.now w generation task) r) }
+    {
+        if let Some(refused) = self.committed_refusal(w, generation, task) {
+            return Ok(Err(refused));
+        }
+        let mut made = Vec::new(alloc);
+        made.extend_from_slice(offsets_in(self.offsets.as_slice(), task))?;
+        Ok(Ok(made))
+    }
+
+    /// Begins the next generation, without an assignment.
+    fn begin_generation(&mut self)
+        requires { self.old.generation < 2 ^ 64 - 1 }
+        ensures { self.new ≡ next_generation self.old }
+    {
+        self.generation += 1;
+        self.assignment = None;
+    }
+
+    /// Takes a worker into the group, at its place among members that rise, if it isn't among them, and answers the new
+    /// generation, which is one more and has no assignment. Want of memory is the one error; after it the group is as before.
+    pub fn join(&mut self, alloc: Global, w: u8) -> Result<u64, AllocError>
+        requires { self.old.generation < 2 ^ 64 - 1 }
+        ensures generation { IfOk result (λ n. n ≡ self.old.generation + 1) }
+        ensures ok { OnOk result (self.new ≡ record (next_generation self.old) { members = insert_number w self.old.members }) }
+        ensures err { OnErr result (self.new ≡ self.old) }
+    {
+        let members = with_member(alloc, self.members.as_slice(), w)?;
+        self.members = Seq::of(members);
+        self.begin_generation();
+        Ok(self.generation)
+    }
+
+    /// Takes a worker and its held positions out of the group, whose next generation has no assignment. Want of memory is the one
+    /// error; after it the group is as before.
+    pub fn expire(&mut self, alloc: Global, w: u8) -> Result<(), AllocError>
+        requires worker { w ≤ 16 }
+        requires below { self.old.generation < 2 ^ 64 - 1 }
+        ensures ok { OnOk result (self.new ≡ expired self.old w) }
+        ensures err { OnErr result (self.new ≡ self.old) }
+    {
+        let members = without_member(alloc, self.members.as_slice(), w)?;
+        self.members = Seq::of(members);
+        self.held[w as usize] = Seq::new(alloc);
+        self.begin_generation();
+        Ok(())
+    }
+
+    /// Replaces the positions that a worker holds.
+    pub fn hold(&mut self, w: u8, held: Vec<(TaskId, u64)>)
+        requires { w ≤ 16 }
+        ensures { self.new ≡ record self.old { held = set self.old.held w held.items } }
+    {
+        self.held[w as usize] = Seq::of(held);
+    }
+
+    /// Begins the next generation, without an assignment, and answers it. Refused: OldGeneration; then the group is as before.
+    pub fn probe(&mut self, generation: u64) -> Result<u64, Refused>
+        requires { self.old.generation < 2 ^ 64 - 1 }
+        ensures refused { Refuses (generation_fault self.old.generation generation) result }
+        ensures generation { IfOk result (λ n. n ≡ self.old.generation + 1) }
+        ensures ok { OnOk result (self.new ≡ next_generation self.old) }
+        ensures err { OnErr result (self.new ≡ self.old) }
+    {
+        if let Some(refused) = self.generation_refusal(generation) {
+            return Err(refused);
+        }
+        self.begin_generation();
+        Ok(self.generation)
+    }
+
     /// Why an assignment is refused: OldGeneration where the generation isn't the present one; else BadAssignment, with the
     /// first task, in task order, that doesn't stand in exactly one pair of `active` whose worker is a member; else none.
-    pub fn assign_refusal(&self, generation: u64, a: &Assignment) -> Option<Refused>
-        ensures { result ≡ or_else (generation_fault self.now.generation generation) (bad_assignment self.now.tasks.items self.now.members a.now.active) }
+    fn assign_refusal(&self, generation: u64, a: &Assignment) -> Option<Refused>
+        ensures { result ≡ assign_fault self.now generation a.now }
     {
         if generation != self.generation {
             return Some(Refused::OldGeneration {
@@ -280,49 +444,54 @@ impl Group {
         }
     }
 
-    /// The committed offset of a task's input: that of the last commit which names the task and the topic, 0 where none does.
-    /// Of what a commit names twice the first counts.
-    pub fn offset(&self, task: TaskId, topic: u16) -> u64
-        ensures { result ≡ offset_after 0 self.now.commits task topic }
-    {
-        let mut at: u64 = 0;
-        for pending in self.commits.as_slice() {
-            at = offset_with(at, pending.as_slice(), task, topic);
-        }
-        at
-    }
-
-    /// The committed offset of each of these inputs of a task, beside the input, in their order. Want of memory for the list is
-    /// the one error.
-    pub fn offsets(
-        &self,
+    /// Gives the generation an assignment; false, and nothing changes, where it has one already. Refused: OldGeneration, then
+    /// BadAssignment with the first task, in task order, that isn't active at exactly one member. Want of memory is the outer
+    /// error. After a refusal or want of memory the group is as before.
+    pub fn assign(
+        &mut self,
         alloc: Global,
-        task: TaskId,
-        inputs: &[u16],
-    ) -> Result<Vec<(u16, u64)>, AllocError>
-        ensures { IfOk result (λ made. made.items ≡ map (λ topic. (topic, offset_after 0 self.now.commits task topic)) inputs.now) }
-    {
-        let mut made = Vec::new(alloc);
-        for topic in inputs {
-            made.push((*topic, self.offset(task, *topic)))?;
-        }
-        Ok(made)
-    }
-
-    /// Takes a worker into the group, at its place among members that rise, if it isn't among them, and answers the new
-    /// generation, which is one more and has no assignment.
-    /// Want of memory is the one error, which comes also at generation 2^64 - 1; after it the group is as before.
-    pub fn join(&mut self, alloc: Global, w: u8) -> Result<u64, AllocError>
-        ensures ok { IfOk result (λ n. (n ≡ self.old.generation + 1) × (self.new ≡ record self.old { members = insert_number w self.old.members; generation = self.old.generation + 1; assignment = None })) }
+        generation: u64,
+        a: &Assignment,
+    ) -> Result<Result<bool, Refused>, AllocError>
+        ensures refused { IfOk result (λ r. Refuses (assign_fault self.old generation a.now) r) }
+        ensures truth { IfOk result (λ r. IfOk r (λ b. b ≡ is_none self.old.assignment)) }
+        ensures ok { IfOk result (λ r. IfOk r (λ b. self.new ≡ assigned self.old a.now)) }
+        ensures same { IfOk result (λ r. OnErr r (self.new ≡ self.old)) }
         ensures err { OnErr result (self.new ≡ self.old) }
     {
-        let members = with_member(alloc, self.members.as_slice(), w)?;
-        let Some(generation) = self.generation.checked_add(1) else {
-            return Err(AllocError);
-        };
-        self.members = Seq::of(members);
-        self.generation = generation;
-        self.assignment = None;
-        Ok(generation)
+        if let Some(refused) = self.assign_refusal(generation, a) {
+            return Ok(Err(refused));
+        }
+        if self.assignment.is_some() {
+            return Ok(Ok(false));
+        }
+        let copy = copy_assignment(alloc, a)?;
+        self.assignment = Some(copy);
+        Ok(Ok(true))
+    }
+
+    /// Pends offsets of a task in a producer's transaction, in place of earlier ones of the task there. Want of memory is the one
+    /// error; after it the group is as before.
+    pub fn pend(&mut self, alloc: Global, w: u8, new: Pending) -> Result<(), AllocError>
+        requires { w ≤ 16 }
+        ensures ok { OnOk result (self.new ≡ pended self.old w new) }
+        ensures err { OnErr result (self.new ≡ self.old) }
+    {
+        let pending = with_one_pending(alloc, self.pending[w as usize].as_slice(), new)?;
+        self.pending[w as usize] = Seq::of(pending);
+        Ok(())
+    }
+
+    /// The producer's transaction is decided: on commit its pending offsets become the committed ones, and their late pairs are
+    /// added to the total, which stays at most 2^64 - 1; on abort they are dropped. Takes no memory. KIP-447.
+    pub fn resolve(&mut self, alloc: Global, w: u8, commit: bool)
+        requires { w ≤ 16 }
+        ensures { self.new ≡ resolved self.old w commit }
+    {
+        let pending = mem::replace(&mut self.pending[w as usize], Seq::new(alloc));
+        if commit {
+            self.late = late_with(self.late, pending.as_slice());
+            commit_rows(&mut self.offsets, pending.as_slice());
+        }
     }
 }

@@ -1,10 +1,11 @@
-//! The group of a cluster's workers: its members and its generation, where the tasks stand, what they committed, the
-//! positions that workers hold, and the parked tasks.
+//! The group of a cluster's workers: its members and its generation, where the tasks stand, the positions that workers hold, what
+//! their producers have pending, and what was committed.
 #![tactic(auto)]
 
 mod committed;
 mod group;
+mod pending;
 
-pub use group::{
-    Group, copy_assignment, copy_held, is_member, is_parked, without_member, without_parked,
-};
+pub use committed::TaskInputs;
+pub use group::{Group, copy_assignment, copy_held};
+pub use pending::new_pending;

@@ -10,8 +10,7 @@ use Rattle.ks_history.specs.Machine.{TaskPlan}
 use Rattle.ks_cluster.specs.View.{ClusterView, AddsEntry}
 use Rattle.ks_job.specs.Items.{ItemView, RecordTo}
 use Rattle.ks_law_settled.specs.Jobs.{produces_by, produces}
-use Rattle.ks_settle.specs.Drained.{OnlyProduces}
-use Rattle.ks_run.specs.Producing.{placed, placed_all, Produces, ProducesFront}
+use Rattle.ks_run.specs.Producing.{placed, placed_all, OnlyProduces, Produces, ProducesFront}
 
 by_append : (request : Request) (xs ys : List (PartId × Rec)) → produces_by request (xs ++ ys) ≡ produces_by request xs ++ ys
 by_append (Produce p rec) xs ys = refl

@@ -6,7 +6,9 @@ use Rattle.ks_output.specs.Texts.{bad_words_text}
 use Rattle.ks_words.specs.declared.command.Command.{Command}
 use Rattle.ks_words.specs.declared.command.Command.TheVariants.{Run, Load}
 use Rattle.ks_words.specs.Load.{load_text}
+use Rattle.ks_edge.specs.Causes.{Rose}
 use Rattle.ks_run.specs.Answers.{IsJudged}
+use Rattle.ks_run.specs.Journals.{IsInTime}
 
 abbrev pub IsRun : Option Command → Type 0
 IsRun None = ⊥
@@ -18,6 +20,13 @@ abbrev pub job_bytes : Option Command → Option (List ℕ) → Option (List ℕ
 job_bytes None left = left
 job_bytes (Some (Run settings)) left = left
 job_bytes (Some (Load orders settings)) left = Some (load_text orders)
+
+-- a job that can be read, is valid and has its records within grace, by the source's count of faults before and after; the load job
+-- always is one, and asks no source
+abbrev pub HasValidJob : Option Command → Option (List ℕ) → ℕ → ℕ → Type 0
+HasValidJob None left before now = ⊥
+HasValidJob (Some (Run settings)) left before now = IsInTime left × (Rose before now → ⊥)
+HasValidJob (Some (Load orders settings)) left before now = Unit {0}
 
 -- whether the journal's lines are asked for
 abbrev pub journal_of : Option Command → Bool

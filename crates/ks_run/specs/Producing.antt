@@ -1,13 +1,15 @@
 -- The records of a job as they are produced.
-use Rattle.std.specs.Prelude.{◌≡◌, ℕ, ◌<◌, ◌≤◌, List, ◌++◌, length, Option, Some, None, slice_index}
+use Rattle.std.specs.Prelude.{◌≡◌, ℕ, ◌<◌, ◌≤◌, Bool, true, false, List, [], ◌∷◌, ◌++◌, length, Option, Some, None, slice_index}
 use Rattle.ks_row.specs.declared.record.Rec.{Rec}
 use Rattle.ks_row.specs.declared.record.PartId.{PartId}
 use Rattle.ks_hash.specs.Partition.{part_of_key}
 use Rattle.ks_query.specs.Streams.{some_of}
+use Rattle.ks_history.specs.declared.journal.Entry.{Entry}
+use Rattle.ks_history.specs.declared.journal.Request.{Request}
+use Rattle.ks_history.specs.declared.journal.Request.TheVariants.{Produce}
 use Rattle.ks_job.specs.Items.{ItemView, TopologyAt, RecordTo}
 use Rattle.ks_cluster.specs.View.{ClusterView}
 use Rattle.ks_law_settled.specs.Jobs.{produces}
-use Rattle.ks_settle.specs.Drained.{OnlyProduces}
 
 -- the partition of a key, of so many; without a key it is the first
 abbrev pub part_at : Option (List ℕ) → ℕ → ℕ
@@ -24,6 +26,15 @@ placed_in counts (RecordTo topic rec) = Some (placed counts topic rec)
 
 abbrev pub placed_all : List ℕ → List ItemView → List (PartId × Rec)
 placed_all counts is = some_of (placed_in counts) is
+
+abbrev pub is_produce : Request → Bool
+is_produce (Produce p rec) = true
+is_produce _ = false
+
+-- a journal of inputs alone
+abbrev pub OnlyProduces : List Entry → Type 0
+OnlyProduces [] = Unit {0}
+OnlyProduces (entry ∷ entries) = (is_produce entry.request ≡ true) × OnlyProduces entries
 
 -- the cluster has produced these records more, and has done nothing else
 pub record Produces {W : Type 0} (old new : ClusterView W) (records : List (PartId × Rec)) : Type 0 where

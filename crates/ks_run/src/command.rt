@@ -11,8 +11,8 @@ ghost use Rattle.ks_words.specs.Load.{load_text};
 ghost use Rattle.ks_words.specs.Ranges.{IsWithin};
 ghost use Rattle.ks_job_source.specs.Reading.{TookNoFault};
 ghost use Rattle.ks_run.specs.Answers.{IsRefused, IsStatus};
-ghost use Rattle.ks_run.specs.Commands.{IsRun, IsJudgedBy, IsLoadJudged, job_bytes, journal_of};
-ghost use Rattle.ks_run.specs.Journals.{IsSettledRun, IsLateRun, IsCollidedRun, HasJournal, IsInTime, IsWithoutCollision};
+ghost use Rattle.ks_run.specs.Commands.{HasValidJob, IsRun, IsJudgedBy, IsLoadJudged, job_bytes, journal_of};
+ghost use Rattle.ks_run.specs.Journals.{IsSettledRun, IsLateRun, IsCollidedRun, HasJournal, IsWithoutCollision};
 
 use crate::loading::TextSource;
 use crate::runs::{Ended, run_job};
@@ -64,6 +64,7 @@ fn refuse_words<K: Sink>(alloc: Global, out: &mut K) -> Ended
 }
 
 // Runs the load job of so many orders.
+#[tactic(auto, using(crate::proofs::LoadJob::load_in_time))]
 fn run_load<R: Threads + Wait + Sync, K: Sink>(
     rt: &R,
     alloc: Global,
@@ -89,7 +90,7 @@ fn run_load<R: Threads + Wait + Sync, K: Sink>(
         × ((status : ℕ) × (text : List ℕ) × IsLoadJudged (rules_of murmur3_of) orders status text result.journal
         × AppendsFront (K.held out.old) (K.held out.new) text) }
     ensures journal { (result.status ≡ 8 → ⊥) → HasJournal (rules_of murmur3_of) (Some (load_text orders)) result.journal }
-    ensures complete { IsInTime (Some (load_text orders)) → IsWithoutCollision (rules_of murmur3_of) (Some (load_text orders)) result.journal
+    ensures complete { IsWithoutCollision (rules_of murmur3_of) (Some (load_text orders)) result.journal
         → (Rose (K.faults out.old) (K.faults out.new) → ⊥) → (result.status ≡ 0) ⊎ (result.status ≡ 8) }
     ensures written { (result.status ≡ 7 → ⊥) → K.faults out.new ≡ K.faults out.old }
     ensures memory { result.status ≡ 8 → out.new ≡ out.old }
@@ -146,9 +147,9 @@ fn run_command<R: Threads + Wait + Sync, S: Source, K: Sink>(
         × IsJudgedBy command (rules_of murmur3_of) (S.left input.old) (S.left input.new) (S.faults input.old) (S.faults input.new) status text result.journal
         × AppendsFront (K.held out.old) (K.held out.new) text) }
     ensures journal { (result.status ≡ 8 → ⊥) → HasJournal (rules_of murmur3_of) (job_bytes command (S.left input.old)) result.journal }
-    ensures complete { command ≢ None → IsInTime (job_bytes command (S.left input.old))
+    ensures complete { HasValidJob command (S.left input.old) (S.faults input.old) (S.faults input.new)
         → IsWithoutCollision (rules_of murmur3_of) (job_bytes command (S.left input.old)) result.journal
-        → (Rose (S.faults input.old) (S.faults input.new) → ⊥) → (Rose (K.faults out.old) (K.faults out.new) → ⊥)
+        → (Rose (K.faults out.old) (K.faults out.new) → ⊥)
         → (result.status ≡ 0) ⊎ (result.status ≡ 8) }
 
     // Only `run` asks the source.
@@ -216,9 +217,9 @@ pub fn top<R: Threads + Wait + Sync, S: Source, K: Sink>(
         × IsJudgedBy (command_of (words_of words.now)) (rules_of murmur3_of) (S.left input.old) (S.left input.new) (S.faults input.old) (S.faults input.new) status text result.journal
         × AppendsFront (K.held out.old) (K.held out.new) text) }
     ensures journal { (result.status ≡ 8 → ⊥) → HasJournal (rules_of murmur3_of) (job_bytes (command_of (words_of words.now)) (S.left input.old)) result.journal }
-    ensures complete { command_of (words_of words.now) ≢ None → IsInTime (job_bytes (command_of (words_of words.now)) (S.left input.old))
+    ensures complete { HasValidJob (command_of (words_of words.now)) (S.left input.old) (S.faults input.old) (S.faults input.new)
         → IsWithoutCollision (rules_of murmur3_of) (job_bytes (command_of (words_of words.now)) (S.left input.old)) result.journal
-        → (Rose (S.faults input.old) (S.faults input.new) → ⊥) → (Rose (K.faults out.old) (K.faults out.new) → ⊥)
+        → (Rose (K.faults out.old) (K.faults out.new) → ⊥)
         → (result.status ≡ 0) ⊎ (result.status ≡ 8) }
 
     // Only `run` asks the source.

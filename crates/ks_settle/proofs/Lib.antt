@@ -7,5 +7,7 @@ pub mod Beside
 pub mod Told
 pub mod Filling
 pub mod Publishing
-pub mod Starting
 pub mod Ordering
+pub mod Idling
+pub mod Feeding
+pub mod Starting

@@ -33,9 +33,9 @@ use Rattle.ks_law_quiescence.proofs.Fits.{each_at, node_stands}
 use Rattle.ks_law_quiescence.proofs.WellFormed.{well_formed_fits}
 use Rattle.ks_task.specs.declared.task.Task.{Task}
 use Rattle.ks_task.specs.Tasks.{task_view}
-use Rattle.ks_settle.specs.Drained.{MayDrain, ids, IsDrainedTo, AreResting, IsDraining, Extends}
+use Rattle.ks_settle.specs.Drained.{MayDrain, ids, IsDrainedTo, AreResting, IsDraining, DrainsOn}
 use Rattle.ks_settle.proofs.Topics.{raised, settled}
-use Rattle.ks_settle.proofs.Publishing.{extends_none, extends_both, same_setup}
+use Rattle.ks_settle.proofs.Publishing.{drains_none, drains_both, same_setup}
 
 -- ---- a topology's tasks keep what draining asks
 within_there : (ks : List Kind) (i : ℕ) (k : Kind) → slice_get ks i ≡ Some k → i < length ks
@@ -76,7 +76,7 @@ has_filtered u g f (x ∷ xs) h = by (f x) h (λ m. has_filtered u g f xs m)
     by true m more = both (u == g x) (has_topic u (map g (filter f xs))) (has_topic u (map g xs)) more m
     by false m more = or_right (u == g x) (has_topic u (map g xs)) (more m)
 
-place_of_number : (u : ℕ) (ns : List ℕ) → has_topic u ns ≡ true → (k : ℕ) × (k < length ns) × (slice_index ns k ≡ u)
+pub place_of_number : (u : ℕ) (ns : List ℕ) → has_topic u ns ≡ true → (k : ℕ) × (k < length ns) × (slice_index ns k ≡ u)
 place_of_number u [] h = absurd (true≢false (sym h))
 place_of_number u (n ∷ ns) h = by (u == n) refl h (λ m. place_of_number u ns m)
   where
@@ -102,12 +102,13 @@ later xs i k up lt h =
 
 -- ---- one topic after another
 module _ {W : Type 0} (plan : W → TaskPlan) (rules : Rules) (d : DraftView) (first : ClusterView W) (is : setup_of plan first ≡ topology_setup rules (plan_of d)) where
-  inputs_of : (c : ClusterView W) → Extends first c → (sub u : ℕ) → has_topic u ((setup_of plan c).plan.inputs sub) ≡ true → has_topic u (input_numbers (plan_of d) sub) ≡ true
-  inputs_of c ext sub u h = subst (λ (s : Setup). has_topic u (s.plan.inputs sub) ≡ true) (same_setup plan first c ext ∙ is) h
+  inputs_of : (n : ℕ) (c : ClusterView W) → DrainsOn n first c → (sub u : ℕ) → has_topic u ((setup_of plan c).plan.inputs sub) ≡ true → has_topic u (input_numbers (plan_of d) sub) ≡ true
+  inputs_of n c on sub u h = subst (λ (s : Setup). has_topic u (s.plan.inputs sub) ≡ true) (same_setup plan n first c on ∙ is) h
 
   pub draining_first : (publisher : Publisher) (order : List ℕ) (ts : List Task) → AreResting plan first publisher d 0 ts → IsDraining plan first first publisher d order 0 ts
   draining_first publisher order ts r = record {
-    extends = extends_none first;
+    on = drains_none 0 first;
+    within = omega arith;
     bound = 0;
     below = λ k h. absurd (omega (arith, h));
     above = λ k low h. omega arith;
@@ -117,6 +118,7 @@ module _ {W : Type 0} (plan : W → TaskPlan) (rules : Rules) (d : DraftView) (f
   pub resting_at : (c : ClusterView W) (publisher : Publisher) (i topic : ℕ) (order : List ℕ) (ts : List Task) → IsDraining plan first c publisher d order i ts → order ≡ drain_numbers (plan_of d) → i < length order → topic ≡ slice_index order i →
       AreResting plan c publisher d topic ts
   resting_at c publisher i topic order ts dr o lt at = record {
+    worker = dr.rest.worker;
     ready = dr.rest.ready;
     names = dr.rest.names;
     rest = λ k t h.
@@ -126,7 +128,7 @@ module _ {W : Type 0} (plan : W → TaskPlan) (rules : Rules) (d : DraftView) (f
     where
       none : (sub u : ℕ) → dr.bound ≤ u → u < topic → has_topic u ((setup_of plan c).plan.inputs sub) ≡ true → ⊥
       none sub u low high there =
-          let place = in_order (plan_of d) sub u (inputs_of c dr.extends sub u there) in
+          let place = in_order (plan_of d) sub u (inputs_of i c dr.on sub u there) in
           let k = place.0 in
           let within : k < length order = omega (arith, place.1, ap length o) in
           let value : slice_index order k ≡ u = ap (λ l. slice_index l k) o ∙ place.2 in
@@ -144,26 +146,27 @@ module _ {W : Type 0} (plan : W → TaskPlan) (rules : Rules) (d : DraftView) (f
                   omega (arith, later order i k up (omega (arith, low-k, g)) within, value, at, high)
 
   pub draining_on : (c new : ClusterView W) (publisher now : Publisher) (i topic : ℕ) (order : List ℕ) (ts after : List Task) → IsDraining plan first c publisher d order i ts → order ≡ drain_numbers (plan_of d) → i < length order → topic ≡ slice_index order i →
-      AreResting plan new now d (topic + 1) after × Extends c new → IsDraining plan first new now d order (i + 1) after
-  draining_on c new publisher now i topic order ts after dr o lt at r = record {
-    extends = extends_both first c new dr.extends r.1;
+      AreResting plan new now d (topic + 1) after → DrainsOn 1 c new → IsDraining plan first new now d order (i + 1) after
+  draining_on c new publisher now i topic order ts after dr o lt at r more = record {
+    on = drains_both i 1 first c new dr.on more;
+    within = omega (arith, lt);
     bound = topic + 1;
     below = λ k h. by k h (k == i) refl;
     above = λ k low h. let g = later order i k (subst IsStrictlyIncreasing (sym o) (drain_rises (plan_of d))) (omega (arith, low)) h in omega (arith, g, at);
-    rest = r.0;
+    rest = r;
   }
     where
       by : (k : ℕ) → k < i + 1 → (b : Bool) → (k == i) ≡ b → slice_index order k < topic + 1
       by k h true e = let g : k ≡ i = eqb-true k i e in omega (arith, ap (slice_index order) g, at)
       by k h false e = let g : (k ≡ i → ⊥) = eqb-false k i e in omega (arith, dr.below k (omega (arith, h, g)), dr.above i (omega arith) lt, at)
 
-  pub settled_last : (c : ClusterView W) (publisher : Publisher) (i : ℕ) (order : List ℕ) (ts : List Task) → IsDraining plan first c publisher d order i ts → order ≡ drain_numbers (plan_of d) → length order ≤ i → IsSettled (setup_of plan c) (state_of plan c) × Extends first c
+  pub settled_last : (c : ClusterView W) (publisher : Publisher) (i : ℕ) (order : List ℕ) (ts : List Task) → IsDraining plan first c publisher d order i ts → order ≡ drain_numbers (plan_of d) → length order ≤ i → IsSettled (setup_of plan c) (state_of plan c)
   settled_last c publisher i order ts dr o done =
-      (settled (setup_of plan c) c.journal dr.bound (map task_view ts) low names all dr.rest.ready.alone.idle, dr.extends)
+      settled (setup_of plan c) c.journal dr.bound (map task_view ts) low names all dr.rest.ready.alone.idle
     where
       low : (t : TaskId) (topic : ℕ) → has_topic topic ((setup_of plan c).plan.inputs t.sub) ≡ true → topic < dr.bound
       low t topic there =
-          let place = in_order (plan_of d) t.sub topic (inputs_of c dr.extends t.sub topic there) in
+          let place = in_order (plan_of d) t.sub topic (inputs_of i c dr.on t.sub topic there) in
           let value : slice_index order place.0 ≡ topic = ap (λ l. slice_index l place.0) o ∙ place.2 in
           omega (arith, dr.below place.0 (omega (arith, place.1, ap length o, done)), value)
 

@@ -1,16 +1,15 @@
 -- What a commit leaves between two topics.
-use Rattle.std.proofs.Common.{◌≡◌, ℕ, ◌+◌, ◌<◌, Bool, true, false, cond, List, [], ◌∷◌, ◌++◌, length, get_or, refl, sym, ap, subst, ◌∙◌, arith, append-nil, append_assoc, Option, Some, None}
+use Rattle.std.proofs.Common.{◌≡◌, ℕ, ◌+◌, ◌<◌, ◌≤◌, ◌&&◌, Bool, true, false, cond, List, [], ◌∷◌, ◌++◌, length, get_or, refl, sym, ap, subst, ◌∙◌, arith, append-nil, Option, Some, None}
 use Rattle.std.specs.Prelude.{◌==◌}
 use Rattle.std.proofs.Math.ListN.{set}
 use Rattle.std.specs.List.{All}
 use Rattle.std.proofs.lemmas.List.{length-set, get_or-set_same, get_or-set_other}
-use Rattle.std.proofs.lemmas.Bool.{true≢false, eqb-true, eqb-false}
-use Rattle.ks_row.specs.declared.record.PartId.{PartId}
-use Rattle.ks_row.specs.declared.record.Rec.{Rec}
+use Rattle.std.proofs.lemmas.Bool.{true≢false, eqb-true, eqb-false, and_parts, and_from}
 use Rattle.ks_plan.specs.Drafts.{DraftView}
 use Rattle.ks_plan.specs.Plan.{plan_of}
 use Rattle.ks_plan.specs.Infos.{changelog_numbers}
 use Rattle.ks_history.specs.declared.journal.Entry.{Entry}
+use Rattle.ks_history.specs.declared.journal.Reply.{Reply}
 use Rattle.ks_history.specs.declared.journal.Request.{Request}
 use Rattle.ks_history.specs.declared.journal.Request.TheVariants.{Produce, Init, Add, Append, SendOffsets, Decide, MarkNext, Join, Expire, Hold, Probe, Assign, Park, Unpark}
 use Rattle.ks_def_tasks.specs.Messages.{Rules}
@@ -18,28 +17,22 @@ use Rattle.ks_history.specs.Machine.{TaskPlan, IsNetwork}
 use Rattle.ks_history.specs.State.{Setup}
 use Rattle.ks_history.specs.History.{at, IsHistory}
 use Rattle.ks_law_restore.specs.Views.{WorkView}
-use Rattle.ks_cluster.specs.View.{ClusterView, setup_of, state_of}
+use Rattle.ks_cluster.specs.View.{ClusterView, setup_of, state_of, AddsEntry}
 use Rattle.ks_law_settled.specs.Jobs.{produces}
 use Rattle.ks_row.specs.declared.record.TaskId.{TaskId}
 use Rattle.ks_commit.specs.Committed.{tasks_in, Committed, EachEnds, IsReady}
 use Rattle.ks_commit.specs.declared.publisher.Publisher.{Publisher}
 use Rattle.ks_history.specs.Reads.{end_of}
-use Rattle.ks_commit.specs.Sending.{produce_none, IsLonger, Longer, is_produce}
+use Rattle.ks_commit.specs.Sending.{produce_none, publishes, all_publish, writes_marker, all_markers, decides_commit, count_commits, IsPublishing, IsLonger, Longer, Marked, is_produce}
+use Rattle.ks_commit.proofs.Entries.{later_setup, longer_both, longer_nothing, count_commits-append, markers_publish}
 use Rattle.ks_task.specs.declared.task.Task.{Task}
 use Rattle.ks_task.specs.Tasks.{task_view}
-use Rattle.ks_settle.specs.Drained.{IsDrainedTo, Rests, IsFull, told_view, ends_for, AreWorks, ArePublished, AreToldBy, AreToldTo, IsToldTask, AreReading, AreResting, MayDrain, IsOfTopology, Extends}
+use Rattle.ks_settle.specs.Drained.{IsDrainedTo, Rests, IsFull, told_view, ends_for, AreWorks, ArePublished, AreToldBy, AreToldTo, IsToldTask, AreReading, AreResting, MayDrain, IsOfTopology, drain_worker, is_of_drain, all_of_drain, DrainsOn, Extends}
 use Rattle.ks_settle.proofs.Told.{one_told}
 use Rattle.ks_settle.proofs.Topics.{quiet_on}
 use Rattle.ks_settle.proofs.Works.{set_id, same_default}
 
 -- ---- the journal
-no_more : (request : Request) (rest : List (PartId × Rec)) (entries : List Entry) → cond (is_produce request) false (produce_none entries) ≡ true → (is_produce request ≡ false) × (produce_none entries ≡ true)
-no_more request rest entries e = by (is_produce request) e
-  where
-    by : (b : Bool) → cond b false (produce_none entries) ≡ true → (b ≡ false) × (produce_none entries ≡ true)
-    by true h = absurd (true≢false (sym h))
-    by false h = (refl, h)
-
 quiet_entries : (entries : List Entry) → produce_none entries ≡ true → produces entries ≡ []
 quiet_entries [] e = refl
 quiet_entries (entry ∷ entries) e = by entry.request e (λ h. quiet_entries entries h)
@@ -80,45 +73,145 @@ produces-append (x ∷ xs) ys = by x.request (produces-append xs ys)
     by (Park instance t) e = e
     by (Unpark instance t) e = e
 
-pub extends_by : {W : Type 0} (old new : ClusterView W) (more : List Entry) → IsLonger old new more → produce_none more ≡ true → Extends old new
-extends_by old new more is quiet =
-    let journal : new.journal ≡ old.journal ++ more = ap (λ (c : ClusterView _). c.journal) is in
+-- ---- entries of a drain
+of_publishing : (request : Request) → publishes drain_worker request ≡ true → is_of_drain request ≡ true
+of_publishing (Produce p rec) h = h
+of_publishing (Init v) h = h
+of_publishing (Add v d p) h = h
+of_publishing (Append v d number t p rs) h = h
+of_publishing (SendOffsets v d g t offsets order late) h = h
+of_publishing (Decide v d commit) h = h
+of_publishing (MarkNext v) h = refl
+of_publishing (Join v) h = h
+of_publishing (Expire v) h = refl
+of_publishing (Hold v held) h = h
+of_publishing (Probe v g) h = h
+of_publishing (Assign v g a) h = h
+of_publishing (Park instance t) h = h
+of_publishing (Unpark instance t) h = h
+
+publishing_drains : (entries : List Entry) → all_publish drain_worker entries ≡ true → all_of_drain entries ≡ true
+publishing_drains [] h = refl
+publishing_drains (x ∷ xs) h =
+    let both = and_parts (publishes drain_worker x.request) (all_publish drain_worker xs) h in
+    and_from (is_of_drain x.request) (all_of_drain xs) (of_publishing x.request both.0) (publishing_drains xs both.1)
+
+of_marker : (w : ℕ) (request : Request) → writes_marker w request ≡ true → is_of_drain request ≡ true
+of_marker w (Produce p rec) h = absurd cc
+of_marker w (Init v) h = absurd cc
+of_marker w (Add v d p) h = absurd cc
+of_marker w (Append v d number t p rs) h = absurd cc
+of_marker w (SendOffsets v d g t offsets order late) h = absurd cc
+of_marker w (Decide v d commit) h = absurd cc
+of_marker w (MarkNext v) h = refl
+of_marker w (Join v) h = absurd cc
+of_marker w (Expire v) h = refl
+of_marker w (Hold v held) h = absurd cc
+of_marker w (Probe v g) h = absurd cc
+of_marker w (Assign v g a) h = absurd cc
+of_marker w (Park instance t) h = absurd cc
+of_marker w (Unpark instance t) h = absurd cc
+
+markers_drain : (w : ℕ) (entries : List Entry) → all_markers w entries ≡ true → all_of_drain entries ≡ true
+markers_drain w [] h = refl
+markers_drain w (x ∷ xs) h =
+    let both = and_parts (writes_marker w x.request) (all_markers w xs) h in
+    and_from (is_of_drain x.request) (all_of_drain xs) (of_marker w x.request both.0) (markers_drain w xs both.1)
+
+drain_quiet : (entries : List Entry) → all_of_drain entries ≡ true → produce_none entries ≡ true
+drain_quiet [] h = refl
+drain_quiet (x ∷ xs) h = let both = and_parts (is_of_drain x.request) (all_of_drain xs) h in by x.request both.0 (drain_quiet xs both.1)
+  where
+    by : (request : Request) → is_of_drain request ≡ true → produce_none xs ≡ true → cond (is_produce request) false (produce_none xs) ≡ true
+    by (Produce p rec) own e = absurd cc
+    by (Init v) own e = e
+    by (Add v d p) own e = e
+    by (Append v d number t p rs) own e = e
+    by (SendOffsets v d g t offsets order late) own e = e
+    by (Decide v d commit) own e = e
+    by (MarkNext v) own e = e
+    by (Join v) own e = e
+    by (Expire v) own e = e
+    by (Hold v held) own e = e
+    by (Probe v g) own e = e
+    by (Assign v g a) own e = e
+    by (Park instance t) own e = e
+    by (Unpark instance t) own e = e
+
+of_drain-append : (xs ys : List Entry) → all_of_drain xs ≡ true → all_of_drain ys ≡ true → all_of_drain (xs ++ ys) ≡ true
+of_drain-append [] ys h g = g
+of_drain-append (x ∷ xs) ys h g =
+    let both = and_parts (is_of_drain x.request) (all_of_drain xs) h in
+    and_from (is_of_drain x.request) (all_of_drain (xs ++ ys)) both.0 (of_drain-append xs ys both.1 g)
+
+-- ---- a drain goes on
+pub drains_none : {W : Type 0} (n : ℕ) (c : ClusterView W) → DrainsOn n c c
+drains_none n c = record { more = []; is = longer_nothing c; requests = refl; commits = omega arith }
+
+pub drains_same : {W : Type 0} (n : ℕ) (old new : ClusterView W) → new ≡ old → DrainsOn n old new
+drains_same n old new same = subst (λ (c : ClusterView _). DrainsOn n old c) (sym same) (drains_none n old)
+
+pub drains_one : {W : Type 0} (plan : W → TaskPlan) (old new : ClusterView W) (request : Request) (reply : Reply) → AddsEntry plan old new request reply → is_of_drain request ≡ true → decides_commit request ≡ false → DrainsOn 0 old new
+drains_one plan old new request reply a own undecided = record {
+  more = record { request = request; reply = reply } ∷ [];
+  is = a.journal;
+  requests = and_from (is_of_drain request) true own refl;
+  commits = subst (λ b. cond b 1 0 ≤ 0) (sym undecided) (omega arith);
+}
+
+pub drains_both : {W : Type 0} (m n : ℕ) (a b c : ClusterView W) → DrainsOn m a b → DrainsOn n b c → DrainsOn (m + n) a c
+drains_both m n a b c x y = record {
+  more = x.more ++ y.more;
+  is = longer_both a b c x.more y.more x.is y.is;
+  requests = of_drain-append x.more y.more x.requests y.requests;
+  commits = omega (arith, count_commits-append x.more y.more, x.commits, y.commits);
+}
+
+pub drains_most : {W : Type 0} (m n : ℕ) (old new : ClusterView W) → m ≤ n → DrainsOn m old new → DrainsOn n old new
+drains_most m n old new le x = record { more = x.more; is = x.is; requests = x.requests; commits = omega (arith, le, x.commits) }
+
+-- the worker that drains has published
+pub drains_by : {W : Type 0} (w n : ℕ) (old new : ClusterView W) (more : List Entry) → w ≡ drain_worker → IsLonger old new more → IsPublishing w n more → DrainsOn n old new
+drains_by w n old new more same is publishing = record {
+  more = more;
+  is = is;
+  requests = publishing_drains more (ap (λ v. all_publish v more) (sym same) ∙ publishing.own);
+  commits = publishing.commits;
+}
+
+pub drains_longer : {W : Type 0} (w n : ℕ) (old new : ClusterView W) → w ≡ drain_worker → Longer w n old new → DrainsOn n old new
+drains_longer w n old new same l = drains_by w n old new l.more same l.is l.publishing
+
+pub drains_markers : {W : Type 0} (plan : W → TaskPlan) (w : ℕ) (old new : ClusterView W) → Marked plan old new w → DrainsOn 0 old new
+drains_markers plan w old new m = record { more = m.more; is = m.is; requests = markers_drain w m.more m.own; commits = (markers_publish w m.more m.own).commits }
+
+-- with no further input
+pub drains_extend : {W : Type 0} (n : ℕ) (old new : ClusterView W) → DrainsOn n old new → Extends old new
+drains_extend n old new x =
+    let journal : new.journal ≡ old.journal ++ x.more = ap (λ (c : ClusterView _). c.journal) x.is in
     record {
-      same = is ∙ ap (λ (j : List Entry). record old { journal = j }) (sym journal);
-      prefix = (more, journal);
-      produces = ap produces journal ∙ produces-append old.journal more ∙ ap (λ l. produces old.journal ++ l) (quiet_entries more quiet) ∙ append-nil (produces old.journal);
+      same = x.is ∙ ap (λ (j : List Entry). record old { journal = j }) (sym journal);
+      prefix = (x.more, journal);
+      produces = ap produces journal ∙ produces-append old.journal x.more ∙ ap (λ l. produces old.journal ++ l) (quiet_entries x.more (drain_quiet x.more x.requests)) ∙ append-nil (produces old.journal);
     }
 
-pub extends_none : {W : Type 0} (c : ClusterView W) → Extends c c
-extends_none c = record { same = refl; prefix = ([], sym (append-nil c.journal)); produces = refl }
+pub same_setup : {W : Type 0} (plan : W → TaskPlan) (n : ℕ) (old new : ClusterView W) → DrainsOn n old new → setup_of plan new ≡ setup_of plan old
+same_setup plan n old new x = later_setup plan old new x.more x.is
 
-pub extends_both : {W : Type 0} (a b c : ClusterView W) → Extends a b → Extends b c → Extends a c
-extends_both a b c x y = record {
-  same = y.same ∙ ap (λ (k : ClusterView _). record k { journal = c.journal }) x.same;
-  prefix = (x.prefix.0 ++ y.prefix.0, y.prefix.1 ∙ ap (λ l. l ++ y.prefix.0) x.prefix.1 ∙ append_assoc a.journal x.prefix.0 y.prefix.0);
-  produces = y.produces ∙ x.produces;
-}
-
--- where the journal is longer, with no further input
-pub extends_longer : {W : Type 0} (old new : ClusterView W) → Longer old new → Extends old new
-extends_longer old new l = extends_by old new l.more l.is l.quiet
-
-pub same_setup : {W : Type 0} (plan : W → TaskPlan) (old new : ClusterView W) → Extends old new → setup_of plan new ≡ setup_of plan old
-same_setup plan old new x = ap (setup_of plan) x.same
-
-pub still_of_topology : {W : Type 0} (plan : W → TaskPlan) (rules : Rules) (d : DraftView) (old new : ClusterView W) → IsOfTopology plan rules d old → Extends old new → IsOfTopology plan rules d new
-still_of_topology plan rules d old new o x = record {
-  well_formed = o.well_formed;
-  work = ap (λ (k : ClusterView _). plan k.work) x.same ∙ o.work;
-  may = subst MayDrain (sym (same_setup plan old new x)) o.may;
-}
+pub still_of_topology : {W : Type 0} (plan : W → TaskPlan) (rules : Rules) (d : DraftView) (n : ℕ) (old new : ClusterView W) → IsOfTopology plan rules d old → DrainsOn n old new → IsOfTopology plan rules d new
+still_of_topology plan rules d n old new o x =
+    let same = same_setup plan n old new x in
+    record {
+      well_formed = o.well_formed;
+      work = ap (λ (s : Setup). s.plan) same ∙ o.work;
+      may = subst MayDrain (sym same) o.may;
+    }
 
 -- ---- the commit
 pub published : {W : Type 0} (plan : W → TaskPlan) (old new : ClusterView W) (w topic : ℕ) (fs : List WorkView) (told : List (List (ℕ × ℕ))) → Committed plan old new w fs told → AreWorks (setup_of plan old) old.journal topic fs →
     IsHistory (setup_of plan new) new.journal → ArePublished (setup_of plan old) old.journal new.journal topic fs told
 published plan old new w topic fs told c works hist =
-    let ext : Extends old new = extends_by old new c.more c.is c.quiet in
-    let setup : setup_of plan new ≡ setup_of plan old = same_setup plan old new ext in
+    let setup : setup_of plan new ≡ setup_of plan old = later_setup plan old new c.more c.is in
     let states : state_of plan new ≡ at (setup_of plan old) new.journal = ap (λ s. at s new.journal) setup in
     record {
       more = c.more;
@@ -173,29 +266,25 @@ rest_told draft setup journal new topic fs es old now net logs done full told k 
 -- ---- the cluster between two topics
 pub rests_on : {W : Type 0} (plan : W → TaskPlan) (old new : ClusterView W) (publisher : Publisher) (draft : DraftView) (w topic : ℕ) (fs : List WorkView) (es : List (List (ℕ × ℕ))) (before after : List Task) → MayDrain (setup_of plan old) →
     ((sub : ℕ) → (setup_of plan old).plan.changelogs sub ≡ changelog_numbers (plan_of draft) sub) → AreReading draft (setup_of plan old) old.journal topic (length before) before fs → Committed plan old new w fs es →
-    IsHistory (setup_of plan new) new.journal → IsReady (setup_of plan new) (state_of plan new) publisher → AreToldBy draft (tasks_in fs) es before after → AreResting plan new publisher draft (topic + 1) after × Extends old new
-rests_on plan old new publisher draft w topic fs es before after may logs r c hist ready told =
-    let ext : Extends old new = extends_by old new c.more c.is c.quiet in
-    let setup : setup_of plan new ≡ setup_of plan old = same_setup plan old new ext in
+    IsHistory (setup_of plan new) new.journal → publisher.worker ≡ drain_worker → IsReady (setup_of plan new) (state_of plan new) publisher → AreToldBy draft (tasks_in fs) es before after → AreResting plan new publisher draft (topic + 1) after
+rests_on plan old new publisher draft w topic fs es before after may logs r c hist worker ready told =
+    let setup : setup_of plan new ≡ setup_of plan old = later_setup plan old new c.more c.is in
     let done : ArePublished (setup_of plan old) old.journal new.journal topic fs es = published plan old new w topic fs es c r.works hist in
     let full : All (IsFull draft (setup_of plan old) old.journal topic fs) before = λ k d lt. r.full k d (omega arith) lt in
-    let rest : All (Rests draft (setup_of plan old) new.journal (topic + 1)) after = rest_told draft (setup_of plan old) old.journal new.journal topic fs es before after may.network logs done full told in (
-      record {
-        ready = ready;
-        names = told.names ∙ r.names ∙ sym (ap (λ (s : Setup). s.tasks) setup);
-        rest = subst (λ s. All (Rests draft s new.journal (topic + 1)) after) (sym setup) rest;
-      },
-      ext,
-    )
+    let rest : All (Rests draft (setup_of plan old) new.journal (topic + 1)) after = rest_told draft (setup_of plan old) old.journal new.journal topic fs es before after may.network logs done full told in
+    record {
+      worker = worker;
+      ready = ready;
+      names = told.names ∙ r.names ∙ sym (ap (λ (s : Setup). s.tasks) setup);
+      rest = subst (λ s. All (Rests draft s new.journal (topic + 1)) after) (sym setup) rest;
+    }
 
 -- where nothing was to be committed
-pub rests_still : {W : Type 0} (plan : W → TaskPlan) (c : ClusterView W) (publisher : Publisher) (draft : DraftView) (topic : ℕ) (ts : List Task) → AreReading draft (setup_of plan c) c.journal topic (length ts) ts [] → IsReady (setup_of plan c) (state_of plan c) publisher →
-    AreResting plan c publisher draft (topic + 1) ts × Extends c c
-rests_still plan c publisher draft topic ts r ready = (
-  record {
-    ready = ready;
-    names = r.names;
-    rest = λ k d lt. let f : IsFull draft (setup_of plan c) c.journal topic [] (get_or ts k d) = r.full k d (omega arith) lt in (f.0, quiet_on (setup_of plan c) c.journal topic (task_view (get_or ts k d)) f.1 f.2);
-  },
-  extends_none c,
-)
+pub rests_still : {W : Type 0} (plan : W → TaskPlan) (c : ClusterView W) (publisher : Publisher) (draft : DraftView) (topic : ℕ) (ts : List Task) → AreReading draft (setup_of plan c) c.journal topic (length ts) ts [] → publisher.worker ≡ drain_worker → IsReady (setup_of plan c) (state_of plan c) publisher →
+    AreResting plan c publisher draft (topic + 1) ts
+rests_still plan c publisher draft topic ts r worker ready = record {
+  worker = worker;
+  ready = ready;
+  names = r.names;
+  rest = λ k d lt. let f : IsFull draft (setup_of plan c) c.journal topic [] (get_or ts k d) = r.full k d (omega arith) lt in (f.0, quiet_on (setup_of plan c) c.journal topic (task_view (get_or ts k d)) f.1 f.2);
+}

@@ -83,14 +83,6 @@ pub quiet_on : (setup : Setup) (journal : List Entry) (topic : ℕ) (v : TaskVie
 quiet_on setup journal topic v f told = stood_on setup journal journal topic v f told f.stands (λ q h. refl)
 
 -- ---- at the start and at the end
-pub fresh_is : (setup : Setup) (journal : List Entry) (t : TaskId) → has_task t setup.tasks ≡ true → Stands setup journal (fresh_view t) → IsDrainedTo setup journal 0 (fresh_view t)
-fresh_is setup journal t known stands = record {
-  stands = stands;
-  known = known;
-  clean = record { kept = λ u h. refl; made = λ q. refl };
-  drained = λ u lt h. absurd (omega (arith, lt));
-}
-
 -- a task of a list stands at some place of it
 task_at : (t : TaskId) (ts : List TaskId) → has_task t ts ≡ true → (k : ℕ) × (k < length ts) × ((d : TaskId) → get_or ts k d ≡ t)
 task_at t [] h = absurd (true≢false (sym h))

@@ -1,8 +1,7 @@
 -- The works of tasks, one for each that has something to commit.
-use Rattle.std.proofs.Common.{◌≡◌, ℕ, zero, suc, ◌+◌, ◌<◌, ◌≤◌, ◌||◌, Bool, true, false, cond, List, [], ◌∷◌, ◌++◌, length, get_or, take, refl, sym, ap, subst, ◌∙◌, arith, ne_eqb, Option, Some, None}
+use Rattle.std.proofs.Common.{◌≡◌, ℕ, zero, suc, ◌+◌, ◌<◌, ◌≤◌, ◌||◌, Bool, true, false, cond, List, [], ◌∷◌, ◌++◌, length, get_or, refl, sym, ap, subst, ◌∙◌, arith, ne_eqb, Option, Some, None}
 use Rattle.std.specs.Prelude.{option_map, ◌==◌}
 use Rattle.std.proofs.Math.ListN.{set}
-use Rattle.std.specs.List.{All}
 use Rattle.std.proofs.lemmas.List.{length-map, length-set, get_or-set_same, get_or-set_other}
 use Rattle.std.proofs.lemmas.Bool.{true≢false, eqb-true, eqb-false}
 use Rattle.ks_row.specs.declared.record.PartId.{PartId}
@@ -14,20 +13,15 @@ use Rattle.ks_history.specs.declared.journal.Entry.{Entry}
 use Rattle.ks_history.specs.State.{State, Setup, has_task, are_once}
 use Rattle.ks_history.specs.History.{at}
 use Rattle.ks_law_restore.specs.Views.{WorkView, names_part}
-use Rattle.std.proofs.lemmas.List.{map-append}
-use Rattle.std.proofs.lemmas.List.Elements.{All-append}
 use Rattle.ks_history.specs.Machine.{TaskPlan}
-use Rattle.ks_history.specs.Follows.{TaskView}
-use Rattle.ks_law_restore.specs.Views.{fresh_view}
 use Rattle.ks_cluster.specs.View.{ClusterView, setup_of}
 use Rattle.ks_commit.specs.declared.work.Frozen.{Frozen}
 use Rattle.ks_commit.specs.declared.publisher.Publisher.{Publisher}
 use Rattle.ks_commit.specs.Work.{work_view}
-use Rattle.ks_settle.proofs.Firsts.{take_one}
 use Rattle.ks_commit.specs.Committed.{works_of, MayCommit, EachMay, tasks_in, names_in}
 use Rattle.ks_task.specs.declared.task.Task.{Task}
-use Rattle.ks_task.specs.Tasks.{task_view, IsTaskOf}
-use Rattle.ks_settle.specs.Drained.{work_for, with_work, IsToldBy, IsTold, IsRead, ids, Rests, IsFull, AreWorks, AreReading, AreResting, AreFresh}
+use Rattle.ks_task.specs.Tasks.{task_view}
+use Rattle.ks_settle.specs.Drained.{work_for, with_work, IsToldBy, IsTold, IsRead, ids, Rests, IsFull, AreWorks, AreReading, AreResting}
 
 -- ---- one more work
 for_push : (t : TaskId) (fs : List WorkView) (f : WorkView) → same_task t f.task ≡ false → work_for t (fs ++ f ∷ []) ≡ work_for t fs
@@ -237,18 +231,3 @@ begin_reading plan c publisher d topic ts r = record {
 
 pub there_in : (names all : List TaskId) (i : ℕ) (d : TaskId) → i < length names → names ≡ all → has_task (get_or names i d) all ≡ true
 there_in names all i d lt same = ap (has_task (get_or names i d)) (sym same) ∙ has_at (get_or names i d) names i d lt ((same_task-is (get_or names i d) (get_or names i d)).1 refl)
-
--- ---- new tasks
-pub one_more_fresh : (d : DraftView) (names : List TaskId) (i : ℕ) (x : TaskId) (old new : List Task) (t : Task) → i < length names → x ≡ get_or names i x → AreFresh d (take i names) old → IsTaskOf d t → task_view t ≡ fresh_view x → new ≡ old ++ t ∷ [] →
-    AreFresh d (take (i + 1) names) new
-one_more_fresh d names i x old new t lt is was of view pushed = record {
-  names = ap ids pushed ∙ map-append (λ (y : Task). (task_view y).task) old (t ∷ []) ∙ ap (λ l. l ++ (task_view t).task ∷ []) was.names ∙ ap (λ (u : TaskId). take i names ++ u ∷ []) named ∙ sym (take_one names i x lt is);
-  fresh = subst (All (λ y. IsTaskOf d y × (task_view y ≡ fresh_view (task_view y).task))) (sym pushed) (All-append (λ y. IsTaskOf d y × (task_view y ≡ fresh_view (task_view y).task)) old (t ∷ []) was.fresh single);
-}
-  where
-    named : (task_view t).task ≡ x
-    named = ap (λ (v : TaskView). v.task) view
-
-    single : All (λ y. IsTaskOf d y × (task_view y ≡ fresh_view (task_view y).task)) (t ∷ [])
-    single zero e h = (of, view ∙ ap fresh_view (sym named))
-    single (suc k) e h = absurd (omega (arith, h))

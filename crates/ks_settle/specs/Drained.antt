@@ -1,5 +1,5 @@
 -- A cluster that is brought to rest topic by topic: what holds of its tasks in between, and what they hand to the commits.
-use Rattle.std.specs.Prelude.{◌≡◌, ℕ, ◌<◌, ◌≤◌, ◌+◌, ◌==◌, Bool, true, false, List, [], ◌∷◌, ◌++◌, length, map, Option, Some, None, option_map, IfOk, if◌then◌else◌, IfSome, slice_index, slice_index_or}
+use Rattle.std.specs.Prelude.{◌≡◌, ℕ, ◌<◌, ◌≤◌, ◌+◌, ◌==◌, ◌&&◌, Bool, true, false, List, [], ◌∷◌, ◌++◌, length, map, Option, Some, None, option_map, IfOk, if◌then◌else◌, IfSome, slice_index, slice_index_or}
 use Rattle.std.specs.List.{All, AllWithin}
 use Rattle.ks_row.specs.declared.record.PartId.{PartId}
 use Rattle.ks_row.specs.declared.record.TaskId.{TaskId}
@@ -10,14 +10,17 @@ use Rattle.ks_plan.specs.Faults.{fault_of}
 use Rattle.ks_def_tasks.specs.Messages.{Rules}
 use Rattle.ks_law_topology.specs.Work.{work_of}
 use Rattle.ks_commit.specs.Alone.{IsIdle}
-use Rattle.ks_plan.specs.Infos.{changelog_numbers}
+use Rattle.ks_plan.specs.Infos.{input_numbers, changelog_numbers}
+use Rattle.ks_plan.specs.Layout.{tasks as all_tasks}
 use Rattle.ks_history.specs.declared.journal.Entry.{Entry}
+use Rattle.ks_history.specs.declared.journal.Request.{Request}
+use Rattle.ks_history.specs.declared.journal.Request.TheVariants.{Expire, MarkNext}
 use Rattle.ks_history.specs.Machine.{TaskPlan, IsNetwork, part_of, has_topic}
 use Rattle.ks_history.specs.State.{State, Setup, IsSetup, has_task}
 use Rattle.ks_history.specs.Reads.{end_of}
 use Rattle.ks_history.specs.Follows.{TaskView}
 use Rattle.ks_history.specs.History.{at, IsHistory, IsPrefix}
-use Rattle.ks_law_restore.specs.Views.{Stands, WorkView, IsFrozen, fresh_view, committed_view, names_part, are_topics_once, SendsInside}
+use Rattle.ks_law_restore.specs.Views.{Stands, WorkView, IsFrozen, committed_view, names_part, are_topics_once, SendsInside}
 use Rattle.ks_law_restore.specs.Commits.{commits_for, commit_by}
 use Rattle.ks_history.specs.State.{pending_of}
 use Rattle.ks_cluster.specs.View.{ClusterView, setup_of, state_of}
@@ -25,18 +28,12 @@ use Rattle.ks_law_settled.specs.Jobs.{produces}
 use Rattle.ks_commit.specs.declared.publisher.Publisher.{Publisher}
 use Rattle.ks_commit.specs.Work.{work_view}
 use Rattle.ks_commit.specs.Committed.{IsReady, MayCommit, EachMay, AreApart, names_in, EachEnds}
-use Rattle.ks_commit.specs.Sending.{pendings_of}
 use Rattle.ks_task.specs.declared.task.Task.{Task}
 use Rattle.ks_task.specs.Tasks.{task_view, IsTaskOf}
 use Rattle.ks_task.specs.Views.{own_ends}
 use Rattle.ks_settle.specs.declared.draining.Attempt.{Attempt}
 use Rattle.ks_settle.specs.Reading.{SendsOn, IsClean, HasRead, HasReadAll}
-use Rattle.ks_commit.specs.Sending.{is_produce}
-
--- a journal of inputs alone
-abbrev pub OnlyProduces : List Entry → Type 0
-OnlyProduces [] = Unit {0}
-OnlyProduces (entry ∷ entries) = (is_produce entry.request ≡ true) × OnlyProduces entries
+use Rattle.ks_commit.specs.Sending.{publishes, count_commits, IsLonger, pendings_of}
 
 -- ---- what a cluster's tasks must keep to be drained: they make a network, send to later topics alone and inside the cluster
 pub record MayDrain (setup : Setup) : Type 0 where
@@ -51,6 +48,13 @@ pub record IsOfTopology {W : Type 0} (plan : W → TaskPlan) (rules : Rules) (d 
   pub well_formed : fault_of d ≡ None
   pub work : plan c.work ≡ work_of rules (plan_of d)
   pub may : MayDrain (setup_of plan c)
+
+-- its tasks, their inputs and their changelogs are those of this well-formed topology
+pub record HasTasksOf {W : Type 0} (plan : W → TaskPlan) (d : DraftView) (c : ClusterView W) : Type 0 where
+  pub well_formed : fault_of d ≡ None
+  pub tasks : c.tasks ≡ all_tasks (plan_of d)
+  pub inputs : (sub : ℕ) → (plan c.work).inputs sub ≡ input_numbers (plan_of d) sub
+  pub changelogs : (sub : ℕ) → (plan c.work).changelogs sub ≡ changelog_numbers (plan_of d) sub
 
 -- and between two transactions, so that all of its records may be read
 pub record MayRead {W : Type 0} (plan : W → TaskPlan) (rules : Rules) (d : DraftView) (c : ClusterView W) : Type 0 where
@@ -200,17 +204,40 @@ pub record AreToldTo (d : DraftView) (worked : List TaskId) (ends : List (List (
   pub told : (k : ℕ) (t : Task) → k < i → IsToldTask d worked ends (slice_index_or old k t) (slice_index_or new k t)
   pub rest : (k : ℕ) (t : Task) → i ≤ k → slice_index_or new k t ≡ slice_index_or old k t
 
+-- ---- what a drain writes
+-- the worker that drains
+abbrev pub drain_worker : ℕ
+drain_worker = 16
+
+-- a request of a drain: any worker is removed, any producer's marker is written, and the worker that drains publishes
+abbrev pub is_of_drain : Request → Bool
+is_of_drain (Expire w) = true
+is_of_drain (MarkNext w) = true
+is_of_drain request = publishes drain_worker request
+
+abbrev pub all_of_drain : List Entry → Bool
+all_of_drain [] = true
+all_of_drain (entry ∷ entries) = is_of_drain entry.request && all_of_drain entries
+
+-- the cluster's journal is longer by requests of a drain, of which at most so many decide to commit; all else is the same
+pub record DrainsOn {W : Type 0} (most : ℕ) (old new : ClusterView W) : Type 0 where
+  pub more : List Entry
+  pub is : IsLonger old new more
+  pub requests : all_of_drain more ≡ true
+  pub commits : count_commits more ≤ most
+
 -- ---- the cluster between two topics
 -- all tasks are there, and have taken and committed all of their inputs before this topic
 pub record AreResting {W : Type 0} (plan : W → TaskPlan) (c : ClusterView W) (publisher : Publisher) (d : DraftView) (topic : ℕ) (ts : List Task) : Type 0 where
+  pub worker : publisher.worker ≡ drain_worker
   pub ready : IsReady (setup_of plan c) (state_of plan c) publisher
   pub names : ids ts ≡ c.tasks
   pub rest : All (Rests d (setup_of plan c) c.journal topic) ts
 
--- new tasks of the topology, with these names
-pub record AreFresh (d : DraftView) (all : List TaskId) (ts : List Task) : Type 0 where
+-- tasks of the topology with these names, which have taken nothing since their last commits
+pub record AreRestored (d : DraftView) (setup : Setup) (journal : List Entry) (all : List TaskId) (ts : List Task) : Type 0 where
   pub names : ids ts ≡ all
-  pub fresh : All (λ t. IsTaskOf d t × (task_view t ≡ fresh_view (task_view t).task)) ts
+  pub rest : All (Rests d setup journal 0) ts
 
 -- the cluster's journal is longer, with no further input; all else is the same
 pub record Extends {W : Type 0} (old new : ClusterView W) : Type 0 where
@@ -220,7 +247,8 @@ pub record Extends {W : Type 0} (old new : ClusterView W) : Type 0 where
 
 -- the first topics of an order were drained
 pub record IsDraining {W : Type 0} (plan : W → TaskPlan) (first c : ClusterView W) (publisher : Publisher) (d : DraftView) (order : List ℕ) (i : ℕ) (ts : List Task) : Type 0 where
-  pub extends : Extends first c
+  pub on : DrainsOn i first c
+  pub within : i ≤ length order
   pub bound : ℕ
   pub below : (k : ℕ) → k < i → slice_index order k < bound
   pub above : (k : ℕ) → i ≤ k → k < length order → bound ≤ slice_index order k

@@ -1,3 +1,4 @@
 pub mod Drained
 pub mod Fetches
 pub mod Reading
+pub mod Restoring

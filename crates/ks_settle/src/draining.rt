@@ -1,18 +1,19 @@
 //! A cluster is brought to rest, topic by topic.
-ghost use Rattle.std.specs.Prelude.{◌≡◌, ◌+◌, ℕ, length, [], IfOk, OnErr, OnOk, option_map};
+ghost use Rattle.std.specs.Prelude.{◌≡◌, ◌+◌, ℕ, length, [], IfOk, OnOk, option_map};
 ghost use Rattle.std.specs.List.{All};
 ghost use Rattle.ks_topo.specs.Topologies.{draft_of, plan_in};
-ghost use Rattle.ks_plan.specs.Infos.{changelog_numbers};
-ghost use Rattle.ks_plan.specs.Layout.{tasks as all_tasks};
+ghost use Rattle.ks_plan.specs.Infos.{changelog_numbers, drain_numbers};
 ghost use Rattle.ks_history.specs.Settled.{IsSettled};
 ghost use Rattle.ks_law_topology.specs.Work.{setup_of as topology_setup};
 ghost use Rattle.ks_cluster.specs.View.{setup_of, state_of};
 ghost use Rattle.ks_commit.specs.Committed.{works_of, tasks_in as worked_in, IsReady};
 ghost use Rattle.ks_commit.specs.Work.{work_view};
 ghost use Rattle.ks_nodes.specs.Rules.{HaveParts, rules_of};
-ghost use Rattle.ks_settle.specs.Drained.{MayDrain, IsOfTopology, MayRead, with_work, IsRead, Rests, tasks_in, AreTried, AreReading, AreResting, AreFresh, Extends, OnlyProduces};
+ghost use Rattle.ks_settle.specs.Drained.{MayDrain, IsOfTopology, MayRead, with_work, IsRead, Rests, tasks_in, AreTried, AreReading, AreResting, HasTasksOf, drain_worker, DrainsOn, Extends};
 
 use crate::reading::read_task;
+use crate::removing::{remove_workers, write_all_markers};
+use crate::restoring::restore_tasks;
 use crate::telling::tell;
 use ks_cluster::{Cluster, Work};
 use ks_commit::{Frozen, Publisher, commit};
@@ -150,20 +151,6 @@ fn workers(alloc: Global, works: &[Frozen]) -> Result<Vec<TaskId>, AllocError>
     Ok(worked)
 }
 
-// A new task for each that the topology has.
-fn fresh_tasks(alloc: Global, topology: &Topology) -> Result<Vec<Task>, AllocError>
-    requires { HaveParts (plan_in topology.now) }
-    ensures { IfOk result (λ v. AreFresh (draft_of topology.now) (all_tasks (plan_in topology.now))
-        v.items) }
-{
-    let names = topology.tasks();
-    let mut tasks = Vec::new(alloc);
-    for i in 0..names.len() {
-        tasks.push(Task::fresh(alloc, topology, names[i])?)?;
-    }
-    Ok(tasks)
-}
-
 // The tasks of a worker, and the account of what it publishes. Kafka Streams: what the TaskManager of a StreamThread holds.
 #[derive(Drop)]
 struct TaskManager {
@@ -172,24 +159,23 @@ struct TaskManager {
 }
 
 impl TaskManager {
-    // A worker of its own that has every task, and a new task for each.
+    // Whatever workers the cluster had are removed; then one of its own has every task, and each is restored.
     fn start<W: Work>(
         alloc: Global,
         topology: &Topology,
         cluster: &mut Cluster<W>,
     ) -> Result<TaskManager, AllocError>
         requires may { MayDrain (setup_of W.plan cluster.old) }
-        requires tasks { cluster.old.tasks ≡ all_tasks (plan_in topology.now) }
+        requires of { HasTasksOf W.plan (draft_of topology.now) cluster.old }
         requires parts { HaveParts (plan_in topology.now) }
-        requires produced { OnlyProduces cluster.old.journal }
-        ensures ready { IfOk result (λ m.
-            AreResting W.plan cluster.new m.publisher (draft_of topology.now) 0 m.tasks.items
-            × Extends cluster.old cluster.new) }
-        ensures err { OnErr result (Extends cluster.old cluster.new) }
+        ensures resting { IfOk result (λ m. AreResting W.plan cluster.new m.publisher
+            (draft_of topology.now) 0 m.tasks.items) }
+        ensures on { DrainsOn 0 cluster.old cluster.new }
     {
-        let _journal = cluster.journal();
+        remove_workers(alloc, cluster)?;
+        write_all_markers(alloc, cluster)?;
         let publisher = Publisher::start(alloc, cluster, WORKER, topology.tasks())?;
-        let tasks = fresh_tasks(alloc, topology)?;
+        let tasks = restore_tasks(alloc, topology, cluster, &publisher)?;
         Ok(TaskManager { tasks, publisher })
     }
 
@@ -206,6 +192,7 @@ impl TaskManager {
         requires logs { (sub : ℕ) →
             (W.plan cluster.old.work).changelogs sub
             ≡ changelog_numbers (plan_in topology.now) sub }
+        requires worker { self.old.publisher.worker ≡ drain_worker }
         requires ready { IsReady (setup_of W.plan cluster.old) (state_of W.plan cluster.old)
             self.old.publisher }
         requires reading { AreReading (draft_of topology.now) (setup_of W.plan cluster.old)
@@ -213,9 +200,8 @@ impl TaskManager {
             (works_of works.items) }
         ensures rest { OnOk result (
             AreResting W.plan cluster.new self.new.publisher (draft_of topology.now) (topic + 1)
-            self.new.tasks.items
-            × Extends cluster.old cluster.new) }
-        ensures err { OnErr result (Extends cluster.old cluster.new) }
+            self.new.tasks.items) }
+        ensures on { DrainsOn 1 cluster.old cluster.new }
     {
         if works.is_empty() {
             return Ok(());
@@ -247,9 +233,8 @@ impl TaskManager {
             self.old.tasks.items }
         ensures rest { OnOk result (
             AreResting W.plan cluster.new self.new.publisher (draft_of topology.now) (topic + 1)
-            self.new.tasks.items
-            × Extends cluster.old cluster.new) }
-        ensures err { OnErr result (Extends cluster.old cluster.new) }
+            self.new.tasks.items) }
+        ensures on { DrainsOn 1 cluster.old cluster.new }
     {
         let works = read_tasks::<H, R, W>(rt, alloc, topology, cluster, &mut self.tasks, topic)?;
         self.publish(alloc, topology, cluster, works, topic)
@@ -269,9 +254,10 @@ impl TaskManager {
         requires resting { AreResting W.plan cluster.old self.old.publisher
             (draft_of topology.now) 0
             self.old.tasks.items }
-        ensures settled { OnOk result (IsSettled (setup_of W.plan cluster.new) (state_of W.plan cluster.new)
-            × Extends cluster.old cluster.new) }
-        ensures err { OnErr result (Extends cluster.old cluster.new) }
+        ensures settled { OnOk result (IsSettled (setup_of W.plan cluster.new)
+            (state_of W.plan cluster.new)) }
+        ensures on { DrainsOn (length (drain_numbers (plan_in topology.now)))
+            cluster.old cluster.new }
     {
         let order = topology.drain_order();
         for i in 0..order.len() {
@@ -281,9 +267,10 @@ impl TaskManager {
     }
 }
 
-/// Brings to rest a cluster of a topology in which nothing but records of its inputs stand, at a worker of its own, 16: topic by
-/// topic, in the drain order, the tasks that read it read it to its end, and then one transaction commits what they made. Want of memory is
-/// the one error, after which the journal has what was done before, and no further input.
+/// Brings to rest a cluster of a topology, whatever stands in its journal. Every worker is removed, all waiting markers are written, and
+/// a worker of its own, 16, has every task and restores it. Then topic by topic, in the drain order, the tasks that read it read it to
+/// its end, and one transaction commits what they made. Want of memory is the one error, after which the journal has what was done
+/// before, and no further input.
 pub fn drain<H: Hash128 + Sync, R: Threads + Sync, W: Work + Sync>(
     rt: &R,
     alloc: Global,
@@ -293,11 +280,11 @@ pub fn drain<H: Hash128 + Sync, R: Threads + Sync, W: Work + Sync>(
     requires setup { setup_of W.plan cluster.old
         ≡ topology_setup (rules_of H.hash_of) (plan_in topology.now) }
     requires parts { HaveParts (plan_in topology.now) }
-    requires produced { OnlyProduces cluster.old.journal }
     ensures settled { OnOk result (IsSettled (setup_of W.plan cluster.new)
         (state_of W.plan cluster.new)) }
-    ensures more { OnOk result (Extends cluster.old cluster.new) }
-    ensures err { OnErr result (Extends cluster.old cluster.new) }
+    ensures more { Extends cluster.old cluster.new }
+    ensures on { DrainsOn (length (drain_numbers (plan_in topology.now)))
+        cluster.old cluster.new }
 {
     let _nodes = topology.nodes();
     let mut manager = TaskManager::start(alloc, topology, cluster)?;

@@ -3,6 +3,8 @@
 
 mod draining;
 mod reading;
+mod removing;
+mod restoring;
 mod telling;
 
 pub use draining::drain;

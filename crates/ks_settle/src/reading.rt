@@ -20,7 +20,7 @@ use ks_topo::Topology;
 use std::alloc::{AllocError, Global};
 
 // The most records of one fetch.
-const MOST_FETCHED: u32 = 32;
+pub const MOST_FETCHED: u32 = 32;
 
 // Whether the topic is one of these numbers.
 fn has_number(numbers: &[u16], topic: u16) -> bool

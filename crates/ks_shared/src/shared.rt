@@ -1,30 +1,35 @@
 //! The lock round a cluster, and its calls.
-ghost use Rattle.std.specs.Prelude.{◌≡◌, ◌⊎◌, ◌≤◌, ◌<◌, ◌+◌, false, Some, length, filter, IfOk, IfErr, OnErr};
+ghost use Rattle.std.specs.Prelude.{◌≡◌, ◌⊎◌, ◌≤◌, ◌<◌, ◌+◌, ℕ, true, false, Some, length, filter};
+ghost use Rattle.std.specs.Prelude.{IfOk, IfErr, IfSome, OnOk, OnErr, is_some};
 ghost use mathlib.Core.List.{IsPrefix};
 ghost use lib.ListN.{get_elem?};
 ghost use mathlib.Core.Option.{some};
 ghost use Rattle.ks_history.specs.declared.journal.Entry.{Entry};
-ghost use Rattle.ks_history.specs.declared.journal.Request.TheVariants.{Produce, Init, Add, MarkNext};
-ghost use Rattle.ks_history.specs.declared.journal.Request.TheVariants.{Join, Expire, Hold, Probe, Assign};
+ghost use Rattle.ks_history.specs.declared.journal.Request.TheVariants.{Produce, Init, Add, Append, SendOffsets, Decide, MarkNext};
+ghost use Rattle.ks_history.specs.declared.journal.Request.TheVariants.{Join, Expire, Hold, Probe, Assign, Park, Unpark};
 ghost use Rattle.ks_history.specs.declared.journal.Reply.TheVariants.{Done, Number, Truth, Mark as Marked};
-ghost use Rattle.ks_history.specs.History.{at, Meets};
+ghost use Rattle.ks_history.specs.History.{at, Meets, CommitsFaithfully};
 ghost use Rattle.ks_history.specs.Touched.{touched, is_reserved};
-ghost use Rattle.ks_history.specs.Reads.{ends_of};
-ghost use Rattle.ks_history.specs.State.{IsPart};
+ghost use Rattle.ks_history.specs.Reads.{MayFetch, fetched, committed_refusal, committed_offsets, ends_of, status};
+ghost use Rattle.ks_history.specs.State.{IsPart, has_task};
 ghost use Rattle.std.specs.List.{All};
 ghost use Rattle.ks_cluster.specs.Replies.{number_or, truth_or};
-ghost use Rattle.ks_cluster.specs.View.{state_of, AddsEntry};
+ghost use Rattle.ks_cluster.specs.View.{setup_of, state_of, AddsEntry, Refuses};
 ghost use Rattle.ks_growing.specs.Rule.{total};
 ghost use Rattle.ks_growing.specs.Passes.{Each, PassView, IsPass, IsFresh, seen_of, made_of, frame_of as pass_frame};
 ghost use Rattle.ks_shared.specs.Calls.{setup_in, frame_of, Called};
 ghost use Rattle.ks_shared.specs.Own.{IsOwn};
+ghost use Rattle.ks_shared.specs.Shelf.{IsReplicaOf};
+ghost use Rattle.ks_row.specs.declared.record.TaskId.{TaskId as Task};
 ghost use Rattle.ks_shared.specs.declared.state.Frame.{Frame};
 
 use crate::barred::Barred;
 use crate::state::SharedState;
 use ks_cluster::{Cluster, Work};
 use ks_growing::{Growing, Pass};
+use ks_history::Status;
 use ks_row::{Assignment, PartId, Rec, Refused, TaskId};
+use ks_standby::{Parked, Replica};
 use std::alloc::{AllocError, AllocFailed, Global};
 use std::sync::Wait;
 
@@ -37,22 +42,27 @@ pub struct Shared<W: Work> {
     growing: Growing<SharedState<W>>,
 }
 
-// A cluster as the lock keeps it.
-fn state_with<W: Work>(cluster: Cluster<W>) -> SharedState<W>
+// A cluster of which nothing is parked, with an empty shelf.
+fn state_with<W: Work>(alloc: Global, cluster: Cluster<W>) -> SharedState<W>
+    requires { (i : ℕ) (t : Task) → (state_of W.plan cluster).parked i t ≡ false }
     ensures { result ≡ cluster }
 {
-    SharedState { cluster }
+    SharedState {
+        cluster,
+        shelf: Parked::new(alloc),
+    }
 }
 
 impl<W: Work> Shared<W> {
-    /// Puts a cluster under a lock with 1 to 64 passes, whose numbers are 0, 1, 2 and so on. On want of
-    /// memory the cluster comes back.
+    /// Puts a cluster, of which nothing is parked, under a lock with 1 to 64 passes, whose numbers are 0,
+    /// 1, 2 and so on. On want of memory the cluster comes back.
     pub fn new(
         alloc: Global,
         cluster: Cluster<W>,
         passes: u8,
     ) -> Result<(Shared<W>, Vec<Pass<SharedState<W>>>), AllocFailed<Cluster<W>>>
-        requires { (1 ≤ passes) × (passes ≤ 64) }
+        requires passes { (1 ≤ passes) × (passes ≤ 64) }
+        requires none { (i : ℕ) (t : Task) → (state_of W.plan cluster).parked i t ≡ false }
         ensures first { IfOk result (λ r. r.0.growing.first ≡ cluster) }
         ensures passes { IfOk result (λ r. r.0.growing.passes ≡ passes) }
         ensures count { IfOk result (λ r. length r.1.items ≡ passes) }
@@ -60,10 +70,10 @@ impl<W: Work> Shared<W> {
             (λ r. Each (IsFresh r.0.growing.id cluster.journal (frame_of cluster)) r.1.items) }
         ensures err { IfErr result (λ e. e.value ≡ cluster) }
     {
-        match Growing::new(alloc, state_with(cluster), passes) {
+        match Growing::new(alloc, state_with(alloc, cluster), passes) {
             Ok((growing, passes)) => Ok((Shared { growing }, passes)),
             Err(failed) => {
-                let SharedState { cluster } = failed.value;
+                let SharedState { cluster, shelf: _ } = failed.value;
                 Err(AllocFailed { value: cluster })
             }
         }
@@ -71,7 +81,7 @@ impl<W: Work> Shared<W> {
 
     /// Gives the cluster back for all the passes, in the order of their numbers. Its journal begins with
     /// what each had seen, and has as many entries more than at first as they made; its `produce` entries
-    /// are those that pass 0 had seen.
+    /// are those that pass 0 had seen. What is still parked is dropped.
     pub fn close(self, passes: Vec<Pass<SharedState<W>>>) -> Cluster<W>
         requires count { (length passes.items ≡ self.growing.passes) × (0 < length passes.items) }
         requires passes { Each (IsPass self.growing.id) passes.items }
@@ -85,7 +95,7 @@ impl<W: Work> Shared<W> {
             → filter is_reserved result.journal ≡ filter is_reserved (seen_of p) }
     {
         let Shared { growing } = self;
-        let SharedState { cluster } = growing.close(passes);
+        let SharedState { cluster, shelf: _ } = growing.close(passes);
         cluster
     }
 
@@ -331,6 +341,226 @@ impl<W: Work> Shared<W> {
         answer
     }
 
+    /// Appends copies of records of a task to a partition of the producer's transaction, and answers the
+    /// first offset. `number` is how many records the epoch has sent there. `last` is as for `add`.
+    /// Refused: Fenced, NoTransaction, OutOfSequence.
+    pub fn append<R: Wait>(
+        &self,
+        rt: &R,
+        alloc: Global,
+        w: u8,
+        epoch: u64,
+        number: u64,
+        task: TaskId,
+        part: PartId,
+        recs: &[Rec],
+        last: &mut u64,
+        pass: &mut Pass<SharedState<W>>,
+    ) -> Result<Result<u64, Barred>, AllocError>
+        requires own { pass.old.lock ≡ self.now.growing.id }
+        requires free { pass.old.holds ≡ false }
+        requires meets { Meets (setup_in W.plan pass.old.frame)
+            (at (setup_in W.plan pass.old.frame) pass.old.seen)
+            (Append w epoch number task part recs.now) }
+        ensures { Called W.plan pass.old pass.new
+            (λ before after.
+            IfOk result (λ r. IsOwn W.plan before after w last.old last.new
+            (Append w epoch number task part recs.now) (λ n. Number n) r)
+            × OnErr result (after ≡ before) × OnErr result (last.new ≡ last.old)) }
+    {
+        let mut state = self.growing.enter(rt, pass);
+        let answer = state.append(alloc, w, epoch, number, task, part, recs, last);
+        state.tell();
+        self.growing.leave(pass, state);
+        answer
+    }
+
+    /// Pends the offsets of a task in the producer's transaction, which begins where there is none, in
+    /// place of earlier ones of the task. They are offsets of its inputs, none past the end that the pass
+    /// has seen. `order` is the order of what the task took, by runs of a topic and a count; `late` counts
+    /// its late pairs. `last` is as for `add`. Refused: Fenced, OldGeneration, NotAssigned,
+    /// MarkersWaiting, Unstable.
+    pub fn send_offsets<R: Wait>(
+        &self,
+        rt: &R,
+        alloc: Global,
+        w: u8,
+        epoch: u64,
+        generation: u64,
+        task: TaskId,
+        offsets: &[(u16, u64)],
+        order: &[(u16, u64)],
+        late: u64,
+        last: &mut u64,
+        pass: &mut Pass<SharedState<W>>,
+    ) -> Result<Result<(), Barred>, AllocError>
+        requires own { pass.old.lock ≡ self.now.growing.id }
+        requires free { pass.old.holds ≡ false }
+        requires meets { Meets (setup_in W.plan pass.old.frame)
+            (at (setup_in W.plan pass.old.frame) pass.old.seen)
+            (SendOffsets w epoch generation task offsets.now order.now late) }
+        ensures { Called W.plan pass.old pass.new
+            (λ before after.
+            IfOk result (λ r. IsOwn W.plan before after w last.old last.new
+            (SendOffsets w epoch generation task offsets.now order.now late) (λ u. Done) r)
+            × OnErr result (after ≡ before) × OnErr result (last.new ≡ last.old)) }
+    {
+        let mut state = self.growing.enter(rt, pass);
+        let answer = state.send_offsets(
+            alloc, w, epoch, generation, task, offsets, order, late, last,
+        );
+        state.tell();
+        self.growing.leave(pass, state);
+        answer
+    }
+
+    /// Decides the producer's transaction, whose markers wait from then on. A commit makes the pending
+    /// offsets the committed ones in the same step; it asks that `last` is no later than what the pass has
+    /// seen, and that what is undecided there is faithful there. `last` is as for `add`. Refused: Fenced,
+    /// AlreadyDecided, NoTransaction.
+    pub fn decide<R: Wait>(
+        &self,
+        rt: &R,
+        alloc: Global,
+        w: u8,
+        epoch: u64,
+        commit: bool,
+        last: &mut u64,
+        pass: &mut Pass<SharedState<W>>,
+    ) -> Result<Result<(), Barred>, AllocError>
+        requires own { pass.old.lock ≡ self.now.growing.id }
+        requires free { pass.old.holds ≡ false }
+        requires meets { Meets (setup_in W.plan pass.old.frame)
+            (at (setup_in W.plan pass.old.frame) pass.old.seen) (Decide w epoch commit) }
+        requires within { commit ≡ true → last.old ≤ length pass.old.seen }
+        requires faithful { CommitsFaithfully (setup_in W.plan pass.old.frame)
+            (at (setup_in W.plan pass.old.frame) pass.old.seen) (Decide w epoch commit) }
+        ensures { Called W.plan pass.old pass.new
+            (λ before after.
+            IfOk result (λ r. IsOwn W.plan before after w last.old last.new
+            (Decide w epoch commit) (λ u. Done) r)
+            × OnErr result (after ≡ before) × OnErr result (last.new ≡ last.old)) }
+    {
+        let mut state = self.growing.enter(rt, pass);
+        state.tell();
+        let answer = state.decide(alloc, w, epoch, commit, last);
+        state.tell();
+        self.growing.leave(pass, state);
+        answer
+    }
+
+    /// Parks a replica at an instance, in place of one of its task that is parked there. It is a replica
+    /// with the changelogs of its task that follows what the pass has seen. On want of memory it comes
+    /// back.
+    pub fn park<R: Wait>(
+        &self,
+        rt: &R,
+        alloc: Global,
+        instance: u8,
+        replica: Replica,
+        pass: &mut Pass<SharedState<W>>,
+    ) -> Result<(), AllocFailed<Replica>>
+        requires own { pass.old.lock ≡ self.now.growing.id }
+        requires free { pass.old.holds ≡ false }
+        requires meets { Meets (setup_in W.plan pass.old.frame)
+            (at (setup_in W.plan pass.old.frame) pass.old.seen) (Park instance replica.id) }
+        requires follows { IsReplicaOf (setup_in W.plan pass.old.frame) pass.old.seen replica.id replica }
+        ensures { Called W.plan pass.old pass.new
+            (λ before after. OnOk result (AddsEntry W.plan before after (Park instance replica.id) Done)
+            × IfErr result (λ e. (e.value ≡ replica) × (after ≡ before))) }
+    {
+        let mut state = self.growing.enter(rt, pass);
+        state.tell();
+        let answer = state.park(alloc, instance, replica);
+        state.tell();
+        self.growing.leave(pass, state);
+        answer
+    }
+
+    /// Takes the replica of a task that is parked at an instance, which follows what the pass has seen
+    /// then; None exactly where the entry answers false, since none is parked there.
+    pub fn unpark<R: Wait>(
+        &self,
+        rt: &R,
+        alloc: Global,
+        instance: u8,
+        task: TaskId,
+        pass: &mut Pass<SharedState<W>>,
+    ) -> Result<Option<Replica>, AllocError>
+        requires own { pass.old.lock ≡ self.now.growing.id }
+        requires free { pass.old.holds ≡ false }
+        requires meets { Meets (setup_in W.plan pass.old.frame)
+            (at (setup_in W.plan pass.old.frame) pass.old.seen) (Unpark instance task) }
+        ensures { Called W.plan pass.old pass.new
+            (λ before after.
+            IfOk result (λ o. AddsEntry W.plan before after (Unpark instance task) (Truth (is_some o)))
+            × IfOk result (λ o. IfSome o (IsReplicaOf (setup_of W.plan after) after.journal task))
+            × OnErr result (after ≡ before)) }
+    {
+        let mut state = self.growing.enter(rt, pass);
+        let answer = state.unpark(alloc, instance, task);
+        state.tell();
+        self.growing.leave(pass, state);
+        answer
+    }
+
+    /// The first `max` readable records of a partition at or past an offset, with their offsets, and where
+    /// the next fetch goes on. The offset is at most the partition's end in what the pass has seen, and
+    /// `max` at least 1.
+    pub fn fetch<R: Wait>(
+        &self,
+        rt: &R,
+        alloc: Global,
+        part: PartId,
+        from: u64,
+        max: u32,
+        pass: &mut Pass<SharedState<W>>,
+    ) -> Result<(Vec<(u64, Rec)>, u64), AllocError>
+        requires own { pass.old.lock ≡ self.now.growing.id }
+        requires free { pass.old.holds ≡ false }
+        requires may { MayFetch (setup_in W.plan pass.old.frame)
+            (at (setup_in W.plan pass.old.frame) pass.old.seen) part from max }
+        ensures { Called W.plan pass.old pass.new
+            (λ before after. (after ≡ before)
+            × IfOk result (λ r. r.0.items ≡ (fetched (state_of W.plan after) part from max).0)
+            × IfOk result (λ r. r.1 ≡ (fetched (state_of W.plan after) part from max).1)) }
+    {
+        let state = self.growing.enter(rt, pass);
+        let answer = state.fetch(alloc, part, from, max);
+        state.tell();
+        self.growing.leave(pass, state);
+        answer
+    }
+
+    /// The committed offset of each input of a task, in the order of its inputs. Refused: OldGeneration,
+    /// NotAssigned, Unstable.
+    pub fn committed<R: Wait>(
+        &self,
+        rt: &R,
+        alloc: Global,
+        w: u8,
+        generation: u64,
+        task: TaskId,
+        pass: &mut Pass<SharedState<W>>,
+    ) -> Result<Result<Vec<(u16, u64)>, Refused>, AllocError>
+        requires own { pass.old.lock ≡ self.now.growing.id }
+        requires free { pass.old.holds ≡ false }
+        requires worker { w ≤ 16 }
+        requires task { has_task task (setup_in W.plan pass.old.frame).tasks ≡ true }
+        ensures { Called W.plan pass.old pass.new
+            (λ before after. (after ≡ before)
+            × IfOk result (λ r. IfOk r
+            (λ v. v.items ≡ committed_offsets (setup_of W.plan after) (state_of W.plan after) task))
+            × IfOk result
+            (λ r. Refuses (committed_refusal (state_of W.plan after) w generation task) r)) }
+    {
+        let state = self.growing.enter(rt, pass);
+        let answer = state.committed(alloc, w, generation, task);
+        state.tell();
+        self.growing.leave(pass, state);
+        answer
+    }
+
     /// The ends of partitions, in their order.
     pub fn ends<R: Wait>(
         &self,
@@ -348,6 +578,28 @@ impl<W: Work> Shared<W> {
     {
         let state = self.growing.enter(rt, pass);
         let answer = state.ends(alloc, parts);
+        state.tell();
+        self.growing.leave(pass, state);
+        answer
+    }
+
+    /// The group and the changelogs: the generation, the members, the assignment, the positions that workers
+    /// hold, how many markers wait, and the end of each partition of a changelog. Want of memory comes also
+    /// where the cluster has more than 65,536 topics.
+    pub fn status<R: Wait>(
+        &self,
+        rt: &R,
+        alloc: Global,
+        pass: &mut Pass<SharedState<W>>,
+    ) -> Result<Status, AllocError>
+        requires own { pass.old.lock ≡ self.now.growing.id }
+        requires free { pass.old.holds ≡ false }
+        ensures { Called W.plan pass.old pass.new
+            (λ before after. (after ≡ before)
+            × IfOk result (λ r. r ≡ status (setup_of W.plan after) (state_of W.plan after))) }
+    {
+        let state = self.growing.enter(rt, pass);
+        let answer = state.status(alloc);
         state.tell();
         self.growing.leave(pass, state);
         answer

@@ -1,25 +1,27 @@
 //! The value under the lock.
-ghost use Rattle.std.specs.Prelude.{◌≡◌, IfOk, OnErr};
-ghost use Rattle.ks_history.specs.declared.journal.Request.TheVariants.{Produce, Init, Add, MarkNext};
-ghost use Rattle.ks_history.specs.declared.journal.Request.TheVariants.{Join, Expire, Hold, Probe, Assign};
+ghost use Rattle.std.specs.Prelude.{◌≡◌, ◌≤◌, true, IfOk, IfErr, IfSome, OnOk, OnErr, is_some};
+ghost use Rattle.ks_history.specs.declared.journal.Request.TheVariants.{Produce, Init, Add, Append, SendOffsets, Decide, MarkNext};
+ghost use Rattle.ks_history.specs.declared.journal.Request.TheVariants.{Join, Expire, Hold, Probe, Assign, Park, Unpark};
 ghost use Rattle.ks_history.specs.declared.journal.Reply.TheVariants.{Done, Number, Truth, Mark as Marked};
-ghost use Rattle.ks_history.specs.History.{Meets, IsHistory};
+ghost use Rattle.ks_history.specs.History.{Meets, CommitsFaithfully, IsHistory};
 ghost use Rattle.ks_history.specs.Touched.{touched, is_reserved};
-ghost use Rattle.ks_history.specs.Reads.{ends_of};
-ghost use Rattle.ks_history.specs.State.{IsPart};
+ghost use Rattle.ks_history.specs.Reads.{MayFetch, fetched, committed_refusal, committed_offsets, ends_of, status};
+ghost use Rattle.ks_history.specs.State.{IsPart, has_task};
 ghost use Rattle.std.specs.List.{All};
 ghost use Rattle.ks_cluster.specs.Replies.{number_or, truth_or};
-ghost use Rattle.ks_cluster.specs.View.{setup_of, state_of, AddsEntry};
+ghost use Rattle.ks_cluster.specs.View.{setup_of, state_of, AddsEntry, Refuses};
 ghost use Rattle.ks_shared.specs.Calls.{frame_of, Grew, Grows};
 ghost use Rattle.ks_shared.specs.Own.{IsOwn};
+ghost use Rattle.ks_shared.specs.Shelf.{IsReplicaOf};
 
 use crate::barred::Barred;
-use crate::own::{add_own, init_own};
+use crate::own::{add_own, append_own, decide_own, init_own, send_own};
 use ks_cluster::{Cluster, Work};
 use ks_growing::Journaled;
-use ks_history::Entry;
+use ks_history::{Entry, Status};
 use ks_row::{Assignment, PartId, Rec, Refused, Seq, TaskId};
-use std::alloc::{AllocError, Global};
+use ks_standby::{Parked, Replica};
+use std::alloc::{AllocError, AllocFailed, Global};
 use std::marker::Model;
 
 /// What of a cluster no call changes. It is for proofs alone: no value of it is made.
@@ -29,19 +31,24 @@ pub struct Frame<W> {
     pub tasks: Seq<TaskId>,
 }
 
-/// A cluster, as the lock keeps it: its entries are those of the cluster's journal, of which `produce`
-/// is left to pass 0.
+/// A cluster and the shelf of all instances, as the lock keeps them. The entries are those of the
+/// cluster's journal, of which `produce` is left to pass 0. Each replica on the shelf follows the journal,
+/// and one stands there for exactly the pairs that are parked in the cluster.
 #[derive(Drop)]
 pub struct SharedState<W: Work> {
     pub(crate) cluster: Cluster<W>,
+    pub(crate) shelf: Parked,
 }
 
 impl<W: Work> Model for SharedState<W> {
     ghost use Rattle.ks_cluster.specs.View.{ClusterView};
+    ghost use Rattle.ks_shared.specs.Shelf.{IsShelf};
 
     ghost Value = { ClusterView W };
 
     ghost view = { λ s. s.cluster };
+
+    ghost invariant = { λ s. IsShelf W.plan s.cluster s.shelf };
 }
 
 impl<W: Work> Journaled for SharedState<W> {
@@ -79,7 +86,9 @@ impl<W: Work> SharedState<W> {
         ensures err { OnErr result (self.new ≡ self.old) }
         ensures grew { Grew self.old self.new }
     {
-        self.cluster.produce(alloc, part, rec)
+        let answer = self.cluster.produce(alloc, part, rec);
+        let _journal = self.cluster.journal();
+        answer
     }
 
     pub(crate) fn mark_next(
@@ -92,7 +101,9 @@ impl<W: Work> SharedState<W> {
         ensures err { OnErr result (self.new ≡ self.old) }
         ensures grows { Grows self.old self.new }
     {
-        self.cluster.mark_next(alloc, w)
+        let answer = self.cluster.mark_next(alloc, w);
+        let _journal = self.cluster.journal();
+        answer
     }
 
     pub(crate) fn join(&mut self, alloc: Global, w: u8) -> Result<u64, AllocError>
@@ -101,7 +112,9 @@ impl<W: Work> SharedState<W> {
         ensures err { OnErr result (self.new ≡ self.old) }
         ensures grows { Grows self.old self.new }
     {
-        self.cluster.join(alloc, w)
+        let answer = self.cluster.join(alloc, w);
+        let _journal = self.cluster.journal();
+        answer
     }
 
     pub(crate) fn expire(&mut self, alloc: Global, w: u8) -> Result<bool, AllocError>
@@ -110,7 +123,9 @@ impl<W: Work> SharedState<W> {
         ensures err { OnErr result (self.new ≡ self.old) }
         ensures grows { Grows self.old self.new }
     {
-        self.cluster.expire(alloc, w)
+        let answer = self.cluster.expire(alloc, w);
+        let _journal = self.cluster.journal();
+        answer
     }
 
     pub(crate) fn hold(
@@ -124,7 +139,9 @@ impl<W: Work> SharedState<W> {
         ensures err { OnErr result (self.new ≡ self.old) }
         ensures grows { Grows self.old self.new }
     {
-        self.cluster.hold(alloc, w, held)
+        let answer = self.cluster.hold(alloc, w, held);
+        let _journal = self.cluster.journal();
+        answer
     }
 
     pub(crate) fn probe(
@@ -138,7 +155,9 @@ impl<W: Work> SharedState<W> {
         ensures err { OnErr result (self.new ≡ self.old) }
         ensures grows { Grows self.old self.new }
     {
-        self.cluster.probe(alloc, w, generation)
+        let answer = self.cluster.probe(alloc, w, generation);
+        let _journal = self.cluster.journal();
+        answer
     }
 
     pub(crate) fn assign(
@@ -153,7 +172,9 @@ impl<W: Work> SharedState<W> {
         ensures err { OnErr result (self.new ≡ self.old) }
         ensures grows { Grows self.old self.new }
     {
-        self.cluster.assign(alloc, w, generation, a)
+        let answer = self.cluster.assign(alloc, w, generation, a);
+        let _journal = self.cluster.journal();
+        answer
     }
 
     pub(crate) fn init(&mut self, alloc: Global, w: u8, last: &mut u64) -> Result<u64, AllocError>
@@ -164,7 +185,9 @@ impl<W: Work> SharedState<W> {
         ensures last_stays { OnErr result (last.new ≡ last.old) }
         ensures grows { Grows self.old self.new }
     {
-        init_own(&mut self.cluster, alloc, w, last)
+        let answer = init_own(&mut self.cluster, alloc, w, last);
+        let _journal = self.cluster.journal();
+        answer
     }
 
     pub(crate) fn add(
@@ -182,7 +205,133 @@ impl<W: Work> SharedState<W> {
         ensures last_stays { OnErr result (last.new ≡ last.old) }
         ensures grows { Grows self.old self.new }
     {
-        add_own(&mut self.cluster, alloc, w, epoch, part, last)
+        let answer = add_own(&mut self.cluster, alloc, w, epoch, part, last);
+        let _journal = self.cluster.journal();
+        answer
+    }
+
+    pub(crate) fn append(
+        &mut self,
+        alloc: Global,
+        w: u8,
+        epoch: u64,
+        number: u64,
+        task: TaskId,
+        part: PartId,
+        recs: &[Rec],
+        last: &mut u64,
+    ) -> Result<Result<u64, Barred>, AllocError>
+        requires { Meets (setup_of W.plan self.old) (state_of W.plan self.old)
+            (Append w epoch number task part recs.now) }
+        ensures ok { IfOk result (λ r. IsOwn W.plan self.old self.new w last.old last.new
+            (Append w epoch number task part recs.now) (λ n. Number n) r) }
+        ensures err { OnErr result (self.new ≡ self.old) }
+        ensures last_stays { OnErr result (last.new ≡ last.old) }
+        ensures grows { Grows self.old self.new }
+    {
+        let answer = append_own(
+            &mut self.cluster,
+            alloc,
+            w,
+            epoch,
+            number,
+            task,
+            part,
+            recs,
+            last,
+        );
+        let _journal = self.cluster.journal();
+        answer
+    }
+
+    pub(crate) fn send_offsets(
+        &mut self,
+        alloc: Global,
+        w: u8,
+        epoch: u64,
+        generation: u64,
+        task: TaskId,
+        offsets: &[(u16, u64)],
+        order: &[(u16, u64)],
+        late: u64,
+        last: &mut u64,
+    ) -> Result<Result<(), Barred>, AllocError>
+        requires { Meets (setup_of W.plan self.old) (state_of W.plan self.old)
+            (SendOffsets w epoch generation task offsets.now order.now late) }
+        ensures ok { IfOk result (λ r. IsOwn W.plan self.old self.new w last.old last.new
+            (SendOffsets w epoch generation task offsets.now order.now late) (λ u. Done) r) }
+        ensures err { OnErr result (self.new ≡ self.old) }
+        ensures last_stays { OnErr result (last.new ≡ last.old) }
+        ensures grows { Grows self.old self.new }
+    {
+        let answer = send_own(
+            &mut self.cluster,
+            alloc,
+            w,
+            epoch,
+            generation,
+            task,
+            offsets,
+            order,
+            late,
+            last,
+        );
+        let _journal = self.cluster.journal();
+        answer
+    }
+
+    pub(crate) fn decide(
+        &mut self,
+        alloc: Global,
+        w: u8,
+        epoch: u64,
+        commit: bool,
+        last: &mut u64,
+    ) -> Result<Result<(), Barred>, AllocError>
+        requires meets { Meets (setup_of W.plan self.old) (state_of W.plan self.old) (Decide w epoch commit) }
+        requires faithful { touched w self.old.journal ≡ last.old
+            → CommitsFaithfully (setup_of W.plan self.old) (state_of W.plan self.old) (Decide w epoch commit) }
+        ensures ok { IfOk result (λ r. IsOwn W.plan self.old self.new w last.old last.new
+            (Decide w epoch commit) (λ u. Done) r) }
+        ensures err { OnErr result (self.new ≡ self.old) }
+        ensures last_stays { OnErr result (last.new ≡ last.old) }
+        ensures grows { Grows self.old self.new }
+    {
+        let answer = decide_own(&mut self.cluster, alloc, w, epoch, commit, last);
+        let _journal = self.cluster.journal();
+        answer
+    }
+
+    pub(crate) fn fetch(
+        &self,
+        alloc: Global,
+        part: PartId,
+        from: u64,
+        max: u32,
+    ) -> Result<(Vec<(u64, Rec)>, u64), AllocError>
+        requires { MayFetch (setup_of W.plan self.now) (state_of W.plan self.now) part from max }
+        ensures records { IfOk result
+            (λ r. r.0.items ≡ (fetched (state_of W.plan self.now) part from max).0) }
+        ensures next { IfOk result (λ r. r.1 ≡ (fetched (state_of W.plan self.now) part from max).1) }
+    {
+        self.cluster.fetch(alloc, part, from, max)
+    }
+
+    pub(crate) fn committed(
+        &self,
+        alloc: Global,
+        w: u8,
+        generation: u64,
+        task: TaskId,
+    ) -> Result<Result<Vec<(u16, u64)>, Refused>, AllocError>
+        requires worker { w ≤ 16 }
+        requires task { has_task task (setup_of W.plan self.now).tasks ≡ true }
+        ensures offsets { IfOk result (λ r. IfOk r
+            (λ v. v.items ≡ committed_offsets (setup_of W.plan self.now) (state_of W.plan self.now) task)) }
+        ensures refused { IfOk result
+            (λ r. Refuses (committed_refusal (state_of W.plan self.now) w generation task) r) }
+    {
+        self.cluster.committed(alloc, w, generation, task)
     }
 
     pub(crate) fn ends(&self, alloc: Global, parts: &[PartId]) -> Result<Vec<u64>, AllocError>
@@ -190,5 +339,56 @@ impl<W: Work> SharedState<W> {
         ensures { IfOk result (λ v. v.items ≡ ends_of (state_of W.plan self.now) parts.now) }
     {
         self.cluster.ends(alloc, parts)
+    }
+
+    pub(crate) fn status(&self, alloc: Global) -> Result<Status, AllocError>
+        ensures { IfOk result (λ r. r ≡ status (setup_of W.plan self.now) (state_of W.plan self.now)) }
+    {
+        self.cluster.status(alloc)
+    }
+
+    // On want of memory the replica comes back.
+    pub(crate) fn park(
+        &mut self,
+        alloc: Global,
+        instance: u8,
+        replica: Replica,
+    ) -> Result<(), AllocFailed<Replica>>
+        requires meets { Meets (setup_of W.plan self.old) (state_of W.plan self.old) (Park instance replica.id) }
+        requires follows { IsReplicaOf (setup_of W.plan self.old) self.old.journal replica.id replica }
+        ensures ok { OnOk result (AddsEntry W.plan self.old self.new (Park instance replica.id) Done) }
+        ensures err { IfErr result (λ e. (e.value ≡ replica) × (self.new ≡ self.old)) }
+        ensures grows { Grows self.old self.new }
+    {
+        let task = replica.id();
+        if self.shelf.make_place(instance, task).is_err() {
+            return Err(AllocFailed { value: replica });
+        }
+        match self.cluster.park(alloc, instance, task) {
+            Ok(()) => {}
+            Err(_) => return Err(AllocFailed { value: replica }),
+        }
+        let _journal = self.cluster.journal();
+        self.shelf.set(instance, replica);
+        Ok(())
+    }
+
+    pub(crate) fn unpark(
+        &mut self,
+        alloc: Global,
+        instance: u8,
+        task: TaskId,
+    ) -> Result<Option<Replica>, AllocError>
+        requires { Meets (setup_of W.plan self.old) (state_of W.plan self.old) (Unpark instance task) }
+        ensures ok { IfOk result
+            (λ o. AddsEntry W.plan self.old self.new (Unpark instance task) (Truth (is_some o))) }
+        ensures follows { IfOk result
+            (λ o. IfSome o (IsReplicaOf (setup_of W.plan self.new) self.new.journal task)) }
+        ensures err { OnErr result (self.new ≡ self.old) }
+        ensures grows { Grows self.old self.new }
+    {
+        let _is_parked = self.cluster.unpark(alloc, instance, task)?;
+        let _journal = self.cluster.journal();
+        Ok(self.shelf.take(instance, task))
     }
 }

@@ -8,7 +8,7 @@ use Rattle.ks_row.specs.declared.record.Rec.{Rec}
 use Rattle.ks_row.specs.declared.record.PartId.{PartId}
 use Rattle.ks_row.specs.declared.record.TaskId.{TaskId}
 use Rattle.ks_row.specs.Parts.{same_part}
-use Rattle.ks_def_maps.specs.Bytes.{Store, empty_store}
+use Rattle.ks_def_maps.specs.Bytes.{Store}
 use Rattle.ks_def_runs.specs.Run.{Outcome, sent_to}
 use Rattle.ks_plan.specs.Drafts.{DraftView}
 use Rattle.ks_plan.specs.Plan.{Plan, Kind, plan_of}
@@ -19,7 +19,8 @@ use Rattle.ks_history.specs.Machine.{TaskPlan as Work, has_topic, network, part_
 use Rattle.ks_history.specs.State.{with_number, offset_in}
 use Rattle.ks_history.specs.Faithful.{capped}
 use Rattle.ks_law_topology.specs.Work.{work_of}
-use Rattle.ks_law_restore.specs.Views.{fresh_view, with_taken, take_view, skip_view, committed_view, WorkView, IsFrozen, recs_at, are_outputs}
+use Rattle.ks_law_restore.specs.Replicas.{restored_view}
+use Rattle.ks_law_restore.specs.Views.{with_taken, take_view, skip_view, committed_view, WorkView, IsFrozen, recs_at, are_outputs}
 use Rattle.ks_task.specs.declared.inputs.Input.{Input}
 use Rattle.ks_processors.specs.declared.changelogs.Changelog.{Changelog}
 use Rattle.ks_nodes.specs.declared.topics.NodeTopics.{NodeTopics}
@@ -28,7 +29,8 @@ use Rattle.ks_law_step.specs.Whole.{IsRecord, AreStores}
 use Rattle.ks_nodes.specs.Nodes.{nodes_of}
 use Rattle.ks_nodes.specs.Records.{arrival_at}
 use Rattle.ks_processors.specs.Steps.{stores_in, made_or_none, late_or_none}
-use Rattle.ks_task.specs.Views.{position_in, committed_in, topics_in, moved_to, with_committed, positions_in, numbers_of, log_after, ended, own_ends, view_of, IsTask, are_committed, grouped}
+use Rattle.ks_standby.specs.Replicas.{positions_in, numbers_of, view_in}
+use Rattle.ks_task.specs.Views.{position_in, committed_in, topics_in, moved_to, with_committed, input_at, log_after, ended, own_ends, view_of, IsTask, are_committed, grouped}
 use Rattle.ks_task.proofs.Stepping.{step_is}
 use Rattle.ks_task.proofs.Outputs.{grouped_once, grouped_recs}
 
@@ -193,39 +195,22 @@ pub capped_late : (a n m late : ℕ) → n ≡ capped m → late ≡ capped (a +
 capped_late a n m late e f = f ∙ (ap (λ i. capped (a + i)) e ∙ capped_twice a m)
 
 -- ---- the calls
-pub fresh_is : (t : TaskId) (topics numbers : List ℕ) → view_of t (map (λ topic. record { topic = topic; committed = 0; position = 0 }) topics) (map (λ number. record { topic = number; position = 0; store = empty_store }) numbers) [] [] 0 ≡ fresh_view t
-fresh_is t topics numbers =
-    ap₂ (λ (k i : ℕ → ℕ). record { task = t; kept = k; inputs = i; order = []; position = positions_in new_logs; stores = stores_in new_logs; made = λ (q : PartId). []; late = 0 })
-    (fun_ext (λ q. none_kept topics q)) (fun_ext (λ q. none_moved topics q))
-    ∙ ap₂ (λ (p : ℕ → ℕ) (s : ℕ → Store). record { task = t; kept = λ (q : ℕ). 0; inputs = λ (q : ℕ). 0; order = []; position = p; stores = s; made = λ (q : PartId). []; late = 0 })
-    (fun_ext (λ q. none_ended numbers q)) (fun_ext (λ q. none_stored numbers q))
-  where
-    new_logs : List Changelog
-    new_logs = map (λ number. record { topic = number; position = 0; store = empty_store }) numbers
+pub topics_at : (offsets : List (ℕ × ℕ)) → topics_in (map input_at offsets) ≡ map (λ (o : ℕ × ℕ). o.0) offsets
+topics_at [] = refl
+topics_at (o ∷ os) = ap (λ ns. o.0 ∷ ns) (topics_at os)
 
-    none_kept : (ns : List ℕ) (q : ℕ) → committed_in (map (λ topic. record { topic = topic; committed = 0; position = 0 }) ns) q ≡ 0
-    none_kept [] q = refl
-    none_kept (n ∷ ns) q = ap (λ (r : ℕ). if q == n then 0 else r) (none_kept ns q) ∙ both (q == n) 0
+committed_at : (offsets : List (ℕ × ℕ)) (q : ℕ) → committed_in (map input_at offsets) q ≡ offset_in 0 q offsets
+committed_at [] q = refl
+committed_at (o ∷ os) q = ap (λ (r : ℕ). if q == o.0 then o.1 else r) (committed_at os q)
 
-    none_moved : (ns : List ℕ) (q : ℕ) → position_in (map (λ topic. record { topic = topic; committed = 0; position = 0 }) ns) q ≡ 0
-    none_moved [] q = refl
-    none_moved (n ∷ ns) q = ap (λ (r : ℕ). if q == n then 0 else r) (none_moved ns q) ∙ both (q == n) 0
+position_at : (offsets : List (ℕ × ℕ)) (q : ℕ) → position_in (map input_at offsets) q ≡ offset_in 0 q offsets
+position_at [] q = refl
+position_at (o ∷ os) q = ap (λ (r : ℕ). if q == o.0 then o.1 else r) (position_at os q)
 
-    none_ended : (ns : List ℕ) (q : ℕ) → positions_in (map (λ number. record { topic = number; position = 0; store = empty_store }) ns) q ≡ 0
-    none_ended [] q = refl
-    none_ended (n ∷ ns) q = ap (λ (r : ℕ). if q == n then 0 else r) (none_ended ns q) ∙ both (q == n) 0
-
-    none_stored : (ns : List ℕ) (q : ℕ) → stores_in (map (λ number. record { topic = number; position = 0; store = empty_store }) ns) q ≡ empty_store
-    none_stored [] q = refl
-    none_stored (n ∷ ns) q = ap (λ (r : Store). if q == n then empty_store else r) (none_stored ns q) ∙ both (q == n) empty_store
-
-pub fresh_topics : (topics : List ℕ) → topics_in (map (λ topic. record { topic = topic; committed = 0; position = 0 }) topics) ≡ topics
-fresh_topics [] = refl
-fresh_topics (t ∷ ts) = ap (λ l. t ∷ l) (fresh_topics ts)
-
-pub fresh_numbers : (numbers : List ℕ) → numbers_of (map (λ number. record { topic = number; position = 0; store = empty_store }) numbers) ≡ numbers
-fresh_numbers [] = refl
-fresh_numbers (n ∷ ns) = ap (λ l. n ∷ l) (fresh_numbers ns)
+pub restored_is : (t : TaskId) (offsets : List (ℕ × ℕ)) (logs : List Changelog) → view_of t (map input_at offsets) logs [] [] 0 ≡ restored_view (view_in t logs) (λ topic. offset_in 0 topic offsets)
+restored_is t offsets logs =
+    ap₂ (λ (k i : ℕ → ℕ). record { task = t; kept = k; inputs = i; order = []; position = positions_in logs; stores = stores_in logs; made = λ (q : PartId). []; late = 0 })
+    (fun_ext (λ q. committed_at offsets q)) (fun_ext (λ q. position_at offsets q))
 
 module _ (d : DraftView) (id : TaskId) (nodes : List NodeTopics) (inputs : List Input) (logs : List Changelog) (h : IsTask d id nodes inputs logs) where
   pub still : (inputs' : List Input) (logs' : List Changelog) → topics_in inputs' ≡ topics_in inputs → numbers_of logs' ≡ numbers_of logs → IsTask d id nodes inputs' logs'

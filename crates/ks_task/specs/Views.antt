@@ -5,7 +5,6 @@ use Rattle.ks_row.specs.declared.record.Rec.{Rec}
 use Rattle.ks_row.specs.declared.record.PartId.{PartId}
 use Rattle.ks_row.specs.declared.record.TaskId.{TaskId}
 use Rattle.ks_row.specs.Parts.{same_part}
-use Rattle.ks_def_maps.specs.Bytes.{Store, empty_store}
 use Rattle.ks_plan.specs.Drafts.{DraftView}
 use Rattle.ks_plan.specs.Plan.{plan_of}
 use Rattle.ks_plan.specs.Layout.{tasks}
@@ -23,6 +22,7 @@ use Rattle.ks_nodes.specs.Rules.{HaveParts}
 use Rattle.ks_nodes.specs.Nodes.{topics_from}
 use Rattle.ks_processors.specs.declared.changelogs.Changelog.{Changelog}
 use Rattle.ks_processors.specs.Steps.{stores_in}
+use Rattle.ks_standby.specs.Replicas.{positions_in, numbers_of}
 use Rattle.ks_law_kinds.specs.Fitting.{FitsPlan}
 
 -- ---- inputs, by topic
@@ -43,14 +43,11 @@ moved_to topic position x = if topic == x.topic then record { topic = x.topic; c
 abbrev pub with_committed : Input → Input
 with_committed x = record { topic = x.topic; committed = x.position; position = x.position }
 
--- ---- changelogs, by number
-abbrev pub positions_in : List Changelog → ℕ → ℕ
-positions_in [] number = 0
-positions_in (l ∷ ls) number = if number == l.topic then l.position else positions_in ls number
+-- an input at an offset that is committed
+abbrev pub input_at : ℕ × ℕ → Input
+input_at o = record { topic = o.0; committed = o.1; position = o.1 }
 
-abbrev pub numbers_of : List Changelog → List ℕ
-numbers_of ls = map (λ (l : Changelog). l.topic) ls
-
+-- ---- changelogs
 -- after the records for it among these
 abbrev pub log_after : ℕ → List (PartId × Rec) → Changelog → Changelog
 log_after part made l = record { topic = l.topic; position = l.position; store = keep_all l.store (records_at (record { topic = l.topic; part = part }) made) }

@@ -1,46 +1,17 @@
-//! The changelogs of a task, with their stores.
-ghost use Rattle.std.specs.Prelude.{◌≡◌, IfOk, OnOk, map};
-ghost use Rattle.ks_def_maps.specs.Bytes.{empty_store};
+//! What a task keeps in its changelogs, with their stores.
+ghost use Rattle.std.specs.Prelude.{◌≡◌, OnOk, map};
 ghost use Rattle.ks_def_tasks.specs.Bytes.{keep_bytes, keep_all as kept_all, records_at};
 ghost use Rattle.ks_history.specs.State.{offset_in};
 ghost use Rattle.ks_row.specs.Spelling.{IsBytes};
 ghost use Rattle.ks_law_step.specs.Whole.{IsRecord, AreStores};
 ghost use Rattle.ks_processors.specs.Steps.{stores_in};
-ghost use Rattle.ks_task.specs.Views.{positions_in, numbers_of, log_after, ended};
+ghost use Rattle.ks_standby.specs.Replicas.{numbers_of};
+ghost use Rattle.ks_task.specs.Views.{log_after, ended};
 
 use ks_processors::Changelog;
 use ks_row::{PartId, Rec};
 use ks_store::{KvStore, OrderedStore};
 use std::alloc::{AllocError, Global};
-
-/// New changelogs, with empty stores.
-pub fn new_changelogs(alloc: Global, numbers: &[u16]) -> Result<Vec<Changelog>, AllocError>
-    ensures { IfOk result (λ v. v.items ≡ map (λ number. record { topic = number; position = 0; store = empty_store }) numbers.now) }
-{
-    let mut changelogs = Vec::new(alloc);
-    for number in numbers {
-        changelogs.push(Changelog {
-            topic: *number,
-            position: 0,
-            store: OrderedStore::new(alloc),
-        })?;
-    }
-    Ok(changelogs)
-}
-
-/// The position in a changelog; 0 where it is none of the task's.
-pub fn position_in_changelog(changelogs: &[Changelog], number: u16) -> u64
-    ensures { result ≡ positions_in changelogs.now number }
-{
-    let mut rest = changelogs;
-    while let [changelog, more @ ..] = rest {
-        if number == changelog.topic {
-            return changelog.position;
-        }
-        rest = more;
-    }
-    0
-}
 
 fn keep_rec(store: &mut OrderedStore, rec: &Rec) -> Result<(), AllocError>
     ensures { OnOk result (store.new ≡ keep_bytes store.old rec.now.key rec.now.value) }

@@ -1,30 +1,29 @@
 //! A task at work.
-ghost use Rattle.std.specs.Prelude.{◌≡◌, ℕ, List, IfOk, OnOk, map, true, slice_get, option_map};
+ghost use Rattle.std.specs.Prelude.{◌≡◌, ℕ, List, IfOk, IfErr, OnOk, map, true, slice_get, option_map};
 ghost use Rattle.ks_plan.specs.Drafts.{DraftView};
 ghost use Rattle.ks_plan.specs.Plan.{plan_of};
 ghost use Rattle.ks_topo.specs.Topologies.{draft_of, plan_in};
 ghost use Rattle.ks_plan.specs.Layout.{tasks, topic_at};
 ghost use Rattle.ks_plan.specs.Infos.{input_numbers, changelog_numbers};
 ghost use Rattle.ks_history.specs.Machine.{has_topic};
-ghost use Rattle.ks_history.specs.State.{has_task};
+ghost use Rattle.ks_history.specs.State.{has_task, offset_in};
 ghost use Rattle.ks_history.specs.Faithful.{capped};
 ghost use Rattle.ks_law_topology.specs.Work.{work_of};
-ghost use Rattle.ks_law_restore.specs.Views.{fresh_view, take_view, skip_view, committed_view, IsFrozen};
+ghost use Rattle.ks_law_restore.specs.Replicas.{restored_view, rested_view};
+ghost use Rattle.ks_law_restore.specs.Views.{take_view, skip_view, committed_view, IsFrozen};
 ghost use Rattle.ks_commit.specs.Work.{work_view};
 ghost use Rattle.ks_nodes.specs.Rules.{HaveParts, rules_of};
 ghost use Rattle.ks_nodes.specs.Nodes.{node_view, kinds_in, nodes_of};
 ghost use Rattle.ks_nodes.specs.Records.{arrival_of, arrival_at};
 ghost use Rattle.ks_processors.specs.Steps.{stores_in, made_or_none, late_or_none};
+ghost use Rattle.ks_standby.specs.Replicas.{replica_view, changelogs_of};
 ghost use Rattle.ks_task.specs.Views.{own_ends};
-ghost use Rattle.ks_task.specs.Tasks.{task_view, IsTaskOf};
+ghost use Rattle.ks_task.specs.Tasks.{task_view, IsClean, IsTaskOf};
 
-use crate::changelogs::{
-    end_changelogs, hold_bytes, keep_records, new_changelogs, position_in_changelog,
-    record_is_bytes,
-};
+use crate::changelogs::{end_changelogs, hold_bytes, keep_records, record_is_bytes};
 use crate::freezing::group;
 use crate::inputs::{
-    Input, are_all_committed, commit_inputs, move_input, new_inputs, offsets_of, position_of,
+    Input, are_all_committed, commit_inputs, inputs_at, move_input, offsets_of, position_of,
     take_in_order,
 };
 use ks_commit::Frozen;
@@ -35,8 +34,9 @@ use ks_nodes::{
 };
 use ks_processors::{Changelog, Step, StepOutput, process};
 use ks_row::{PartId, Rec, Seq, TaskId};
+use ks_standby::{Replica, position_in_changelog};
 use ks_topo::{Topic, Topology};
-use std::alloc::{AllocError, Global};
+use std::alloc::{AllocError, AllocFailed, Global};
 
 /// A task: its nodes, its stores and positions, and what it made since its last commit. A node is kept by the numbers of its topics; what
 /// it computes is borrowed of the topology while a record is taken.
@@ -97,20 +97,39 @@ fn process_record<'s, H: Hash128>(
 }
 
 impl Task {
-    /// A task of a topology that has taken nothing, with empty stores.
-    pub fn fresh(alloc: Global, topology: &Topology, task: TaskId) -> Result<Task, AllocError>
+    /// A task made of a replica, with the committed offset of each of its inputs. On want of memory the replica comes back.
+    ///
+    /// It follows every journal that the replica follows, in which these are the committed offsets and the replica has reached the
+    /// ends of its changelogs.
+    pub fn of(
+        alloc: Global,
+        topology: &Topology,
+        replica: Replica,
+        offsets: &[(u16, u64)],
+    ) -> Result<Task, AllocFailed<Replica>>
         requires parts { HaveParts (plan_in topology.now) }
-        requires there { has_task task (tasks (plan_in topology.now)) ≡ true }
+        requires there { has_task replica.id (tasks (plan_in topology.now)) ≡ true }
+        requires changelogs { changelogs_of replica
+            ≡ changelog_numbers (plan_in topology.now) replica.id.sub }
+        requires offsets { map (λ o. o.0) offsets.now
+            ≡ input_numbers (plan_in topology.now) replica.id.sub }
         ensures task { IfOk result (λ t. IsTaskOf (draft_of topology.now) t) }
-        ensures view { IfOk result (λ t. task_view t ≡ fresh_view task) }
+        ensures view { IfOk result (λ t. task_view t
+            ≡ restored_view (replica_view replica) (λ topic. offset_in 0 topic offsets.now)) }
+        ensures err { IfErr result (λ e. e.value ≡ replica) }
     {
         // What a topology is built of can be written: the machine's law asks for it.
         topology_fits(topology);
-        let nodes = node_topics(alloc, topology.purposes(), task.sub, topology.nodes())?;
-        let inputs = new_inputs(alloc, topology.inputs(task.sub))?;
-        let changelogs = new_changelogs(alloc, topology.changelogs(task.sub))?;
+        let sub = replica.id().sub;
+        let Ok(nodes) = node_topics(alloc, topology.purposes(), sub, topology.nodes()) else {
+            return Err(AllocFailed { value: replica });
+        };
+        let Ok(inputs) = inputs_at(alloc, offsets) else {
+            return Err(AllocFailed { value: replica });
+        };
+        let (id, changelogs) = replica.into_parts();
         Ok(Task {
-            id: task,
+            id,
             nodes,
             inputs,
             changelogs,
@@ -118,6 +137,22 @@ impl Task {
             made: Vec::new(alloc),
             late: 0,
         })
+    }
+
+    /// The replica that a clean task is; the task comes back exactly where it isn't clean. Takes no memory.
+    pub fn rest(self) -> Result<Replica, Task>
+        ensures view { IfOk result (λ r. replica_view r ≡ rested_view (task_view self)) }
+        ensures changelogs { (d : DraftView) → IsTaskOf d self → IfOk result (λ r. changelogs_of r
+            ≡ changelog_numbers (plan_of d) r.id.sub) }
+        ensures clean { IfOk result (λ r. IsClean (task_view self)) }
+        ensures back { IfErr result (λ t. t ≡ self) }
+        ensures dirty { IfErr result (λ t. IsClean (task_view self) → ⊥) }
+    {
+        if !self.is_clean() {
+            return Err(self);
+        }
+        let Task { id, changelogs, .. } = self;
+        Ok(Replica::of_parts(id, changelogs))
     }
 
     // All that the nodes make of a record of a topic.
@@ -232,8 +267,8 @@ impl Task {
     /// Whether it took nothing since its last commit, nor passed over anything: each position is its committed offset. Takes no
     /// memory.
     pub fn is_clean(&self) -> bool
-        ensures yes { result ≡ true → (topic : ℕ) → (task_view self.now).inputs topic ≡ (task_view self.now).kept topic }
-        ensures no { ((topic : ℕ) → (task_view self.now).inputs topic ≡ (task_view self.now).kept topic) → result ≡ true }
+        ensures yes { result ≡ true → IsClean (task_view self.now) }
+        ensures no { IsClean (task_view self.now) → result ≡ true }
     {
         are_all_committed(&self.inputs)
     }

@@ -7,12 +7,10 @@ ghost use Rattle.ks_cluster.specs.View.{state_of};
 ghost use Rattle.ks_law_exactly_once.specs.Example.{setup, active_at};
 ghost use Rattle.ks_test_cluster.specs.Ours.{IsOurs};
 
-use crate::copying::Copying;
+use crate::copying::{Copying, TASK};
 use ks_cluster::Cluster;
 use ks_row::{Assignment, PartId, Rec, Refused, Seq, TaskId};
 use std::alloc::{AllocError, Global};
-
-pub const TASK: TaskId = TaskId { sub: 0, part: 0 };
 
 /// A call. All are of the only task and of partition 0 of the topic that is named.
 #[derive(Clone, Copy)]
@@ -91,24 +89,7 @@ pub enum Call {
     Offset,
     Late,
     Pending,
-}
-
-/// A cluster with one partition of the input and of the changelog, and one task.
-pub fn new_cluster(alloc: Global) -> Result<Cluster<Copying>, AllocError>
-    ensures ours { IfOk result IsOurs }
-    ensures new { IfOk result (λ c. c.journal ≡ []) }
-{
-    let mut counts = Vec::new(alloc);
-    counts.push(1)?;
-    counts.push(1)?;
-    let mut tasks = Vec::new(alloc);
-    tasks.push(TASK)?;
-    let work = Copying {
-        inputs: [0],
-        changelogs: [1],
-    };
-    let cluster = Cluster::new(alloc, work, counts, tasks)?;
-    Ok(cluster)
+    Status,
 }
 
 fn number_text(alloc: Global, outcome: Result<u64, Refused>) -> Result<String, AllocError> {
@@ -389,7 +370,7 @@ fn expire_and_commit(
     }
 }
 
-fn fetch(
+pub fn fetch(
     alloc: Global,
     cluster: &Cluster<Copying>,
     topic: u16,
@@ -456,6 +437,39 @@ fn offset(alloc: Global, cluster: &Cluster<Copying>) -> Result<String, AllocErro
     number_text(alloc, Ok(cluster.offset(TASK, 0)))
 }
 
+fn push_held(text: &mut String, held: &[(u8, TaskId, u64)]) -> Result<(), AllocError> {
+    for (w, task, position) in held {
+        writeln!(
+            text,
+            "worker {w} holds {}_{} at {position}",
+            task.sub, task.part
+        )?;
+    }
+    Ok(())
+}
+
+fn push_ends(text: &mut String, ends: &[(PartId, u64)]) -> Result<(), AllocError> {
+    for (part, end) in ends {
+        writeln!(text, "{}/{} ends at {end}", part.topic, part.part)?;
+    }
+    Ok(())
+}
+
+fn status(alloc: Global, cluster: &Cluster<Copying>) -> Result<String, AllocError> {
+    let status = cluster.status(alloc)?;
+    let mut text = String::new(alloc);
+    writeln!(
+        text,
+        "generation {}, members {}, markers {}",
+        status.generation,
+        status.members.len(),
+        status.waiting
+    )?;
+    push_held(&mut text, status.held.as_slice())?;
+    push_ends(&mut text, status.ends.as_slice())?;
+    Ok(text)
+}
+
 /// Makes a call that writes, and answers with a text; None for a call that reads.
 fn write(
     alloc: Global,
@@ -508,6 +522,7 @@ fn read(alloc: Global, cluster: &Cluster<Copying>, call: &Call) -> Result<String
         Call::Offset => offset(alloc, cluster),
         Call::Late => number_text(alloc, Ok(cluster.late())),
         Call::Pending => number_text(alloc, Ok(u64::from(cluster.pending()))),
+        Call::Status => status(alloc, cluster),
         _ => not_made(alloc),
     }
 }

@@ -2,13 +2,13 @@
 ghost use Rattle.std.specs.Prelude.{◌≡◌, ◌∷◌, [], IfOk};
 ghost use Rattle.ks_test_cluster.specs.Stages.{Stands};
 
-use crate::calls::{TASK, active, new_cluster};
-use crate::copying::Copying;
+use crate::calls::active;
+use crate::copying::{Copying, TASK, new_cluster};
 use ks_cluster::Cluster;
 use ks_row::{PartId, Rec};
 use std::alloc::{AllocError, Global};
 
-fn produced(alloc: Global, rec: &Rec) -> Result<Cluster<Copying>, AllocError>
+pub fn produced(alloc: Global, rec: &Rec) -> Result<Cluster<Copying>, AllocError>
     ensures { IfOk result (λ c. Stands 1 rec.now c) }
 {
     let mut cluster = new_cluster(alloc)?;

@@ -1,7 +1,13 @@
 //! A work whose task copies its input to its changelog.
-ghost use Rattle.std.specs.Prelude.{◌≡◌, ◌∷◌, []};
+ghost use Rattle.std.specs.Prelude.{◌≡◌, ◌∷◌, [], IfOk};
+ghost use Rattle.ks_test_cluster.specs.Ours.{IsOurs};
 
-use ks_cluster::Work;
+use ks_cluster::{Cluster, Work};
+use ks_row::TaskId;
+use std::alloc::{AllocError, Global};
+
+/// The only task.
+pub const TASK: TaskId = TaskId { sub: 0, part: 0 };
 
 /// Subtopology 0 copies topic 0 to its changelog, topic 1.
 #[derive(Drop)]
@@ -31,4 +37,22 @@ impl Work for Copying {
     }
 
     ghost network = { λ work. is_network };
+}
+
+/// A cluster with one partition of the input and of the changelog, and one task.
+pub fn new_cluster(alloc: Global) -> Result<Cluster<Copying>, AllocError>
+    ensures ours { IfOk result IsOurs }
+    ensures new { IfOk result (λ c. c.journal ≡ []) }
+{
+    let mut counts = Vec::new(alloc);
+    counts.push(1)?;
+    counts.push(1)?;
+    let mut tasks = Vec::new(alloc);
+    tasks.push(TASK)?;
+    let work = Copying {
+        inputs: [0],
+        changelogs: [1],
+    };
+    let cluster = Cluster::new(alloc, work, counts, tasks)?;
+    Ok(cluster)
 }

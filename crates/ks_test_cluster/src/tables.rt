@@ -2,18 +2,19 @@
 
 ghost use Rattle.ks_test_cluster.specs.Ours.{IsOurs};
 
-use crate::calls::{Call, answer, new_cluster};
+use crate::calls::{Call, answer};
 use crate::commit::{decided, marked, sent};
-use crate::copying::Copying;
+use crate::copying::{Copying, new_cluster};
 use ks_cluster::Cluster;
 use ks_history::Reply;
+use ks_journal::push_journal;
 use ks_row::{Blob, Rec};
 use std::alloc::{AllocError, Global};
 use std::process::Abort;
 use std::test::Fail;
 
 /// The record of key a with the row `{"n":1}`.
-fn record(alloc: Global) -> Result<Rec, AllocError> {
+pub fn record(alloc: Global) -> Result<Rec, AllocError> {
     Ok(Rec {
         key: Some(Blob::from_slice(alloc, b"a")?),
         value: Some(Blob::from_slice(alloc, b"\x01\x01n\x00\x00\x00\x00\x00\x00\x00\x00\x01")?),
@@ -106,6 +107,10 @@ const ZOMBIE: &[(Call, &str)] = &[
     (Call::MarkNext { w: 0 }, "none"),
     (Call::Hold { w: 1, position: 2 }, "done"),
     (
+        Call::Status,
+        "generation 3, members 1, markers 0\nworker 1 holds 0_0 at 2\n1/0 ends at 2\n",
+    ),
+    (
         Call::Probe {
             w: 1,
             generation: 3,
@@ -120,6 +125,27 @@ const ZOMBIE: &[(Call, &str)] = &[
         "the generation is 4",
     ),
 ];
+
+/// The journal of these calls, a line for each that writes.
+const ZOMBIE_JOURNAL: &str = r#"["produce",0,0,["61","01016e000000000000000001",0],0]
+["init",0,1]
+["join",0,1]
+["assign",0,1,[["0_0",0]],[],[],true]
+["add",0,1,1,0,true]
+["append",0,1,0,"0_0",1,0,[["61","01016e000000000000000001",0]],0]
+["offsets",0,1,1,"0_0",[[0,1]],[[0,1]],0,true]
+["init",1,1]
+["join",1,2]
+["assign",1,2,[["0_0",1]],[],[],true]
+["expire",0,true]
+["decide",0,1,true,[2,2]]
+["mark",0,[1,0,false]]
+["assign",1,3,[["0_0",1]],[],[],true]
+["mark",0,null]
+["hold",1,[["0_0",2]],true]
+["probe",1,3,4]
+["probe",1,3,[5,4]]
+"#;
 
 /// What else may be asked, and an abort.
 const OTHERS: &[(Call, &str)] = &[
@@ -243,7 +269,7 @@ fn run_all<R: Abort>(
     cluster: Cluster<Copying>,
     recs: &[Rec; 1],
     table: &[(Call, &str)],
-) -> Result<(), Fail>
+) -> Result<Cluster<Copying>, Fail>
     requires { IsOurs cluster }
 {
     let mut cluster = cluster;
@@ -251,7 +277,7 @@ fn run_all<R: Abort>(
         let told = answer(alloc, &mut cluster, recs, call)?;
         assert_eq!(rt; told.as_str(), *expected);
     }
-    Ok(())
+    Ok(cluster)
 }
 
 /// The replies that a journal keeps, one a line.
@@ -278,11 +304,22 @@ fn replies(alloc: Global, cluster: &Cluster<Copying>) -> Result<String, AllocErr
 fn calls_and_answers(rt: HostRuntime) -> Result<(), Fail> {
     let alloc = rt.alloc();
     let recs = [record(alloc)?];
-    run_all(&rt, alloc, new_cluster(alloc)?, &recs, ZOMBIE)?;
     run_all(&rt, alloc, new_cluster(alloc)?, &recs, OTHERS)?;
     run_all(&rt, alloc, sent(alloc, &recs[0], &recs)?, &recs, BEFORE)?;
     run_all(&rt, alloc, decided(alloc, &recs[0], &recs)?, &recs, BETWEEN)?;
-    run_all(&rt, alloc, marked(alloc, &recs[0], &recs)?, &recs, AFTER)
+    run_all(&rt, alloc, marked(alloc, &recs[0], &recs)?, &recs, AFTER)?;
+    Ok(())
+}
+
+#[test]
+fn zombie_and_its_journal(rt: HostRuntime) -> Result<(), Fail> {
+    let alloc = rt.alloc();
+    let recs = [record(alloc)?];
+    let cluster = run_all(&rt, alloc, new_cluster(alloc)?, &recs, ZOMBIE)?;
+    let mut text = Vec::new(alloc);
+    push_journal(&mut text, cluster.journal())?;
+    assert_eq!(rt; text.as_slice(), ZOMBIE_JOURNAL.as_bytes());
+    Ok(())
 }
 
 #[test]

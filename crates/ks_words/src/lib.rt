@@ -8,6 +8,6 @@ mod settings;
 mod words;
 
 pub use command::Command;
-pub use load::load_job;
+pub use load::{LoadRecord, Section, load_job};
 pub use settings::Settings;
 pub use words::read_words;

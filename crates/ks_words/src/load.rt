@@ -12,7 +12,7 @@ const TOPOLOGY: &str =
 
 /// A record of the load job.
 #[derive(Clone, Copy, PartialEq, Eq, Debug)]
-pub(crate) enum LoadRecord {
+pub enum LoadRecord {
     /// An order, its customer and its amount.
     Order(u32, u32, u32),
     /// An order that goes.
@@ -23,11 +23,16 @@ pub(crate) enum LoadRecord {
 
 /// The parts of the load job, in their order.
 #[derive(Clone, Copy, PartialEq, Eq, Debug)]
-pub(crate) enum Section {
+pub enum Section {
+    /// Each order.
     Orders,
+    /// Each customer.
     Customers,
+    /// Every fifth order, with a greater amount.
     Raises,
+    /// Every seventh order goes.
     Deletions,
+    /// Every third customer, in its next region.
     Moves,
 }
 

@@ -8,7 +8,7 @@ use Rattle.ks_commit.specs.declared.work.Frozen.{Frozen}
 use Rattle.ks_law_restore.specs.Views.{WorkView}
 use Rattle.ks_commit.specs.Sending.{Sends, adds_of, puts_of, pendings_of}
 use Rattle.ks_commit.specs.Committed.{works_of, EachOf, EachPlaced, own_of_each, ends_of_each}
-use Rattle.ks_commit.proofs.Entries.{later_setup, longer_both, longer_more, produce_none-append, on_err}
+use Rattle.ks_commit.proofs.Entries.{later_setup, longer_both, longer_more, publishing_both, publishing_commit, marked_longer, on_err}
 use Rattle.ks_commit.proofs.Finish.{each_of, each_placed, commits_faithfully, decide_free, now_ready, all_committed}
 use Rattle.ks_commit.proofs.committing.commit.Goals as goal
 
@@ -80,11 +80,19 @@ pub returns-in_err-write_markers-clause-err : goal.returns-in_err-write_markers-
 returns-in_err-write_markers-clause-err g c =
     let sends = c.in_ok-send_all.ensures.sends in
     let decided = longer_both c.args.cluster.now c.send_all.new.cluster c.decide.new.cluster sends.more _ sends.is c.in_ok-decide.ensures.ok.journal in
-    on_err c.from_residual-in_err-write_markers.result (longer_more c.args.cluster.now c.decide.new.cluster c.write_markers.new.cluster _ decided (produce_none-append sends.more _ sends.quiet refl) c.in_err-write_markers.ensures.err)
+    let w = c.args.publisher.now.worker in
+    let same = c.in_ok-send_all.ensures.same.0 in
+    on_err c.from_residual-in_err-write_markers.result (longer_more w 1 0 c.args.cluster.now c.decide.new.cluster c.write_markers.new.cluster _ decided
+    (publishing_both w 0 1 sends.more _ sends.publishing (publishing_commit w _ _ _ same))
+    (marked_longer g.W.Work.plan w _ c.decide.new.cluster c.write_markers.new.cluster same c.in_err-write_markers.ensures.marked))
 
 pub returns-clause-err : goal.returns-clause-err
 returns-clause-err g c =
     let sends = c.in_ok-send_all.ensures.sends in
     let marked = c.in_ok-write_markers.ensures.marked in
     let decided = longer_both c.args.cluster.now c.send_all.new.cluster c.decide.new.cluster sends.more _ sends.is c.in_ok-decide.ensures.ok.journal in
-    on_err c.all_ends.result (longer_more c.args.cluster.now c.decide.new.cluster c.write_markers.new.cluster _ decided (produce_none-append sends.more _ sends.quiet refl) (record { more = marked.more; is = marked.is; quiet = marked.quiet }))
+    let w = c.args.publisher.now.worker in
+    let same = c.in_ok-send_all.ensures.same.0 in
+    on_err c.all_ends.result (longer_more w 1 0 c.args.cluster.now c.decide.new.cluster c.write_markers.new.cluster _ decided
+    (publishing_both w 0 1 sends.more _ sends.publishing (publishing_commit w _ _ _ same))
+    (marked_longer g.W.Work.plan w _ c.decide.new.cluster c.write_markers.new.cluster same marked))

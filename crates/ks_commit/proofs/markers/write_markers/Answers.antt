@@ -1,5 +1,6 @@
-use Rattle.std.proofs.Common.{ℕ, ◌+◌, ◌<◌, cond, length, refl, sym, ap, ◌∙◌, arith}
-use Rattle.ks_cluster.specs.View.{state_of}
+use Rattle.std.proofs.Common.{ℕ, ◌+◌, ◌<◌, cond, length, refl, sym, ap, subst, ◌∙◌, arith}
+use Rattle.ks_cluster.specs.View.{ClusterView, state_of}
+use Rattle.ks_commit.specs.Sending.{Marked}
 use Rattle.ks_commit.proofs.Entries.{marked_both, marked_nothing}
 use Rattle.ks_commit.proofs.Written.{mark_step}
 use Rattle.ks_commit.proofs.markers.write_markers.Goals as goal
@@ -23,3 +24,6 @@ loop-waits-preserved g c =
       same = refl;
       within = c.requires;
     }
+
+pub returns-in_err-mark_next-clause-marked : goal.returns-in_err-mark_next-clause-marked
+returns-in_err-mark_next-clause-marked g c = subst (λ (x : ClusterView _). Marked g.W.Work.plan c.args.cluster.now x c.args.worker) (sym c.in_err-mark_next.ensures.err) c.loop-waits.invariant.marked

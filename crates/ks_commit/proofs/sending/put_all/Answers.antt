@@ -3,7 +3,7 @@ use Rattle.ks_row.specs.declared.record.Rec.{Rec}
 use Rattle.ks_row.specs.declared.record.PartId.{PartId}
 use Rattle.ks_history.specs.State.{Setup, IsPart}
 use Rattle.ks_cluster.specs.View.{setup_of}
-use Rattle.ks_commit.specs.Sending.{Sends, adds_in, puts_in}
+use Rattle.ks_commit.specs.Sending.{Longer, Sends, adds_in, puts_in}
 use Rattle.ks_commit.proofs.Entries.{sends_nothing, later_setup, longer_more, on_err}
 use Rattle.ks_commit.proofs.Turns.{one_taken, all_taken, next_has}
 use Rattle.ks_commit.proofs.Puts.{outs_more}
@@ -41,4 +41,5 @@ returns-clause-sends g c =
 pub returns-in_err-put-clause-err : goal.returns-in_err-put-clause-err
 returns-in_err-put-clause-err g c =
     let sends = c.loop-out.invariant.sends in
-    on_err c.from_residual.result (longer_more c.args.cluster.now c.loop-out.cluster c.put.new.cluster sends.more sends.is sends.quiet c.in_err-put.ensures.err)
+    on_err c.from_residual.result (longer_more c.args.publisher.now.worker 0 0 c.args.cluster.now c.loop-out.cluster c.put.new.cluster sends.more sends.is sends.publishing
+    (subst (λ (w : ℕ). Longer w 0 c.loop-out.cluster c.put.new.cluster) c.loop-out.invariant.same.0 c.in_err-put.ensures.err))

@@ -4,7 +4,7 @@ use Rattle.ks_law_restore.specs.Views.{pending_work}
 use Rattle.ks_commit.specs.declared.work.Frozen.{Frozen}
 use Rattle.ks_commit.specs.Work.{work_view}
 use Rattle.ks_commit.specs.Committed.{works_of}
-use Rattle.ks_commit.specs.Sending.{Sends, adds_in, puts_in, adds_of, puts_of, pendings_of}
+use Rattle.ks_commit.specs.Sending.{Longer, Sends, adds_in, puts_in, adds_of, puts_of, pendings_of}
 use Rattle.ks_commit.proofs.Entries.{sends_nothing, longer_more, on_err}
 use Rattle.ks_commit.proofs.Turns.{one_taken, all_taken, next_of}
 use Rattle.ks_commit.proofs.Puts.{works_more, of_cluster_later}
@@ -41,4 +41,5 @@ returns-clause-sends g c =
 pub returns-in_err-send-clause-err : goal.returns-in_err-send-clause-err
 returns-in_err-send-clause-err g c =
     let sends = c.loop-work.invariant.sends in
-    on_err c.from_residual.result (longer_more c.args.cluster.now c.loop-work.cluster c.send.new.cluster sends.more sends.is sends.quiet c.in_err-send.ensures.err)
+    on_err c.from_residual.result (longer_more c.args.publisher.now.worker 0 0 c.args.cluster.now c.loop-work.cluster c.send.new.cluster sends.more sends.is sends.publishing
+    (subst (λ (w : ℕ). Longer w 0 c.loop-work.cluster c.send.new.cluster) c.loop-work.invariant.same.0 c.in_err-send.ensures.err))

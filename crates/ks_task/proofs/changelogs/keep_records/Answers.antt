@@ -1,6 +1,8 @@
 use Rattle.std.proofs.Common.{arith, ap, ◌∙◌}
-use Rattle.ks_task.specs.Views.{log_after, numbers_of}
-use Rattle.ks_task.proofs.Orders.{one_more, numbers_stay_in, numbers_kept}
+use Rattle.ks_standby.specs.Replicas.{numbers_of}
+use Rattle.ks_task.specs.Views.{log_after}
+use Rattle.ks_standby.proofs.Feeding.{one_more}
+use Rattle.ks_task.proofs.Orders.{numbers_stay_in, numbers_kept}
 use Rattle.ks_task.proofs.changelogs.keep_records.Goals as goal
 
 pub loop-i-preserved : goal.loop-i-preserved

@@ -1,7 +1,6 @@
 use Rattle.std.proofs.Common.{ap}
 use Rattle.ks_history.specs.Machine.{TaskPlan}
-use Rattle.ks_commit.proofs.Entries.{on_err}
-use Rattle.ks_settle.proofs.Publishing.{extends_none}
+use Rattle.ks_settle.proofs.Publishing.{drains_none}
 use Rattle.ks_settle.proofs.draining.TaskManager.drain_topic.Goals as goal
 
 pub read_tasks-requires-clause-may : goal.read_tasks-requires-clause-may
@@ -13,5 +12,5 @@ publish-requires-clause-may g c = c.requires.of.may
 pub publish-requires-clause-logs : goal.publish-requires-clause-logs
 publish-requires-clause-logs g c = λ sub. ap (λ (q : TaskPlan). q.changelogs sub) c.requires.of.work
 
-pub returns-in_err-works-clause-err : goal.returns-in_err-works-clause-err
-returns-in_err-works-clause-err g c = on_err c.from_residual.result (extends_none c.args.cluster.now)
+pub returns-in_err-works-clause-on : goal.returns-in_err-works-clause-on
+returns-in_err-works-clause-on g c = drains_none 1 c.args.cluster.now

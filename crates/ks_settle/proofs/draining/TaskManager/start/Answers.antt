@@ -1,24 +1,70 @@
-use Rattle.std.proofs.Common.{sym, subst}
+use Rattle.std.proofs.Common.{refl, sym, ap, subst, ◌∙◌}
+use Rattle.ks_history.specs.Machine.{IsNetwork}
+use Rattle.ks_history.specs.State.{Setup}
 use Rattle.ks_topo.specs.Topologies.{draft_of}
-use Rattle.ks_cluster.specs.View.{setup_of}
-use Rattle.ks_settle.specs.Drained.{AreFresh}
-use Rattle.ks_commit.proofs.Entries.{on_err}
-use Rattle.ks_settle.proofs.Publishing.{extends_by, extends_longer}
-use Rattle.ks_settle.proofs.Starting.{is_idle, resting_first}
+use Rattle.ks_settle.proofs.Publishing.{drains_both, drains_by, drains_longer, same_setup}
+use Rattle.ks_settle.proofs.Starting.{resting_first, still_tasks, still_may}
 use Rattle.ks_settle.proofs.draining.TaskManager.start.Goals as goal
 
-pub start-requires-clause-idle : goal.start-requires-clause-idle
-start-requires-clause-idle g c = is_idle (setup_of g.W.Work.plan c.args.cluster.now) c.args.cluster.now.journal c.requires.produced c.journal-journal.ensures.history
+pub write_all_markers-requires-clause-network : goal.write_all_markers-requires-clause-network
+write_all_markers-requires-clause-network g c = (still_may g.W.Work.plan 0 c.args.cluster.now c.remove_workers.new.cluster c.remove_workers.ensures.on c.requires.may).network
 
-pub returns-clause-ready : goal.returns-clause-ready
-returns-clause-ready g c =
-    resting_first g.W.Work.plan c.args.cluster.now c.start.new.cluster c.in_ok-publisher.publisher (draft_of c.args.topology.now) c.in_ok-tasks.tasks.items c.requires.may.network c.requires.produced c.journal-journal.ensures.history
-    c.in_ok-publisher.ensures.started c.in_ok-publisher.ensures.ready (subst (λ l. AreFresh (draft_of c.args.topology.now) l c.in_ok-tasks.tasks.items) (sym c.requires.tasks) c.in_ok-tasks.ensures)
+pub start-requires-clause-network : goal.start-requires-clause-network
+start-requires-clause-network g c =
+    let one = still_may g.W.Work.plan 0 c.args.cluster.now c.remove_workers.new.cluster c.remove_workers.ensures.on c.requires.may in
+    (still_may g.W.Work.plan 0 c.remove_workers.new.cluster c.write_all_markers.new.cluster c.write_all_markers.ensures.on one).network
 
-pub returns-in_err-publisher-clause-err : goal.returns-in_err-publisher-clause-err
-returns-in_err-publisher-clause-err g c = on_err c.from_residual.result (extends_longer c.args.cluster.now c.start.new.cluster c.in_err-publisher.ensures.err)
+pub start-requires-clause-tasks : goal.start-requires-clause-tasks
+start-requires-clause-tasks g c =
+    let one = still_tasks g.W.Work.plan (draft_of c.args.topology.now) 0 c.args.cluster.now c.remove_workers.new.cluster c.remove_workers.ensures.on c.requires.of in
+    let two = still_tasks g.W.Work.plan (draft_of c.args.topology.now) 0 c.remove_workers.new.cluster c.write_all_markers.new.cluster c.write_all_markers.ensures.on one in
+    c.tasks.ensures ∙ sym two.tasks
 
-pub returns-in_err-tasks-clause-err : goal.returns-in_err-tasks-clause-err
-returns-in_err-tasks-clause-err g c =
+pub start-requires-clause-once : goal.start-requires-clause-once
+start-requires-clause-once g c =
+    let one = still_may g.W.Work.plan 0 c.args.cluster.now c.remove_workers.new.cluster c.remove_workers.ensures.on c.requires.may in
+    (still_may g.W.Work.plan 0 c.remove_workers.new.cluster c.write_all_markers.new.cluster c.write_all_markers.ensures.on one).made.once
+
+pub restore_tasks-requires-clause-may : goal.restore_tasks-requires-clause-may
+restore_tasks-requires-clause-may g c =
+    let plan = g.W.Work.plan in
     let started = c.in_ok-publisher.ensures.started in
-    on_err c.from_residual-in_err-tasks.result (extends_by c.args.cluster.now c.start.new.cluster started.more started.is started.quiet)
+    let one = still_may plan 0 c.args.cluster.now c.remove_workers.new.cluster c.remove_workers.ensures.on c.requires.may in
+    let two = still_may plan 0 c.remove_workers.new.cluster c.write_all_markers.new.cluster c.write_all_markers.ensures.on one in
+    still_may plan 0 c.write_all_markers.new.cluster c.start.new.cluster (drains_by 16 0 c.write_all_markers.new.cluster c.start.new.cluster started.more refl started.is started.publishing) two
+
+pub restore_tasks-requires-clause-of : goal.restore_tasks-requires-clause-of
+restore_tasks-requires-clause-of g c =
+    let plan = g.W.Work.plan in
+    let d = draft_of c.args.topology.now in
+    let started = c.in_ok-publisher.ensures.started in
+    let one = still_tasks plan d 0 c.args.cluster.now c.remove_workers.new.cluster c.remove_workers.ensures.on c.requires.of in
+    let two = still_tasks plan d 0 c.remove_workers.new.cluster c.write_all_markers.new.cluster c.write_all_markers.ensures.on one in
+    still_tasks plan d 0 c.write_all_markers.new.cluster c.start.new.cluster (drains_by 16 0 c.write_all_markers.new.cluster c.start.new.cluster started.more refl started.is started.publishing) two
+
+pub returns-clause-resting : goal.returns-clause-resting
+returns-clause-resting g c =
+    resting_first g.W.Work.plan c.start.new.cluster c.in_ok-publisher.publisher (draft_of c.args.topology.now) c.in_ok-tasks.tasks.items c.in_ok-publisher.ensures.worker c.in_ok-publisher.ensures.ready c.in_ok-tasks.ensures
+
+pub returns-clause-on : goal.returns-clause-on
+returns-clause-on g c =
+    let started = c.in_ok-publisher.ensures.started in
+    drains_both 0 0 c.args.cluster.now c.write_all_markers.new.cluster c.start.new.cluster
+    (drains_both 0 0 c.args.cluster.now c.remove_workers.new.cluster c.write_all_markers.new.cluster c.remove_workers.ensures.on c.write_all_markers.ensures.on)
+    (drains_by 16 0 c.write_all_markers.new.cluster c.start.new.cluster started.more refl started.is started.publishing)
+
+pub returns-in_err-write_all_markers-clause-on : goal.returns-in_err-write_all_markers-clause-on
+returns-in_err-write_all_markers-clause-on g c = drains_both 0 0 c.args.cluster.now c.remove_workers.new.cluster c.write_all_markers.new.cluster c.remove_workers.ensures.on c.write_all_markers.ensures.on
+
+pub returns-in_err-publisher-clause-on : goal.returns-in_err-publisher-clause-on
+returns-in_err-publisher-clause-on g c =
+    drains_both 0 0 c.args.cluster.now c.write_all_markers.new.cluster c.start.new.cluster
+    (drains_both 0 0 c.args.cluster.now c.remove_workers.new.cluster c.write_all_markers.new.cluster c.remove_workers.ensures.on c.write_all_markers.ensures.on)
+    (drains_longer 16 0 c.write_all_markers.new.cluster c.start.new.cluster refl c.in_err-publisher.ensures.err)
+
+pub returns-in_err-tasks-clause-on : goal.returns-in_err-tasks-clause-on
+returns-in_err-tasks-clause-on g c =
+    let started = c.in_ok-publisher.ensures.started in
+    drains_both 0 0 c.args.cluster.now c.write_all_markers.new.cluster c.start.new.cluster
+    (drains_both 0 0 c.args.cluster.now c.remove_workers.new.cluster c.write_all_markers.new.cluster c.remove_workers.ensures.on c.write_all_markers.ensures.on)
+    (drains_by 16 0 c.write_all_markers.new.cluster c.start.new.cluster started.more refl started.is started.publishing)

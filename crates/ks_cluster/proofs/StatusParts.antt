@@ -1,0 +1,65 @@
+-- What a status tells is what the state says.
+use Rattle.std.proofs.Common.{◌≡◌, ℕ, zero, suc, ◌+◌, ◌-◌, ◌<◌, cond, List, [], ◌∷◌, ◌++◌, length, get_or, Option, refl, sym, ap, ◌∙◌, arith}
+use Rattle.std.specs.Prelude.{map, Bool, true, false, ◌||◌}
+use Rattle.ks_row.specs.declared.record.PartId.{PartId}
+use Rattle.ks_row.specs.declared.record.TaskId.{TaskId}
+use Rattle.ks_row.specs.declared.assignment.Assignment.{Assignment}
+use Rattle.ks_history.specs.Machine.{has_topic}
+use Rattle.ks_history.specs.State.{State, Setup}
+use Rattle.ks_history.specs.Reads.{is_changelog, topic_ends, changelog_ends, held_from, waiting_from, status}
+use Rattle.ks_cluster.specs.declared.broker.Broker.{Broker}
+use Rattle.ks_log.specs.declared.log.Written.{Written}
+use Rattle.ks_log.specs.Written.{slots_in}
+use Rattle.ks_log.specs.Reading.{end_at}
+use Rattle.ks_cluster.specs.Moves.{IsAt}
+use Rattle.ks_cluster.specs.View.{setup_from}
+use Rattle.ks_cluster.specs.Statuses.{held_in, with_producers, ends_on, ends_if, changelogs_on}
+use Rattle.ks_cluster.proofs.Readings.{waiting-are}
+
+-- one partition more of a topic
+pub one_end : (log : List Written) (topic part count n : ℕ) → part < count → n ≡ end_at log (record { topic = topic; part = part })
+    → ends_on log topic part (count - part) ≡ (record { topic = topic; part = part }, n) ∷ ends_on log topic (part + 1) (count - (part + 1))
+one_end log topic part count n h is =
+    let left : count - part ≡ suc (count - (part + 1)) = omega (arith, h) in
+    ap (ends_on log topic part) left ∙ ap (λ m. (record { topic = topic; part = part }, m) ∷ ends_on log topic (part + 1) (count - (part + 1))) (sym is)
+
+held-are : (s : State) (w : ℕ) (helds : List (List (TaskId × ℕ))) → ((i : ℕ) → i < length helds → get_or helds i [] ≡ s.held (w + i)) → held_in w helds ≡ held_from s w (length helds)
+held-are s w [] is = refl
+held-are s w (held ∷ more) is =
+    ap (λ (l : List (TaskId × ℕ)). map (λ h. (w, h.0, h.1)) l ++ held_in (w + 1) more) (is 0 (omega arith) ∙ ap s.held (omega arith))
+    ∙ ap (λ l. map (λ (h : TaskId × ℕ). (w, h.0, h.1)) (s.held w) ++ l) (held-are s (w + 1) more (λ i h. is (suc i) (omega arith) ∙ ap s.held (omega arith)))
+
+topic-are : (s : State) (log : List Written) (topic part count : ℕ) → ((p : PartId) → slots_in p log ≡ s.partition p) → ends_on log topic part count ≡ topic_ends s topic part count
+topic-are s log topic part zero is = refl
+topic-are s log topic part (suc left) is =
+    ap (λ n. (record { topic = topic; part = part }, n) ∷ ends_on log topic (part + 1) left) (ap length (is (record { topic = topic; part = part })))
+    ∙ ap (λ l. (record { topic = topic; part = part }, length (s.partition (record { topic = topic; part = part }))) ∷ l) (topic-are s log topic (part + 1) left is)
+
+both : {A : Type 0} (c : Bool) (xs ys zs ws : List A) → xs ≡ ys → zs ≡ ws → (cond c xs [] ++ zs) ≡ cond c (ys ++ ws) ws
+both true xs ys zs ws is rest = ap (λ l. l ++ zs) is ∙ ap (λ l. ys ++ l) rest
+both false xs ys zs ws is rest = rest
+
+-- whether a topic is a changelog depends on the plan alone
+changelog-same : (setup : Setup) (all ts : List TaskId) (topic : ℕ) → is_changelog (setup_from setup.plan [] all) ts topic ≡ is_changelog setup ts topic
+changelog-same setup all [] topic = refl
+changelog-same setup all (t ∷ ts) topic = ap (λ b. has_topic topic (setup.plan.changelogs t.sub) || b) (changelog-same setup all ts topic)
+
+ends-are : (setup : Setup) (s : State) (log : List Written) (topic : ℕ) (counts : List ℕ) → ((p : PartId) → slots_in p log ≡ s.partition p)
+    → changelogs_on (setup_from setup.plan [] setup.tasks) log topic counts ≡ changelog_ends setup s topic counts
+ends-are setup s log topic [] is = refl
+ends-are setup s log topic (count ∷ counts) is =
+    ap (λ b. cond b (ends_on log topic 0 count) [] ++ changelogs_on (setup_from setup.plan [] setup.tasks) log (topic + 1) counts) (changelog-same setup setup.tasks setup.tasks topic)
+    ∙ both (is_changelog setup setup.tasks topic) (ends_on log topic 0 count) (topic_ends s topic 0 count) _ _ (topic-are s log topic 0 count is) (ends-are setup s log (topic + 1) counts is)
+
+pub status-is : (setup : Setup) (s : State) (b : Broker) (generation : ℕ) (members : List ℕ) (given : Option Assignment) (held : List (ℕ × TaskId × ℕ)) (waiting : ℕ) (ends : List (PartId × ℕ)) → IsAt setup s b
+    → generation ≡ b.group.generation → members ≡ b.group.members → given ≡ b.group.assignment → held ≡ held_in 0 b.group.held → waiting ≡ waiting_from (with_producers b.txns) 0 17
+    → ends ≡ changelogs_on (setup_from setup.plan [] b.group.tasks) b.log 0 setup.counts
+    → record { generation = generation; members = members; assignment = given; held = held; waiting = waiting; ends = ends } ≡ status setup s
+status-is setup s b generation members given held waiting ends k generates there gives helds waits ended = λ i. record {
+  generation = (generates ∙ k.group_is.generation_is) i;
+  members = (there ∙ k.group_is.members_is) i;
+  assignment = (gives ∙ k.group_is.assignment_is) i;
+  held = (helds ∙ held-are s 0 b.group.held (λ j h. k.group_is.held_is j ∙ ap s.held (omega arith)) ∙ ap (held_from s 0) k.group_is.held_count) i;
+  waiting = (waits ∙ waiting-are setup s b k) i;
+  ends = (ended ∙ ap (λ ts. changelogs_on (setup_from setup.plan [] ts) b.log 0 setup.counts) k.group_is.tasks_is ∙ ends-are setup s b.log 0 setup.counts k.log_is) i;
+}

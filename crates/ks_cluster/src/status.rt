@@ -1,0 +1,140 @@
+//! What a cluster tells of its group, its waiting markers and the ends of its changelogs.
+ghost use Rattle.std.specs.Prelude.{◌≡◌, ◌≤◌, ◌++◌, [], IfOk, OnOk, length, map, option_copied};
+ghost use Rattle.ks_history.specs.Machine.{has_topic};
+ghost use Rattle.ks_history.specs.Reads.{is_changelog};
+ghost use Rattle.ks_cluster.specs.View.{setup_from};
+ghost use Rattle.ks_cluster.specs.Statuses.{held_in, ends_on, ends_if, changelogs_on};
+
+use crate::work::Work;
+use ks_group::copy_assignment;
+use ks_log::Log;
+use ks_row::{Assignment, PartId, Seq, TaskId};
+use std::alloc::{AllocError, Global};
+
+/// Members again: a copy with its own memory.
+pub fn copy_members(alloc: Global, members: &[u8]) -> Result<Vec<u8>, AllocError>
+    ensures { IfOk result (λ made. made.items ≡ members.now) }
+{
+    let mut made = Vec::new(alloc);
+    made.extend_from_slice(members)?;
+    Ok(made)
+}
+
+/// What is assigned, if anything is, again: a copy with its own memory.
+pub fn copy_given(
+    alloc: Global,
+    given: Option<&Assignment>,
+) -> Result<Option<Assignment>, AllocError>
+    ensures { IfOk result (λ made. made ≡ option_copied given.entry) }
+{
+    match given {
+        Some(a) => Ok(Some(copy_assignment(alloc, a)?)),
+        None => Ok(None),
+    }
+}
+
+// The positions of one worker, behind those that are there.
+fn push_held(
+    made: &mut Vec<(u8, TaskId, u64)>,
+    w: u8,
+    held: &Seq<(TaskId, u64)>,
+) -> Result<(), AllocError>
+    ensures { OnOk result (made.new.items ≡ made.old.items ++ map (λ h. (w, h.0, h.1)) held.now) }
+{
+    for pair in held.as_slice() {
+        made.push((w, pair.0, pair.1))?;
+    }
+    Ok(())
+}
+
+/// The positions that workers hold, each beside its worker, in the order of workers.
+pub fn held_rows(
+    alloc: Global,
+    held: &[Seq<(TaskId, u64)>],
+) -> Result<Vec<(u8, TaskId, u64)>, AllocError>
+    requires { length held.now ≤ 255 }
+    ensures { IfOk result (λ made. made.items ≡ held_in 0 held.now) }
+{
+    let mut made = Vec::new(alloc);
+    let mut w: u8 = 0;
+    for positions in held {
+        push_held(&mut made, w, positions)?;
+        w += 1;
+    }
+    Ok(made)
+}
+
+fn has_number(numbers: &[u16], number: u16) -> bool
+    ensures { result ≡ has_topic number numbers.now }
+{
+    for other in numbers {
+        if number == *other {
+            return true;
+        }
+    }
+    false
+}
+
+// Whether a topic is a changelog of one of these tasks.
+fn is_kept<W: Work>(work: &W, tasks: &[TaskId], topic: u16) -> bool
+    ensures { result ≡ is_changelog (setup_from (W.plan work.now) [] []) tasks.now topic }
+{
+    for task in tasks {
+        if has_number(work.changelogs(task.sub), topic) {
+            return true;
+        }
+    }
+    false
+}
+
+// The ends of the partitions of a topic, behind those that are there.
+fn push_ends(
+    made: &mut Vec<(PartId, u64)>,
+    log: &Log,
+    topic: u16,
+    count: u8,
+) -> Result<(), AllocError>
+    ensures { OnOk result (made.new.items ≡ made.old.items ++ ends_on log.now topic 0 count) }
+{
+    for part in 0..count {
+        let part = PartId { topic, part };
+        made.push((part, log.part(part).end()))?;
+    }
+    Ok(())
+}
+
+// The ends of the partitions of a topic, if it is a changelog, behind those that are there.
+fn push_changelog<W: Work>(
+    made: &mut Vec<(PartId, u64)>,
+    work: &W,
+    tasks: &[TaskId],
+    log: &Log,
+    place: (u16, u8),
+) -> Result<(), AllocError>
+    ensures { OnOk result (made.new.items ≡ made.old.items ++ ends_if (setup_from (W.plan work.now) [] tasks.now) log.now place.0 place.1) }
+{
+    if is_kept(work, tasks, place.0) {
+        push_ends(made, log, place.0, place.1)?;
+    }
+    Ok(())
+}
+
+/// The ends of the partitions of all changelogs, by topic and partition. Want of memory also where there are more than 65,536 topics.
+pub fn changelog_ends<W: Work>(
+    alloc: Global,
+    work: &W,
+    tasks: &[TaskId],
+    counts: &[u8],
+    log: &Log,
+) -> Result<Vec<(PartId, u64)>, AllocError>
+    ensures { IfOk result (λ made. made.items ≡ changelogs_on (setup_from (W.plan work.now) [] tasks.now) log.now 0 counts.now) }
+{
+    let mut made = Vec::new(alloc);
+    for (i, count) in counts.iter().enumerate() {
+        let Ok(topic) = u16::try_from(i) else {
+            return Err(AllocError);
+        };
+        push_changelog(&mut made, work, tasks, log, (topic, *count))?;
+    }
+    Ok(made)
+}

@@ -1,0 +1,141 @@
+//! Tasks are restored: replicas are fed up to the ends of their changelogs, and made tasks at the committed offsets.
+ghost use Rattle.std.specs.Prelude.{◌≡◌, ℕ, true, length, IfOk, OnOk};
+ghost use Rattle.ks_history.specs.Machine.{has_topic};
+ghost use Rattle.ks_history.specs.State.{has_task};
+ghost use Rattle.ks_topo.specs.Topologies.{draft_of, plan_in};
+ghost use Rattle.ks_cluster.specs.View.{setup_of, state_of};
+ghost use Rattle.ks_commit.specs.Committed.{IsReady};
+ghost use Rattle.ks_nodes.specs.Rules.{HaveParts};
+ghost use Rattle.ks_settle.specs.Drained.{MayDrain, HasTasksOf, Rests, AreRestored};
+ghost use Rattle.ks_settle.specs.Restoring.{IsQuiet, IsReplicaOf, IsFedOn, IsFedTo, HasReachedFirst};
+
+use crate::reading::MOST_FETCHED;
+use ks_cluster::{Cluster, Work};
+use ks_commit::Publisher;
+use ks_row::{PartId, TaskId};
+use ks_standby::Replica;
+use ks_task::Task;
+use ks_topo::Topology;
+use std::alloc::{AllocError, Global};
+
+// One fetch of a changelog from where the replica stands; false where it doesn't move it, and then it stands at the end.
+fn feed_on<W: Work>(
+    alloc: Global,
+    cluster: &Cluster<W>,
+    replica: &mut Replica,
+    changelog: u16,
+) -> Result<bool, AllocError>
+    requires quiet { IsQuiet W.plan cluster.now }
+    requires own { has_topic changelog ((W.plan cluster.now.work).changelogs replica.old.id.sub) ≡ true }
+    requires of { IsReplicaOf (setup_of W.plan cluster.now) cluster.now.journal
+        replica.old.id replica.old }
+    ensures { IfOk result (λ moved. IsFedOn (setup_of W.plan cluster.now) cluster.now.journal
+        replica.old.id changelog moved replica.old replica.new) }
+{
+    let _journal = cluster.journal();
+    let part = PartId {
+        topic: changelog,
+        part: replica.id().part,
+    };
+    let from = replica.position(changelog);
+    let (recs, next) = cluster.fetch(alloc, part, from, MOST_FETCHED)?;
+    if next == from {
+        return Ok(false);
+    }
+    replica.feed(changelog, recs.as_slice(), next)?;
+    Ok(true)
+}
+
+// Feeds the replica a changelog up to its end.
+fn feed_to_end<W: Work>(
+    alloc: Global,
+    cluster: &Cluster<W>,
+    replica: &mut Replica,
+    changelog: u16,
+) -> Result<(), AllocError>
+    requires quiet { IsQuiet W.plan cluster.now }
+    requires own { has_topic changelog ((W.plan cluster.now.work).changelogs replica.old.id.sub) ≡ true }
+    requires of { IsReplicaOf (setup_of W.plan cluster.now) cluster.now.journal
+        replica.old.id replica.old }
+    ensures { OnOk result (IsFedTo (setup_of W.plan cluster.now) cluster.now.journal
+        replica.old.id changelog replica.old replica.new) }
+{
+    // The journal is a history: a fetch stands at the end only where all is stable.
+    let _journal = cluster.journal();
+    let mut moved = true;
+    while moved {
+        moved = feed_on(alloc, cluster, replica, changelog)?;
+    }
+    Ok(())
+}
+
+// A replica of a task with these changelogs, fed each of them up to its end.
+fn fed_replica<W: Work>(
+    alloc: Global,
+    cluster: &Cluster<W>,
+    task: TaskId,
+    changelogs: &[u16],
+) -> Result<Replica, AllocError>
+    requires quiet { IsQuiet W.plan cluster.now }
+    requires there { has_task task cluster.now.tasks ≡ true }
+    requires changelogs { changelogs.now ≡ (W.plan cluster.now.work).changelogs task.sub }
+    ensures { IfOk result (λ r. HasReachedFirst (setup_of W.plan cluster.now) cluster.now.journal
+        task changelogs.now (length changelogs.now) r) }
+{
+    // The journal is a history: a new replica follows it.
+    let _journal = cluster.journal();
+    let mut replica = Replica::new(alloc, task, changelogs)?;
+    for i in 0..changelogs.len() {
+        feed_to_end(alloc, cluster, &mut replica, changelogs[i])?;
+    }
+    Ok(replica)
+}
+
+// A task of the worker that has every task: its committed offsets are read, and then a replica is fed up to the ends.
+fn restore<W: Work>(
+    alloc: Global,
+    topology: &Topology,
+    cluster: &Cluster<W>,
+    publisher: &Publisher,
+    task: TaskId,
+) -> Result<Task, AllocError>
+    requires may { MayDrain (setup_of W.plan cluster.now) }
+    requires of { HasTasksOf W.plan (draft_of topology.now) cluster.now }
+    requires parts { HaveParts (plan_in topology.now) }
+    requires ready { IsReady (setup_of W.plan cluster.now) (state_of W.plan cluster.now) publisher.now }
+    requires there { has_task task cluster.now.tasks ≡ true }
+    ensures rests { IfOk result (λ t. Rests (draft_of topology.now) (setup_of W.plan cluster.now)
+        cluster.now.journal 0 t) }
+    ensures id { IfOk result (λ t. t.id ≡ task) }
+{
+    let _journal = cluster.journal();
+    let offsets = publisher.committed(alloc, cluster, task)?;
+    let replica = fed_replica(alloc, cluster, task, topology.changelogs(task.sub))?;
+    match Task::of(alloc, topology, replica, offsets.as_slice()) {
+        Ok(task) => Ok(task),
+        Err(_) => Err(AllocError),
+    }
+}
+
+/// Every task of the topology, restored by the worker that has them all. Kafka Streams: what a `StoreChangelogReader` does before a
+/// task runs.
+pub fn restore_tasks<W: Work>(
+    alloc: Global,
+    topology: &Topology,
+    cluster: &Cluster<W>,
+    publisher: &Publisher,
+) -> Result<Vec<Task>, AllocError>
+    requires may { MayDrain (setup_of W.plan cluster.now) }
+    requires of { HasTasksOf W.plan (draft_of topology.now) cluster.now }
+    requires parts { HaveParts (plan_in topology.now) }
+    requires ready { IsReady (setup_of W.plan cluster.now) (state_of W.plan cluster.now) publisher.now }
+    ensures { IfOk result (λ v. AreRestored (draft_of topology.now) (setup_of W.plan cluster.now)
+        cluster.now.journal cluster.now.tasks v.items) }
+{
+    let names = topology.tasks();
+    let mut tasks = Vec::new(alloc);
+    for i in 0..names.len() {
+        tasks.push(restore(alloc, topology, cluster, publisher, names[i])?)?;
+    }
+    Ok(tasks)
+}

@@ -1,0 +1,11 @@
+use Rattle.std.proofs.Common.{ap, refl}
+use Rattle.ks_shared.proofs.Turns.{called, unchanged, same_grew}
+use Rattle.ks_shared.proofs.shared.Shared.committed.Goals as goal
+
+pub leave-requires-clause-grown : goal.leave-requires-clause-grown
+leave-requires-clause-grown g c = unchanged _ _ (ap (λ p. p.seen) c.enter-state.ensures.pass)
+
+pub returns : goal.returns
+returns g c =
+    let e = c.enter-state.ensures in
+    called g.W.Work.plan _ _ _ _ _ _ c.requires.free e.pass e.begins e.frame e.reserved (refl, c.committed-answer.ensures.offsets, c.committed-answer.ensures.refused) (same_grew _) c.tell.ensures c.leave.ensures

@@ -1,0 +1,12 @@
+use Rattle.ks_shared.proofs.Turns.{called}
+use Rattle.ks_shared.proofs.shared.Shared.status.Goals as goal
+use Rattle.std.proofs.Common.{ap, refl}
+use Rattle.ks_shared.proofs.Turns.{unchanged, same_grew}
+
+pub leave-requires-clause-grown : goal.leave-requires-clause-grown
+leave-requires-clause-grown g c = unchanged _ _ (ap (λ p. p.seen) c.enter-state.ensures.pass)
+
+pub returns : goal.returns
+returns g c =
+    let e = c.enter-state.ensures in
+    called g.W.Work.plan _ _ _ _ _ _ c.requires.free e.pass e.begins e.frame e.reserved (refl, c.status-answer.ensures) (same_grew _) c.tell.ensures c.leave.ensures

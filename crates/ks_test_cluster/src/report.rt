@@ -1,0 +1,111 @@
+//! What a report says of a cluster of one table, at the stages of one commit.
+ghost use Rattle.std.specs.Prelude.{◌≡◌, IfOk};
+ghost use Rattle.ks_plan.specs.Drafts.{draft_view};
+ghost use Rattle.ks_topo.specs.Topologies.{draft_of};
+ghost use Rattle.ks_test_cluster.specs.Ours.{IsOurs};
+ghost use Rattle.ks_test_cluster.specs.Table.{table_draft};
+
+use crate::calls::fetch;
+use crate::commit::{decided, marked, produced, sent};
+use crate::copying::Copying;
+use crate::tables::record;
+use ks_cluster::Cluster;
+use ks_hash::Murmur3;
+use ks_plan::{Draft, NodeDraft, Op};
+use ks_report::report;
+use ks_row::{Blob, Name, Seq};
+use ks_topo::Topology;
+use std::alloc::{AllocError, Global};
+use std::process::Abort;
+use std::test::Fail;
+
+fn name<R: Abort>(rt: &R, alloc: Global, letter: &[u8; 1]) -> Result<Name, AllocError>
+    ensures { IfOk result (λ n. n ≡ letter.now) }
+{
+    match Name::of(alloc, letter)? {
+        Some(name) => Ok(name),
+        None => rt.abort(),
+    }
+}
+
+fn draft<R: Abort>(rt: &R, alloc: Global) -> Result<Draft, AllocError>
+    ensures { IfOk result (λ d. draft_view d ≡ table_draft) }
+{
+    let mut topics = Vec::new(alloc);
+    topics.push((name(rt, alloc, b"t")?, 1))?;
+    let mut nodes = Vec::new(alloc);
+    nodes.push(NodeDraft {
+        name: name(rt, alloc, b"x")?,
+        op: Op::Table {
+            topic: Blob::from_slice(alloc, b"t")?,
+        },
+    })?;
+    let mut print = Vec::new(alloc);
+    print.push(Blob::from_slice(alloc, b"x")?)?;
+    Ok(Draft {
+        app: name(rt, alloc, b"a")?,
+        topics: Seq::of(topics),
+        nodes: Seq::of(nodes),
+        print: Seq::of(print),
+    })
+}
+
+fn topology<R: Abort>(rt: &R, alloc: Global) -> Result<Topology, AllocError>
+    ensures { IfOk result (λ t. draft_of t ≡ table_draft) }
+{
+    match Topology::build(alloc, draft(rt, alloc)?)? {
+        Ok(topology) => Ok(topology),
+        Err(_) => rt.abort(),
+    }
+}
+
+/// What is settled, how many producers are pending, and each lag with its committed offset and end.
+fn told(
+    alloc: Global,
+    cluster: &Cluster<Copying>,
+    topology: &Topology,
+) -> Result<String, AllocError>
+    requires ours { IsOurs cluster.now }
+    requires table { draft_of topology.now ≡ table_draft }
+{
+    let report = report::<Murmur3, Copying>(alloc, cluster, topology)?;
+    let mut text = format!(in alloc; "settled {}, pending {}", report.settled, report.pending)?;
+    for lag in &report.lags {
+        write!(
+            text,
+            ", {}/{} committed {} end {}",
+            lag.part.topic, lag.part.part, lag.committed, lag.end
+        )?;
+    }
+    Ok(text)
+}
+
+const BEHIND: &str = "settled false, pending 0, 0/0 committed 0 end 1";
+
+#[test]
+fn a_report_at_each_stage_of_a_commit(rt: HostRuntime) -> Result<(), Fail> {
+    let alloc = rt.alloc();
+    let topology = topology(&rt, alloc)?;
+    let recs = [record(alloc)?];
+    let cluster = produced(alloc, &recs[0])?;
+    assert_eq!(rt; told(alloc, &cluster, &topology)?.as_str(), BEHIND);
+    // What was read and isn't committed doesn't count.
+    assert_eq!(rt; fetch(alloc, &cluster, 0, 0, 10)?.as_str(), "1 to 1");
+    assert_eq!(rt; told(alloc, &cluster, &topology)?.as_str(), BEHIND);
+    let cluster = sent(alloc, &recs[0], &recs)?;
+    assert_eq!(rt;
+        told(alloc, &cluster, &topology)?.as_str(),
+        "settled false, pending 1, 0/0 committed 0 end 1"
+    );
+    let cluster = decided(alloc, &recs[0], &recs)?;
+    assert_eq!(rt;
+        told(alloc, &cluster, &topology)?.as_str(),
+        "settled false, pending 1"
+    );
+    let cluster = marked(alloc, &recs[0], &recs)?;
+    assert_eq!(rt;
+        told(alloc, &cluster, &topology)?.as_str(),
+        "settled true, pending 0"
+    );
+    Ok(())
+}

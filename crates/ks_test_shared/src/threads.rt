@@ -1,0 +1,89 @@
+//! Two passes on two threads.
+ghost use Rattle.std.specs.Prelude.{◌≡◌};
+ghost use Rattle.ks_test_shared.specs.Ours.{IsOurs};
+
+use crate::calls::{fetch, init, produce};
+use crate::passes::{Locked, close, new_locked};
+use ks_growing::Pass;
+use ks_row::Rec;
+use ks_shared::{Shared, SharedState};
+use ks_test_cluster::copying::Copying;
+use std::alloc::{AllocError, Global};
+use std::sync::Wait;
+use std::test::Fail;
+use std::thread::join_mut;
+
+// A hundred records, whose times are 0 to 99.
+fn feed<R: Wait>(
+    rt: &R,
+    alloc: Global,
+    shared: &Shared<Copying>,
+    pass: &mut Pass<SharedState<Copying>>,
+) -> Result<(), AllocError>
+    requires ours { IsOurs shared.now.growing.id pass.old }
+    requires first { pass.old.number ≡ 0 }
+    ensures ours { IsOurs shared.now.growing.id pass.new }
+    ensures number { pass.new.number ≡ pass.old.number }
+{
+    for ts in 0..100u64 {
+        let rec = Rec {
+            key: None,
+            value: None,
+            ts,
+        };
+        produce(rt, alloc, shared, &rec, pass)?;
+    }
+    Ok(())
+}
+
+// A hundred epochs of worker 1.
+fn renew<R: Wait>(
+    rt: &R,
+    alloc: Global,
+    shared: &Shared<Copying>,
+    pass: &mut Pass<SharedState<Copying>>,
+) -> Result<(), AllocError>
+    requires ours { IsOurs shared.now.growing.id pass.old }
+    ensures ours { IsOurs shared.now.growing.id pass.new }
+    ensures number { pass.new.number ≡ pass.old.number }
+{
+    let mut last = 0;
+    for _ in 0..100u64 {
+        init(rt, alloc, shared, 1, &mut last, pass)?;
+    }
+    Ok(())
+}
+
+#[test]
+fn two_threads(rt: HostRuntime) -> Result<(), Fail> {
+    let alloc = rt.alloc();
+    let Locked {
+        shared,
+        mut first,
+        mut second,
+        mut third,
+    } = new_locked(alloc)?;
+    let (fed, renewed) = join_mut(
+        &rt,
+        &mut || feed(&rt, alloc, &shared, &mut first),
+        &mut || renew(&rt, alloc, &shared, &mut third),
+    );
+    fed?;
+    renewed?;
+    let recs = fetch(&rt, alloc, &shared, 0, &mut second)?.0;
+    assert_eq!(rt; recs.len(), 100);
+    let mut expected = 0u64;
+    for (offset, rec) in recs.as_slice() {
+        assert_eq!(rt; *offset, expected);
+        assert_eq!(rt; rec.ts, expected);
+        expected = expected.wrapping_add(1);
+    }
+    let locked = Locked {
+        shared,
+        first,
+        second,
+        third,
+    };
+    assert_eq!(rt; close(alloc, locked)?.journal().len(), 200);
+    Ok(())
+}

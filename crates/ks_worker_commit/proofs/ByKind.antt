@@ -1,0 +1,279 @@
+-- Each request of a commit, by its kind.
+use Rattle.std.proofs.Common.{◌≡◌, ℕ, ◌+◌, ◌&&◌, Bool, true, false, cond, List, [], ◌∷◌, ◌++◌, length, Option, Some, None, Result, Ok, Err, refl, sym, ap, subst, ◌∙◌, arith, append-nil}
+use Rattle.std.specs.Prelude.{◌==◌, OnOk, IfOk, OnErr}
+use Rattle.std.proofs.lemmas.Bool.{eqb-true, eq-eqb, and_from, true≢false}
+use Rattle.ks_row.specs.declared.record.Rec.{Rec}
+use Rattle.ks_row.specs.declared.record.PartId.{PartId}
+use Rattle.ks_row.specs.declared.record.TaskId.{TaskId}
+use Rattle.ks_row.specs.Parts.{same_part}
+use Rattle.ks_row.specs.declared.assignment.Marker.{Marker}
+use Rattle.ks_row.specs.declared.assignment.Refused.{Refused}
+use Rattle.ks_row.specs.declared.assignment.Refused.TheVariants.{OldGeneration}
+use Rattle.ks_history.specs.declared.journal.Entry.{Entry}
+use Rattle.ks_history.specs.declared.journal.Request.{Request}
+use Rattle.ks_history.specs.declared.journal.Request.TheVariants.{Add, Append, SendOffsets, Decide, MarkNext}
+use Rattle.ks_history.specs.declared.journal.Reply.{Reply}
+use Rattle.ks_history.specs.declared.journal.Reply.TheVariants.{Done, Number, Mark as Marked, Refused as Refuse}
+use Rattle.ks_history.specs.declared.partition.Slot.TheVariants.{Mark}
+use Rattle.ks_history.specs.Partition.{count_sent, sent_slots}
+use Rattle.ks_history.specs.Machine.{TaskPlan}
+use Rattle.ks_history.specs.State.{State, Setup, start, with_number, grown}
+use Rattle.ks_history.specs.Step.{refusal, answer, effect, state_by, fenced, old_generation, not_assigned, markers_waiting, unstable_beside, or_else}
+use Rattle.ks_history.specs.History.{at}
+use Rattle.ks_history.specs.Touched.{touched}
+use Rattle.ks_history.proofs.Histories.{state_after-append}
+use Rattle.ks_law_exactly_once.proofs.Refusals.{both_none}
+use Rattle.ks_law_restore.specs.Views.{WorkView}
+use Rattle.ks_law_transaction.specs.Building.{Contents, with_part, with_records, with_pending_offsets}
+use Rattle.ks_law_transaction.specs.Committing.{commit_entry}
+use Rattle.ks_law_commit.proofs.Stages.{sending_commits}
+use Rattle.ks_commit.specs.Alone.{number_in}
+use Rattle.ks_commit.specs.Numbers.{renumber}
+use Rattle.ks_commit.specs.Sending.{put_count}
+use Rattle.ks_commit.proofs.Slots.{sent_count, slots_sent, slots_length, count_append}
+use Rattle.ks_commit.proofs.Puts.{numbers_rise}
+use Rattle.ks_cluster.specs.View.{ClusterView, setup_of, state_of, AddsEntry}
+use Rattle.ks_growing.specs.Passes.{PassView}
+use Rattle.ks_shared.specs.declared.state.Frame.{Frame}
+use Rattle.ks_shared.specs.declared.barred.Barred.{Barred}
+use Rattle.ks_shared.specs.declared.barred.Barred.TheVariants.{Refused as Refusal, Touched}
+use Rattle.ks_shared.specs.Calls.{setup_in, Called}
+use Rattle.ks_shared.specs.Own.{IsAccepted, IsRefused, IsTouched}
+use Rattle.ks_worker_commit.specs.declared.halt.Halt.{Halt}
+use Rattle.ks_worker_commit.specs.declared.halt.Halt.TheVariants.{OutOfMemory, Cut, Barred as IsBarred}
+use Rattle.ks_worker_commit.specs.Outcomes.{Requests, halted, written}
+use Rattle.ks_worker_commit.specs.Underway.{IsUnderway, Puts, Halts, Carries, HasDecided, Decides, always, has_added, has_work, has_pending_work}
+use Rattle.ks_worker_commit.proofs.Requesting.{Asked, carries_request, requests_request, requests_by, called_as, numbered_reached, assigned_reached, reached_history, requests_now, more_now, before_is, before_setup, is_accepted, one_of_commit, request_refused, request_touched, seen_after}
+
+-- the answer is what the call's is to a commit
+pub carried_as : {W A : Type 0} (plan : W → TaskPlan) (old new : PassView Entry (Frame W)) (w e g last next : ℕ) (numbers numbers' : List (PartId × ℕ)) (Ready : List WorkView → Contents → Type 0) (puts : Contents → Contents)
+    (x y : Result A Halt) → x ≡ y → Carries plan old new w e g last next numbers numbers' Ready puts y → Carries plan old new w e g last next numbers numbers' Ready puts x
+carried_as plan old new w e g last next numbers numbers' Ready puts x y is c = subst (λ r. Carries plan old new w e g last next numbers numbers' Ready puts r) (sym is) c
+
+pub decided_as : {W A : Type 0} (plan : W → TaskPlan) (old new : PassView Entry (Frame W)) (w e g last : ℕ) (numbers : List (PartId × ℕ)) (x y : Result A Halt) → x ≡ y → Decides plan old new w e g last numbers y → Decides plan old new w e g last numbers x
+decided_as plan old new w e g last numbers x y is c = subst (λ r. Decides plan old new w e g last numbers r) (sym is) c
+
+first_of : {A : Type 0} (P Q : Type 0) (y : Result A Halt) → OnOk y (P × Q) → OnOk y P
+first_of P Q (Ok a) h = h.0
+first_of P Q (Err e) h = tt
+
+second_of : {A : Type 0} (P Q : Type 0) (y : Result A Halt) → OnOk y (P × Q) → OnOk y Q
+second_of P Q (Ok a) h = h.1
+second_of P Q (Err e) h = tt
+
+pub first_as : {A : Type 0} (P Q : Type 0) (x y : Result A Halt) → x ≡ y → OnOk y (P × Q) → OnOk x P
+first_as P Q x y is h = subst (λ r. OnOk r P) (sym is) (first_of P Q y h)
+
+pub second_as : {A : Type 0} (P Q : Type 0) (x y : Result A Halt) → x ≡ y → OnOk y (P × Q) → OnOk x Q
+second_as P Q x y is h = subst (λ r. OnOk r Q) (sym is) (second_of P Q y h)
+
+-- what is put where a request is done, and what is known where it isn't
+pub done_puts : {W A : Type 0} (plan : W → TaskPlan) (old new : PassView Entry (Frame W)) (w e g last next : ℕ) (numbers numbers' : List (PartId × ℕ)) (Ready : List WorkView → Contents → Type 0) (puts : Contents → Contents)
+    (x : Result A Halt) (a : A) → x ≡ Ok a → Carries plan old new w e g last next numbers numbers' Ready puts x → Puts plan old new w e g last next numbers numbers' puts
+done_puts plan old new w e g last next numbers numbers' Ready puts x a is c = subst (λ r. Carries plan old new w e g last next numbers numbers' Ready puts r) is c
+
+err_carried : {W : Type 0} (A B : Type 0) (plan : W → TaskPlan) (old new : PassView Entry (Frame W)) (w e g last next : ℕ) (numbers numbers' other : List (PartId × ℕ)) (Ready : List WorkView → Contents → Type 0) (puts : Contents → Contents)
+    (h : Halt) → Carries {A = A} plan old new w e g last next numbers numbers' Ready puts (Err h) → Carries {A = B} plan old new w e g last next numbers other Ready puts (Err h)
+err_carried A B plan old new w e g last next numbers numbers' other Ready puts OutOfMemory c = tt
+err_carried A B plan old new w e g last next numbers numbers' other Ready puts Cut c = tt
+err_carried A B plan old new w e g last next numbers numbers' other Ready puts (IsBarred b) c = c
+
+pub err_carries : {W A : Type 0} (B : Type 0) (plan : W → TaskPlan) (old new : PassView Entry (Frame W)) (w e g last next : ℕ) (numbers numbers' other : List (PartId × ℕ)) (Ready : List WorkView → Contents → Type 0) (puts : Contents → Contents)
+    (x : Result A Halt) (h : Halt) → x ≡ Err h → Carries plan old new w e g last next numbers numbers' Ready puts x → Carries {A = B} plan old new w e g last next numbers other Ready puts (Err h)
+err_carries {A} B plan old new w e g last next numbers numbers' other Ready puts x h is c = err_carried A B plan old new w e g last next numbers numbers' other Ready puts h (subst (λ r. Carries plan old new w e g last next numbers numbers' Ready puts r) is c)
+
+is_same : (w : ℕ) → (w == w) ≡ true
+is_same w = eq-eqb w w refl
+
+module _ {W : Type 0} (plan : W → TaskPlan) (old new : PassView Entry (Frame W)) (w e g last next : ℕ) (numbers : List (PartId × ℕ)) where
+  pub add_carries : {E : Type 0} (p : PartId) (r : Result (Result (Unit {0}) Barred) E) → Called plan old new (Asked plan w last next (Add w e p) (λ u. Done) r) → Carries plan old new w e g last next numbers numbers always (with_part p) (halted r)
+  add_carries p r called =
+      carries_request plan old new w e g last next numbers numbers always (Add w e p) (λ u. Done) (is_same w) (is_same w) (and_from (w == w) (e == e) (is_same w) (is_same e)) (is_same w) (λ u. refl) (λ s. refl)
+      r (λ s n. n) (λ from first fs c refused ready u k mine place. tt) called
+
+  pub add_requests : {E : Type 0} (p : PartId) (r : Result (Result (Unit {0}) Barred) E) → Called plan old new (Asked plan w last next (Add w e p) (λ u. Done) r) → Requests plan old new w
+  add_requests p r called =
+      requests_request plan old new w e g last next numbers numbers always (Add w e p) (λ u. Done) (is_same w) (is_same w) (and_from (w == w) (e == e) (is_same w) (is_same e)) (is_same w) (λ u. refl) (λ s. refl) r called
+
+  -- ---- append
+  append_counts : (s : State) (number : ℕ) (t : TaskId) (p : PartId) (rs : List Rec) (q : PartId) → count_sent w e ((effect s (Append w e number t p rs)).partition q) ≡ count_sent w e (s.partition q) + put_count q ((t, p, rs) ∷ [])
+  append_counts s number t p rs q = by (same_part q p)
+    where
+      by : (b : Bool) → count_sent w e (cond b (s.partition q ++ sent_slots w e number t rs) (s.partition q)) ≡ count_sent w e (s.partition q) + cond b (length rs + 0) 0
+      by true = omega (arith, count_append w e (s.partition q) (sent_slots w e number t rs), sent_count w e (sent_slots w e number t rs) (slots_sent w e number t rs), slots_length w e number t rs)
+      by false = omega arith
+
+  module _ (number now : ℕ) (t : TaskId) (p : PartId) (rs : List Rec) (made : List (PartId × ℕ)) (is : number ≡ number_in p numbers) (rises : now ≡ number + length rs) (made_is : made ≡ renumber p now numbers) where
+    pub append_carries : {E : Type 0} (r : Result (Result ℕ Barred) E) → Called plan old new (Asked plan w last next (Append w e number t p rs) (λ n. Number n) r) → Carries plan old new w e g last next numbers made (has_added p) (with_records t p rs) (halted r)
+    append_carries r called =
+        carries_request plan old new w e g last next numbers made (has_added p) (Append w e number t p rs) (λ n. Number n) (is_same w) (is_same w) (and_from (w == w) (e == e) (is_same w) (is_same e)) (is_same w) (λ n. refl) (λ s. refl)
+        r
+        (λ s n. numbers_rise s (effect s (Append w e number t p rs)) w e p t rs number now numbers made n is rises made_is (append_counts s number t p rs))
+        (λ from first fs c refused ready u k mine place.
+        (ready, is ∙ numbered_reached plan from old new w e g first last fs numbers c u (λ b x. IsRefused plan b x w last next (Append w e number t p rs) refused) k mine place p))
+        called
+
+  -- the same, as another names the records
+  pub append_carried : {E : Type 0} (number now : ℕ) (t : TaskId) (p : PartId) (rs others : List Rec) (made : List (PartId × ℕ)) → number ≡ number_in p numbers → now ≡ number + length rs → made ≡ renumber p now numbers → rs ≡ others →
+      (r : Result (Result ℕ Barred) E) → Called plan old new (Asked plan w last next (Append w e number t p rs) (λ n. Number n) r) → Carries plan old new w e g last next numbers made (has_added p) (with_records t p others) (halted r)
+  append_carried number now t p rs others made is rises made_is same r called =
+      subst (λ x. Carries plan old new w e g last next numbers made (has_added p) (with_records t p x) (halted r)) same (append_carries number now t p rs made is rises made_is r called)
+
+  pub append_requests : {E : Type 0} (number : ℕ) (t : TaskId) (p : PartId) (rs : List Rec) (r : Result (Result ℕ Barred) E) → Called plan old new (Asked plan w last next (Append w e number t p rs) (λ n. Number n) r) → Requests plan old new w
+  append_requests number t p rs r called =
+      requests_request plan old new w e g last next numbers numbers (has_added p) (Append w e number t p rs) (λ n. Number n) (is_same w) (is_same w) (and_from (w == w) (e == e) (is_same w) (is_same e)) (is_same w) (λ n. refl) (λ s. refl) r called
+
+  -- ---- offsets
+  module _ (t : TaskId) (offsets order : List (ℕ × ℕ)) (late : ℕ) where
+    abbrev pub sending : Request
+    sending = SendOffsets w e g t offsets order late
+
+    carried : (w == w) && ((e == e) && (g == g)) ≡ true
+    carried = and_from (w == w) ((e == e) && (g == g)) (is_same w) (and_from (e == e) (g == g) (is_same e) (is_same g))
+
+    pub offsets_carries : {E : Type 0} (r : Result (Result (Unit {0}) Barred) E) → Called plan old new (Asked plan w last next sending (λ u. Done) r) →
+        Carries plan old new w e g last next numbers numbers (has_work t) (with_pending_offsets (record { task = t; offsets = offsets; order = order; late = late })) (halted r)
+    offsets_carries r called =
+        carries_request plan old new w e g last next numbers numbers (has_work t) sending (λ u. Done) (is_same w) (is_same w) carried (is_same w) (λ u. refl) (λ s. refl) r (λ s n. n)
+        (λ from first fs c refused ready u k mine place same. assigned_reached plan from old new w e g first last fs numbers c u (λ b x. IsRefused plan b x w last next sending refused) k t ready mine place same)
+        called
+
+    pub offsets_requests : {E : Type 0} (r : Result (Result (Unit {0}) Barred) E) → Called plan old new (Asked plan w last next sending (λ u. Done) r) → Requests plan old new w
+    offsets_requests r called = requests_request plan old new w e g last next numbers numbers (has_work t) sending (λ u. Done) (is_same w) (is_same w) carried (is_same w) (λ u. refl) (λ s. refl) r called
+
+    -- the same, as another names its offsets and their order
+    pub offsets_carried : {E : Type 0} (others then_order : List (ℕ × ℕ)) → offsets ≡ others → order ≡ then_order → (r : Result (Result (Unit {0}) Barred) E) → Called plan old new (Asked plan w last next sending (λ u. Done) r) →
+        Carries plan old new w e g last next numbers numbers (has_work t) (with_pending_offsets (record { task = t; offsets = others; order = then_order; late = late })) (halted r)
+    offsets_carried others then_order is order_is r called =
+        subst (λ o. Carries plan old new w e g last next numbers numbers (has_work t) (with_pending_offsets (record { task = t; offsets = others; order = o; late = late })) (halted r)) order_is
+        (subst (λ o. Carries plan old new w e g last next numbers numbers (has_work t) (with_pending_offsets (record { task = t; offsets = o; order = order; late = late })) (halted r)) is (offsets_carries r called))
+
+    -- they are accepted in the worker's generation
+    in_generation : (s : State) → old_generation s g ≡ None → s.generation ≡ g
+    in_generation s free = by (g == s.generation) refl free
+      where
+        by : (b : Bool) → (g == s.generation) ≡ b → cond b None (Some (OldGeneration s.generation)) ≡ None → s.generation ≡ g
+        by true is h = sym (eqb-true g s.generation is)
+        by false is h = absurd cc
+
+    module _ (c : Called plan old new (λ b x. IsAccepted plan b x w last next sending Done)) where
+      pub offsets_place : touched w new.seen ≡ next
+      offsets_place = ap (touched w) (seen_after plan old new (λ b x. IsAccepted plan b x w last next sending Done) c) ∙ sym c.does.is
+
+      pub offsets_generation : (at (setup_in plan old.frame) new.seen).generation ≡ g
+      offsets_generation =
+          let s : State = state_of plan c.before in
+          let free : refusal (setup_of plan c.before) s sending ≡ None = is_accepted s sending Done (refusal (setup_of plan c.before) s sending) c.does.adds.step refl in
+          let one = (both_none (fenced (s.producer w) e) (or_else (old_generation s g) (or_else (not_assigned s w t) (or_else (markers_waiting (s.producer w)) (unstable_beside s w t)))) free).1 in
+          let generation : s.generation ≡ g = in_generation s (both_none (old_generation s g) (or_else (not_assigned s w t) (or_else (markers_waiting (s.producer w)) (unstable_beside s w t))) one).0 in
+          let journal : new.seen ≡ c.before.journal ++ record { request = sending; reply = Done } ∷ [] =
+          seen_after plan old new (λ b x. IsAccepted plan b x w last next sending Done) c ∙ ap (λ (k : ClusterView W). k.journal) c.does.adds.journal in
+          let there : at (setup_of plan c.before) (c.before.journal ++ record { request = sending; reply = Done } ∷ []) ≡ effect s sending =
+          state_after-append (setup_of plan c.before) start c.before.journal (record { request = sending; reply = Done } ∷ []) ∙ ap (state_by s sending) free in
+          ap (λ (k : Setup). (at k new.seen).generation) (ap (setup_in plan) c.frame)
+          ∙ ap (λ l. (at (setup_of plan c.before) l).generation) journal
+          ∙ ap (λ (k : State). k.generation) there
+          ∙ generation
+
+    pub offsets_sent : {E : Type 0} (r : Result (Result (Unit {0}) Barred) E) → Called plan old new (Asked plan w last next sending (λ u. Done) r) → OnOk (halted r) ((touched w new.seen ≡ next) × ((at (setup_in plan old.frame) new.seen).generation ≡ g))
+    offsets_sent (Ok (Ok u)) called =
+        let c = called_as plan old new _ (λ b x. IsAccepted plan b x w last next sending Done) (λ b x d. d.0) called in
+        (offsets_place c, offsets_generation c)
+    offsets_sent (Ok (Err b)) called = tt
+    offsets_sent (Err x) called = tt
+
+  -- ---- the decision
+  abbrev pub deciding : Request
+  deciding = Decide w e true
+
+  is_decided : (k : Called plan old new (λ b y. IsAccepted plan b y w last next deciding Done)) (from : PassView Entry (Frame W)) (first : ℕ) (fs : List WorkView) (c : Contents) →
+      IsUnderway plan from old w e g first last fs numbers c → HasDecided plan from new w e first c
+  is_decided k from first fs c u =
+      let before : List Entry = u.requests.more ++ k.others in
+      let free : refusal (setup_in plan from.frame) (at (setup_in plan from.frame) (from.seen ++ before)) deciding ≡ None =
+      subst (λ (s : Setup). refusal s (at s (from.seen ++ before)) deciding ≡ None) (before_setup plan from old new w e g first last fs numbers c u (λ b y. IsAccepted plan b y w last next deciding Done) k)
+      (subst (λ l. refusal (setup_of plan k.before) (at (setup_of plan k.before) l) deciding ≡ None) (before_is plan from old new w e g first last fs numbers c u (λ b y. IsAccepted plan b y w last next deciding Done) k)
+      (is_accepted (state_of plan k.before) deciding Done (refusal (setup_of plan k.before) (state_of plan k.before) deciding) k.does.adds.step refl)) in
+      let place : touched w (from.seen ++ before) ≡ last = ap (touched w) (sym (before_is plan from old new w e g first last fs numbers c u (λ b y. IsAccepted plan b y w last next deciding Done) k)) ∙ k.does.was in
+      record {
+        requests = requests_now plan from old new w e g first last fs numbers c u (λ b y. IsAccepted plan b y w last next deciding Done) k (commit_entry w e ∷ []) (ap (λ (y : ClusterView W). y.journal) k.does.adds.journal) (one_of_commit w (commit_entry w e) (is_same w));
+        before = before;
+        is = more_now plan from old new w e g first last fs numbers c u (λ b y. IsAccepted plan b y w last next deciding Done) k (commit_entry w e ∷ []);
+        pending = λ mine t. sending_commits (setup_in plan from.frame) from.seen u.requests.more k.others w e (length u.requests.own) first last c t u.worker.network
+            (reached_history plan from old new w e g first last fs numbers c u (λ b y. IsAccepted plan b y w last next deciding Done) k) (u.worker.idle mine) place free (u.sending mine);
+      }
+
+  not_done : (r : Refused) → Called plan old new (λ b x. IsRefused plan b x w last next deciding r) → Halts plan old new w e g last numbers has_pending_work (Refusal r)
+  not_done r k from first fs c ready u =
+      request_refused plan from old new w e g first last next fs numbers c u deciding r k (is_same w) (and_from (w == w) (e == e) (is_same w) (is_same e)) (λ s. refl) (λ mine place. ready)
+
+  was_touched : (place : ℕ) → Called plan old new (λ b x. IsTouched b x w last next place) → Halts plan old new w e g last numbers has_pending_work (Touched place)
+  was_touched place k from first fs c ready u = request_touched plan from old new w e g first last next place fs numbers c u k
+
+  pub decide_decides : {E : Type 0} (r : Result (Result (Unit {0}) Barred) E) → Called plan old new (Asked plan w last next deciding (λ u. Done) r) → Decides plan old new w e g last numbers (halted r)
+  decide_decides (Ok (Ok u)) called = is_decided (called_as plan old new _ (λ b x. IsAccepted plan b x w last next deciding Done) (λ b x d. d.0) called)
+  decide_decides (Ok (Err (Refusal r))) called = not_done r (called_as plan old new _ (λ b x. IsRefused plan b x w last next deciding r) (λ b x d. d.0) called)
+  decide_decides (Ok (Err (Touched place))) called = was_touched place (called_as plan old new _ (λ b x. IsTouched b x w last next place) (λ b x d. d.0) called)
+  decide_decides (Err x) called = tt
+
+  pub decide_requests : {E : Type 0} (commit : Bool) (r : Result (Result (Unit {0}) Barred) E) → Called plan old new (Asked plan w last next (Decide w e commit) (λ u. Done) r) → Requests plan old new w
+  decide_requests commit (Ok (Ok u)) k =
+      requests_by plan old new _ k w (record { request = Decide w e commit; reply = Done } ∷ []) (ap (λ (x : ClusterView W). x.journal) k.does.0.adds.journal)
+      (one_of_commit w (record { request = Decide w e commit; reply = Done }) (is_same w))
+  decide_requests commit (Ok (Err (Refusal r))) k =
+      requests_by plan old new _ k w (record { request = Decide w e commit; reply = Refuse r } ∷ []) (ap (λ (x : ClusterView W). x.journal) k.does.0.adds.journal)
+      (one_of_commit w (record { request = Decide w e commit; reply = Refuse r }) (is_same w))
+  decide_requests commit (Ok (Err (Touched place))) k = requests_by plan old new _ k w [] (ap (λ (x : ClusterView W). x.journal) k.does.0.same ∙ sym (append-nil k.before.journal)) refl
+  decide_requests commit (Err x) k = requests_by plan old new _ k w [] (ap (λ (x : ClusterView W). x.journal) k.does.1 ∙ sym (append-nil k.before.journal)) refl
+
+-- ---- markers
+-- nothing waits where none was given
+none_waits : (s : State) (w : ℕ) → Marked None ≡ answer s (MarkNext w) → (s.producer w).waiting ≡ []
+none_waits s w is = by (s.producer w).waiting is
+  where
+    by : (ms : List Marker) → Marked None ≡ (elim ms as (λ _. Reply) [ [] ↦ Marked None | m ∷ rest ↦ Marked (Some (m.part, m.commit)) ]) → ms ≡ []
+    by [] h = refl
+    by (m ∷ rest) h = absurd cc
+
+still_none : (s : State) (w : ℕ) → (s.producer w).waiting ≡ [] → ((effect s (MarkNext w)).producer w).waiting ≡ []
+still_none s w none = by (s.producer w).waiting none
+  where
+    by : (ms : List Marker) → ms ≡ [] →
+        ((elim ms as (λ _. State) [
+          | [] ↦ s
+          | m ∷ rest ↦ record s {
+            partition = grown s.partition m.part (Mark w m.epoch m.commit ∷ []);
+            producer = with_number s.producer w (record (s.producer w) { waiting = rest });
+          }
+        ]).producer w).waiting ≡ []
+    by [] h = none
+    by (m ∷ rest) h = absurd cc
+
+none_left : {W : Type 0} (plan : W → TaskPlan) (old new : PassView Entry (Frame W)) (w : ℕ) → Called plan old new (λ b a. AddsEntry plan b a (MarkNext w) (Marked None)) → ((at (setup_in plan old.frame) new.seen).producer w).waiting ≡ []
+none_left {W} plan old new w k =
+    let s : State = state_of plan k.before in
+    let entry : Entry = record { request = MarkNext w; reply = Marked None } in
+    let journal : new.seen ≡ k.before.journal ++ entry ∷ [] = seen_after plan old new (λ b a. AddsEntry plan b a (MarkNext w) (Marked None)) k ∙ ap (λ (x : ClusterView W). x.journal) k.does.journal in
+    let there : at (setup_of plan k.before) (k.before.journal ++ entry ∷ []) ≡ effect s (MarkNext w) = state_after-append (setup_of plan k.before) start k.before.journal (entry ∷ []) in
+    ap (λ (x : Setup). ((at x new.seen).producer w).waiting) (ap (setup_in plan) k.frame)
+    ∙ ap (λ l. ((at (setup_of plan k.before) l).producer w).waiting) journal
+    ∙ ap (λ (x : State). (x.producer w).waiting) there
+    ∙ still_none s w (none_waits s w k.does.step)
+
+module _ {W E : Type 0} (plan : W → TaskPlan) (old new : PassView Entry (Frame W)) (w : ℕ) where
+  abbrev pub MarkerAsked : Result (Option (PartId × Bool)) E → ClusterView W → ClusterView W → Type 0
+  MarkerAsked r before after = IfOk r (λ m. AddsEntry plan before after (MarkNext w) (Marked m)) × OnErr r (after ≡ before)
+
+  pub marker_requests : (r : Result (Option (PartId × Bool)) E) → Called plan old new (MarkerAsked r) → Requests plan old new w
+  marker_requests (Ok m) k =
+      requests_by plan old new (MarkerAsked (Ok m)) k w (record { request = MarkNext w; reply = Marked m } ∷ []) (ap (λ (x : ClusterView W). x.journal) k.does.0.journal)
+      (one_of_commit w (record { request = MarkNext w; reply = Marked m }) (is_same w))
+  marker_requests (Err x) k = requests_by plan old new (MarkerAsked (Err x)) k w [] (ap (λ (x : ClusterView W). x.journal) k.does.1 ∙ sym (append-nil k.before.journal)) refl
+
+  waits_none : (r : Result (Option (PartId × Bool)) E) → Called plan old new (MarkerAsked r) → IfOk (written r) (λ more. more ≡ false → ((at (setup_in plan old.frame) new.seen).producer w).waiting ≡ [])
+  waits_none (Ok None) k = λ h. none_left plan old new w (called_as plan old new _ (λ b a. AddsEntry plan b a (MarkNext w) (Marked None)) (λ b a d. d.0) k)
+  waits_none (Ok (Some m)) k = λ h. absurd (true≢false h)
+  waits_none (Err x) k = tt
+
+  pub waits_as : (x : Result Bool Halt) (r : Result (Option (PartId × Bool)) E) → x ≡ written r → Called plan old new (MarkerAsked r) → IfOk x (λ more. more ≡ false → ((at (setup_in plan old.frame) new.seen).producer w).waiting ≡ [])
+  waits_as x r is k = subst (λ y. IfOk y (λ more. more ≡ false → ((at (setup_in plan old.frame) new.seen).producer w).waiting ≡ [])) (sym is) (waits_none r k)

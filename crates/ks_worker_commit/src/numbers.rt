@@ -1,0 +1,38 @@
+//! How many records of its epoch a worker has put into each partition.
+ghost use Rattle.std.specs.Prelude.{◌≡◌, IfOk};
+ghost use Rattle.ks_commit.specs.Alone.{number_in};
+ghost use Rattle.ks_commit.specs.Numbers.{renumber};
+
+use ks_row::PartId;
+use std::alloc::{AllocError, Global};
+
+// The number of a partition; 0 where none stands.
+pub(crate) fn number(numbers: &[(PartId, u64)], part: PartId) -> u64
+    ensures { result ≡ number_in part numbers.now }
+{
+    for pair in numbers {
+        if part.is(pair.0) {
+            return pair.1;
+        }
+    }
+    0
+}
+
+// The numbers, with another one for this partition.
+pub(crate) fn renumbered(
+    alloc: Global,
+    numbers: &[(PartId, u64)],
+    part: PartId,
+    number: u64,
+) -> Result<Vec<(PartId, u64)>, AllocError>
+    ensures { IfOk result (λ made. made.items ≡ renumber part number numbers.now) }
+{
+    let mut made = Vec::new(alloc);
+    made.push((part, number))?;
+    for pair in numbers {
+        if !part.is(pair.0) {
+            made.push(*pair)?;
+        }
+    }
+    Ok(made)
+}

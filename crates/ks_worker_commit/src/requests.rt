@@ -1,0 +1,251 @@
+//! The requests of a commit, one at a time: each is made unless the worker is cut off before it.
+ghost use Rattle.std.specs.Prelude.{◌≡◌, ◌≤◌, ◌+◌, true, false, [], length, IfOk, OnOk};
+ghost use Rattle.ks_history.specs.declared.journal.Request.TheVariants.{Decide};
+ghost use Rattle.ks_history.specs.State.{IsPart, has_task};
+ghost use Rattle.ks_history.specs.History.{at, are_offsets, CommitsFaithfully};
+ghost use Rattle.ks_history.specs.Touched.{touched};
+ghost use Rattle.ks_worker_commit.specs.Steps.{HasRoomFor, are_later};
+ghost use Rattle.ks_shared.specs.Calls.{setup_in};
+ghost use Rattle.ks_law_restore.specs.Views.{pending_work};
+ghost use Rattle.ks_law_transaction.specs.Building.{with_part, with_records, with_pending_offsets};
+ghost use Rattle.ks_commit.specs.Work.{work_view};
+ghost use Rattle.ks_worker_commit.specs.Outcomes.{Requests, cuts_in, halted, written};
+ghost use Rattle.ks_worker_commit.specs.Underway.{Carries, Decides, always, has_added, has_work};
+
+use crate::halt::Halt;
+use crate::numbers::{number, renumbered};
+use crate::session::{Member, Session};
+use ks_cluster::Work;
+use ks_commit::Frozen;
+use ks_edge::Gate;
+use ks_row::{PartId, Rec, Seq, TaskId};
+use ks_shared::{Barred, Shared};
+use std::alloc::{AllocError, Global};
+use std::sync::Wait;
+
+// How many records of its epoch a producer has sent to a partition, after these.
+fn number_after(before: u64, recs: &[Rec]) -> Result<u64, AllocError>
+    ensures { IfOk result (λ after. after ≡ before + length recs.now) }
+{
+    match before.checked_add(recs.len() as u64) {
+        Some(after) => Ok(after),
+        None => Err(AllocError),
+    }
+}
+
+// What a call's answer is to a commit.
+fn done<T: Drop>(answer: Result<Result<T, Barred>, AllocError>) -> Result<T, Halt>
+    ensures { result ≡ halted answer }
+{
+    match answer {
+        Ok(Ok(value)) => Ok(value),
+        Ok(Err(barred)) => Err(Halt::Barred(barred)),
+        Err(_) => Err(Halt::OutOfMemory),
+    }
+}
+
+// Whether a marker was written.
+fn is_written(answer: Result<Option<(PartId, bool)>, AllocError>) -> Result<bool, Halt>
+    ensures { result ≡ written answer }
+{
+    match answer {
+        Ok(None) => Ok(false),
+        Ok(Some(_)) => Ok(true),
+        Err(_) => Err(Halt::OutOfMemory),
+    }
+}
+
+/// Takes a partition into the worker's transaction, which begins where there is none.
+pub fn add_part<R: Wait, W: Work, G: Gate>(
+    rt: &R,
+    alloc: Global,
+    shared: &Shared<W>,
+    session: &mut Session<W, G>,
+    member: Member,
+    part: PartId,
+) -> Result<(), Halt>
+    requires own { session.old.pass.lock ≡ shared.now.growing.id }
+    requires free { session.old.pass.holds ≡ false }
+    requires room { HasRoomFor session.old.steps }
+    requires worker { member.worker ≤ 16 }
+    requires part { IsPart (setup_in W.plan session.old.pass.frame) part }
+    ensures requests { Requests W.plan session.old.pass session.new.pass member.worker }
+    ensures carries { Carries W.plan session.old.pass session.new.pass
+        member.worker member.epoch member.generation session.old.last session.new.last
+        session.old.numbers.items session.new.numbers.items always (with_part part) result }
+    ensures steps { are_later session.old.steps session.new.steps (cuts_in result) }
+{
+    if session.steps.is_cut() {
+        return Err(Halt::Cut);
+    }
+    let (worker, epoch) = (member.worker, member.epoch);
+    done(shared.add(
+        rt,
+        alloc,
+        worker,
+        epoch,
+        part,
+        &mut session.last,
+        &mut session.pass,
+    ))
+}
+
+/// Appends a task's records to a partition of the worker's transaction, with the next number of its epoch
+/// there. A number that would pass its type's greatest value is answered as want of memory.
+pub fn append_output<R: Wait, W: Work, G: Gate>(
+    rt: &R,
+    alloc: Global,
+    shared: &Shared<W>,
+    session: &mut Session<W, G>,
+    member: Member,
+    task: TaskId,
+    out: &(PartId, Seq<Rec>),
+) -> Result<(), Halt>
+    requires own { session.old.pass.lock ≡ shared.now.growing.id }
+    requires free { session.old.pass.holds ≡ false }
+    requires room { HasRoomFor session.old.steps }
+    requires worker { member.worker ≤ 16 }
+    requires part { IsPart (setup_in W.plan session.old.pass.frame) out.now.0 }
+    requires task { has_task task (setup_in W.plan session.old.pass.frame).tasks ≡ true }
+    ensures requests { Requests W.plan session.old.pass session.new.pass member.worker }
+    ensures carries { Carries W.plan session.old.pass session.new.pass
+        member.worker member.epoch member.generation session.old.last session.new.last
+        session.old.numbers.items session.new.numbers.items (has_added out.now.0) (with_records task out.now.0 out.now.1) result }
+    ensures steps { are_later session.old.steps session.new.steps (cuts_in result) }
+{
+    if session.steps.is_cut() {
+        return Err(Halt::Cut);
+    }
+    let (part, recs) = (out.0, out.1.as_slice());
+    let before = number(session.numbers.as_slice(), part);
+    let after = number_after(before, recs)?;
+    let numbers = renumbered(alloc, session.numbers.as_slice(), part, after)?;
+    let (worker, epoch) = (member.worker, member.epoch);
+    let (last, pass) = (&mut session.last, &mut session.pass);
+    match done(shared.append(
+        rt, alloc, worker, epoch, before, task, part, recs, last, pass,
+    )) {
+        Ok(_offset) => {}
+        Err(halt) => return Err(halt),
+    }
+    session.numbers = numbers;
+    Ok(())
+}
+
+/// Sends the offsets of a task's work in the worker's transaction, with its own generation.
+pub fn send_offsets<R: Wait, W: Work, G: Gate>(
+    rt: &R,
+    alloc: Global,
+    shared: &Shared<W>,
+    session: &mut Session<W, G>,
+    member: Member,
+    work: &Frozen,
+) -> Result<(), Halt>
+    requires own { session.old.pass.lock ≡ shared.now.growing.id }
+    requires free { session.old.pass.holds ≡ false }
+    requires room { HasRoomFor session.old.steps }
+    requires worker { member.worker ≤ 16 }
+    requires task { has_task work.now.task (setup_in W.plan session.old.pass.frame).tasks ≡ true }
+    requires offsets { are_offsets (setup_in W.plan session.old.pass.frame)
+        (at (setup_in W.plan session.old.pass.frame) session.old.pass.seen) work.now.task work.now.offsets
+        ≡ true }
+    ensures requests { Requests W.plan session.old.pass session.new.pass member.worker }
+    ensures carries { Carries W.plan session.old.pass session.new.pass
+        member.worker member.epoch member.generation session.old.last session.new.last
+        session.old.numbers.items session.new.numbers.items (has_work work.now.task) (with_pending_offsets (pending_work (work_view work.now))) result }
+    ensures sent { OnOk result (touched member.worker session.new.pass.seen ≡ session.new.last) }
+    ensures generation { OnOk result ((at (setup_in W.plan session.old.pass.frame) session.new.pass.seen).generation
+        ≡ member.generation) }
+    ensures steps { are_later session.old.steps session.new.steps (cuts_in result) }
+{
+    if session.steps.is_cut() {
+        return Err(Halt::Cut);
+    }
+    let (offsets, order) = (work.offsets.as_slice(), work.order.as_slice());
+    done(shared.send_offsets(
+        rt,
+        alloc,
+        member.worker,
+        member.epoch,
+        member.generation,
+        work.task,
+        offsets,
+        order,
+        work.late,
+        &mut session.last,
+        &mut session.pass,
+    ))
+}
+
+/// Commits the worker's transaction, which is faithful in what the pass has seen.
+pub fn decide_commit<R: Wait, W: Work, G: Gate>(
+    rt: &R,
+    alloc: Global,
+    shared: &Shared<W>,
+    session: &mut Session<W, G>,
+    member: Member,
+) -> Result<(), Halt>
+    requires own { session.old.pass.lock ≡ shared.now.growing.id }
+    requires free { session.old.pass.holds ≡ false }
+    requires room { HasRoomFor session.old.steps }
+    requires worker { member.worker ≤ 16 }
+    requires within { session.old.last ≤ length session.old.pass.seen }
+    requires faithful { CommitsFaithfully (setup_in W.plan session.old.pass.frame)
+        (at (setup_in W.plan session.old.pass.frame) session.old.pass.seen)
+        (Decide member.worker member.epoch true) }
+    ensures requests { Requests W.plan session.old.pass session.new.pass member.worker }
+    ensures decides { Decides W.plan session.old.pass session.new.pass
+        member.worker member.epoch member.generation session.old.last session.old.numbers.items result }
+    ensures steps { are_later session.old.steps session.new.steps (cuts_in result) }
+{
+    if session.steps.is_cut() {
+        return Err(Halt::Cut);
+    }
+    let (last, pass) = (&mut session.last, &mut session.pass);
+    done(shared.decide(rt, alloc, member.worker, member.epoch, true, last, pass))
+}
+
+/// Aborts the worker's transaction.
+pub fn decide_abort<R: Wait, W: Work, G: Gate>(
+    rt: &R,
+    alloc: Global,
+    shared: &Shared<W>,
+    session: &mut Session<W, G>,
+    member: Member,
+) -> Result<(), Halt>
+    requires own { session.old.pass.lock ≡ shared.now.growing.id }
+    requires free { session.old.pass.holds ≡ false }
+    requires room { HasRoomFor session.old.steps }
+    requires worker { member.worker ≤ 16 }
+    ensures requests { Requests W.plan session.old.pass session.new.pass member.worker }
+    ensures steps { are_later session.old.steps session.new.steps (cuts_in result) }
+{
+    if session.steps.is_cut() {
+        return Err(Halt::Cut);
+    }
+    let (last, pass) = (&mut session.last, &mut session.pass);
+    done(shared.decide(rt, alloc, member.worker, member.epoch, false, last, pass))
+}
+
+/// Writes the worker's next waiting marker; false where none waits.
+pub fn write_marker<R: Wait, W: Work, G: Gate>(
+    rt: &R,
+    alloc: Global,
+    shared: &Shared<W>,
+    session: &mut Session<W, G>,
+    member: Member,
+) -> Result<bool, Halt>
+    requires own { session.old.pass.lock ≡ shared.now.growing.id }
+    requires free { session.old.pass.holds ≡ false }
+    requires room { HasRoomFor session.old.steps }
+    requires worker { member.worker ≤ 16 }
+    ensures requests { Requests W.plan session.old.pass session.new.pass member.worker }
+    ensures none { IfOk result (λ more. more ≡ false → ((at (setup_in W.plan session.old.pass.frame)
+        session.new.pass.seen).producer member.worker).waiting ≡ []) }
+    ensures steps { are_later session.old.steps session.new.steps (cuts_in result) }
+{
+    if session.steps.is_cut() {
+        return Err(Halt::Cut);
+    }
+    is_written(shared.mark_next(rt, alloc, member.worker, &mut session.pass))
+}

@@ -1,0 +1,153 @@
+-- A replica that is fed.
+use Rattle.std.proofs.Common.{◌≡◌, ℕ, zero, suc, ◌+◌, ◌<◌, ◌||◌, Bool, true, false, add-one, List, [], ◌∷◌, ◌++◌, length, take, get_or, refl, sym, ap, ap₂, subst, ◌∙◌, arith}
+use Rattle.std.specs.Prelude.{◌==◌}
+use Rattle.std.proofs.Math.Seq.{take-suc}
+use Rattle.std.proofs.lemmas.Bool.{true≢false, eq-eqb}
+use Rattle.ks_row.specs.declared.record.Rec.{Rec}
+use Rattle.ks_row.specs.declared.record.TaskId.{TaskId}
+use Rattle.ks_history.specs.declared.journal.Entry.{Entry}
+use Rattle.ks_history.specs.Machine.{IsNetwork, TaskPlan, has_topic, part_of}
+use Rattle.ks_history.specs.State.{Setup, IsSetup, has_task}
+use Rattle.ks_history.specs.Reads.{MayFetch, fetched}
+use Rattle.ks_history.specs.Follows.{ReplicaView, ReplicaFollows}
+use Rattle.ks_history.specs.History.{at, IsHistory}
+use Rattle.ks_law_restore.specs.Replicas.{fed_replica}
+use Rattle.ks_law_restore.proofs.Lasting.{replica_stands}
+use Rattle.ks_law_restore.proofs.Replicas.{feeding_follows}
+use Rattle.ks_law_worker.specs.Moves.{IsFed}
+use Rattle.ks_law_worker.proofs.Bounds.{replica_is_within}
+use Rattle.ks_law_worker.proofs.Moving.{feeding_moves, fed_twice}
+use Rattle.ks_growing.specs.Passes.{PassView}
+use Rattle.ks_shared.specs.declared.state.Frame.{Frame}
+use Rattle.ks_shared.specs.Calls.{setup_in}
+use Rattle.ks_client.specs.Calls.{Later, state_seen}
+use Rattle.ks_client.proofs.Moments.{same_frame}
+use Rattle.ks_standby.specs.declared.replica.Replica.{Replica}
+use Rattle.ks_standby.specs.Replicas.{replica_view, changelogs_of}
+use Rattle.ks_worker_state.specs.Standbys.{IsStandby, IsFedStandby}
+
+module _ (setup : Setup) where
+  -- it may be fed where it stands
+  pub may_feed : (journal : List Entry) (r : Replica) (topic part from : ℕ) → IsSetup setup → IsStandby setup journal r → has_topic topic (changelogs_of r) ≡ true → part ≡ r.id.part → from ≡ (replica_view r).position topic →
+      MayFetch setup (at setup journal) (record { topic = topic; part = part }) from 32
+  may_feed journal r topic part from made s there is at_it =
+      let own : has_topic topic (setup.plan.changelogs r.id.sub) ≡ true = sym (ap (has_topic topic) s.replica.changelogs) ∙ there in
+      let may : MayFetch setup (at setup journal) (part_of topic r.id) ((replica_view r).position topic) 32 = record {
+        part = made.changelogs r.id topic s.known own;
+        within = replica_is_within setup journal (replica_view r) topic own s.replica.follows;
+        some = omega arith;
+      } in
+      subst (λ n. MayFetch setup (at setup journal) (record { topic = topic; part = part }) n 32) (sym at_it)
+      (subst (λ n. MayFetch setup (at setup journal) (record { topic = topic; part = n }) ((replica_view r).position topic) 32) (sym is) may)
+
+  -- whatever others write
+  pub standby_stays : (journal more : List Entry) (r : Replica) → IsNetwork setup.plan → IsHistory setup (journal ++ more) → IsStandby setup journal r → IsStandby setup (journal ++ more) r
+  standby_stays journal more r net history s = record {
+    known = s.known;
+    replica = record { task = refl; changelogs = s.replica.changelogs; follows = replica_stands setup journal more (replica_view r) net history s.replica.follows };
+  }
+
+  -- it takes what a fetch gives
+  pub standby_fed : (journal more : List Entry) (old new : Replica) (topic part from next : ℕ) (recs : List (ℕ × Rec)) → IsNetwork setup.plan → IsHistory setup (journal ++ more) → IsStandby setup journal old →
+      has_topic topic (changelogs_of old) ≡ true → part ≡ old.id.part → from ≡ (replica_view old).position topic →
+      (recs, next) ≡ fetched (at setup (journal ++ more)) (record { topic = topic; part = part }) from 32 →
+      replica_view new ≡ fed_replica (replica_view old) topic recs next → changelogs_of new ≡ changelogs_of old → IsFedStandby setup journal (journal ++ more) (topic ∷ []) old new
+  standby_fed journal more old new topic part from next recs net history s there is at_it got view logs =
+      let now : List Entry = journal ++ more in
+      let t : IsStandby setup now old = standby_stays journal more old net history s in
+      let own : has_topic topic (setup.plan.changelogs old.id.sub) ≡ true = sym (ap (has_topic topic) t.replica.changelogs) ∙ there in
+      let gave : (recs, next) ≡ fetched (at setup now) (part_of topic old.id) ((replica_view old).position topic) 32 =
+      got ∙ ap₂ (λ (p n : ℕ). fetched (at setup now) (record { topic = topic; part = p }) n 32) is at_it in
+      let fed : replica_view new ≡ fed_replica (replica_view old) topic (fetched (at setup now) (part_of topic old.id) ((replica_view old).position topic) 32).0 (fetched (at setup now) (part_of topic old.id) ((replica_view old).position topic) 32).1 =
+      view ∙ ap (λ (g : List (ℕ × Rec) × ℕ). fed_replica (replica_view old) topic g.0 g.1) gave in
+      let same : old.id ≡ new.id = sym (ap (λ (v : ReplicaView). v.task) view) in
+      let moved : IsFed setup now (topic ∷ []) (replica_view old) (replica_view new) = subst (IsFed setup now (topic ∷ []) (replica_view old)) (sym fed)
+      (feeding_moves setup now (replica_view old) topic 32 (replica_is_within setup now (replica_view old) topic own t.replica.follows) (omega arith)) in
+      record {
+        standby = record {
+          known = subst (λ u. has_task u setup.tasks ≡ true) same t.known;
+          replica = record {
+            task = refl;
+            changelogs = logs ∙ t.replica.changelogs ∙ ap (λ (u : TaskId). setup.plan.changelogs u.sub) same;
+            follows = subst (ReplicaFollows setup now) (sym fed) (feeding_follows setup now (replica_view old) topic 32 own (omega arith) t.replica.follows);
+          };
+        };
+        changelogs = logs;
+        fed = fed_twice setup journal more [] (topic ∷ []) (replica_view old) (replica_view old) (replica_view new) net history (unfed setup journal (replica_view old)) moved;
+      }
+    where
+      unfed : (setup : Setup) (h : List Entry) (r : ReplicaView) → IsFed setup h [] r r
+      unfed setup h r = record { task = refl; later = λ u. omega arith; moved = λ u none. absurd cc }
+
+-- ---- one feeding after another
+front_topic : (u : ℕ) (xs ys : List ℕ) → has_topic u xs ≡ true → has_topic u (xs ++ ys) ≡ true
+front_topic u [] ys h = absurd (true≢false (sym h))
+front_topic u (x ∷ xs) ys h = by (u == x) h (λ g. front_topic u xs ys g)
+  where
+    by : (b : Bool) → b || has_topic u xs ≡ true → (has_topic u xs ≡ true → has_topic u (xs ++ ys) ≡ true) → b || has_topic u (xs ++ ys) ≡ true
+    by true g more = refl
+    by false g more = more g
+
+one_topic : (xs : List ℕ) (i d : ℕ) → i < length xs → has_topic (get_or xs i d) xs ≡ true
+one_topic [] i d h = absurd (omega (arith, h))
+one_topic (x ∷ xs) zero d h = ap (λ b. b || has_topic x xs) (eq-eqb x x refl)
+one_topic (x ∷ xs) (suc i) d h = by (get_or xs i d == x) (one_topic xs i d (omega (arith, h)))
+  where
+    by : (b : Bool) → has_topic (get_or xs i d) xs ≡ true → b || has_topic (get_or xs i d) xs ≡ true
+    by true more = refl
+    by false more = more
+
+-- the i-th of the task's changelogs
+pub own_topic : (r now : Replica) (xs : List ℕ) (i : ℕ) → i < length xs → xs ≡ changelogs_of r → changelogs_of now ≡ changelogs_of r → has_topic (get_or xs i 0) (changelogs_of now) ≡ true
+own_topic r now xs i h is same = subst (λ l. has_topic (get_or xs i 0) l ≡ true) (is ∙ sym same) (one_topic xs i 0 h)
+
+module _ {W : Type 0} (plan : W → TaskPlan) (old mid new : PassView Entry (Frame W)) (l : Later plan old mid) where
+  pub standby_at : (r : Replica) → IsStandby (setup_in plan old.frame) mid.seen r → IsStandby (setup_in plan mid.frame) mid.seen r
+  standby_at r s = subst (λ f. IsStandby (setup_in plan f) mid.seen r) (sym (same_frame plan old mid l)) s
+
+  pub standby_later : (r : Replica) → IsNetwork (setup_in plan old.frame).plan → IsStandby (setup_in plan old.frame) old.seen r → IsStandby (setup_in plan old.frame) mid.seen r
+  standby_later r net s = subst (λ j. IsStandby (setup_in plan old.frame) j r) (sym l.seen) (standby_stays (setup_in plan old.frame) old.seen l.more r net l.history s)
+
+  pub not_fed : (r : Replica) → IsNetwork (setup_in plan old.frame).plan → IsStandby (setup_in plan old.frame) old.seen r → IsFedStandby (setup_in plan old.frame) old.seen mid.seen [] r r
+  not_fed r net s = record {
+    standby = standby_later r net s;
+    changelogs = refl;
+    fed = record { task = refl; later = λ u. omega arith; moved = λ u none. absurd cc };
+  }
+
+  module _ (k : Later plan mid new) (net : IsNetwork (setup_in plan old.frame).plan) (a b c : Replica) (xs ys : List ℕ) where
+    pub fed_more : IsFedStandby (setup_in plan old.frame) old.seen mid.seen xs a b → IsFedStandby (setup_in plan mid.frame) mid.seen new.seen ys b c → IsFedStandby (setup_in plan old.frame) old.seen new.seen (xs ++ ys) a c
+    fed_more f g =
+        let h : IsFedStandby (setup_in plan old.frame) mid.seen new.seen ys b c = subst (λ n. IsFedStandby (setup_in plan n) mid.seen new.seen ys b c) (same_frame plan old mid l) g in
+        record {
+          standby = h.standby;
+          changelogs = h.changelogs ∙ f.changelogs;
+          fed = fed_twice (setup_in plan old.frame) old.seen l.more xs ys (replica_view a) (replica_view b) (replica_view c) net l.history f.fed
+              (subst (λ j. IsFed (setup_in plan old.frame) j ys (replica_view b) (replica_view c)) l.seen h.fed);
+        }
+
+    pub fed_on : IsFedStandby (setup_in plan old.frame) old.seen mid.seen xs a b → IsFedStandby (setup_in plan mid.frame) mid.seen new.seen ys b c → IsFedStandby (setup_in plan old.frame) old.seen new.seen xs a c
+    fed_on f g =
+        let all : IsFedStandby (setup_in plan old.frame) old.seen new.seen (xs ++ ys) a c = fed_more f g in
+        record {
+          standby = all.standby;
+          changelogs = all.changelogs;
+          fed = record { task = all.fed.task; later = all.fed.later; moved = λ u there. all.fed.moved u (front_topic u xs ys there) };
+        }
+
+-- one more of the changelogs
+pub one_more_topic : (xs : List ℕ) (i : ℕ) → i < length xs → take i xs ++ get_or xs i 0 ∷ [] ≡ take (i + 1) xs
+one_more_topic xs i h = sym (take-suc xs i 0 h) ∙ ap (λ k. take k xs) (sym (add-one i))
+
+-- a call on what is fed
+module _ {W : Type 0} (plan : W → TaskPlan) (pass new : PassView Entry (Frame W)) (l : Later plan pass new) where
+  pub fed_by : (old fed : Replica) (topic part from next : ℕ) (recs : List (ℕ × Rec)) → IsNetwork (setup_in plan pass.frame).plan → IsStandby (setup_in plan pass.frame) pass.seen old →
+      has_topic topic (changelogs_of old) ≡ true → part ≡ old.id.part → from ≡ (replica_view old).position topic →
+      recs ≡ (fetched (state_seen plan new) (record { topic = topic; part = part }) from 32).0 → next ≡ (fetched (state_seen plan new) (record { topic = topic; part = part }) from 32).1 →
+      replica_view fed ≡ fed_replica (replica_view old) topic recs next → changelogs_of fed ≡ changelogs_of old → IsFedStandby (setup_in plan pass.frame) pass.seen new.seen (topic ∷ []) old fed
+  fed_by old fed topic part from next recs net s there is at_it records goes view logs =
+      let setup : Setup = setup_in plan pass.frame in
+      let here : (recs, next) ≡ fetched (at setup (pass.seen ++ l.more)) (record { topic = topic; part = part }) from 32 =
+      (λ i. (records i, goes i)) ∙ ap₂ (λ f j. fetched (at (setup_in plan f) j) (record { topic = topic; part = part }) from 32) (same_frame plan pass new l) l.seen in
+      subst (λ j. IsFedStandby setup pass.seen j (topic ∷ []) old fed) (sym l.seen)
+      (standby_fed setup pass.seen l.more old fed topic part from next recs net l.history s there is at_it here view logs)

@@ -1,0 +1,4 @@
+pub mod Fed
+pub mod ReadOn
+pub mod Workers
+pub mod Restored

@@ -1,0 +1,32 @@
+use Rattle.std.proofs.Common.{refl, subst, ◌∙◌}
+use Rattle.ks_shared.specs.Calls.{setup_in}
+use Rattle.ks_client.proofs.Halting.{same_counts}
+use Rattle.ks_client.proofs.Moments.{may_later, later_twice, not_later}
+use Rattle.ks_worker_state.specs.Standbys.{IsFedStandby}
+use Rattle.ks_worker_state.proofs.Fed.{own_topic, standby_at, not_fed, fed_more, one_more_topic}
+use Rattle.ks_worker_state.proofs.feeding.feed_once.Goals as goal
+
+pub feed_from-requires-clause-may : goal.feed_from-requires-clause-may
+feed_from-requires-clause-may g c = may_later g.W.Work.plan _ _ _ _ _ c.loop-i.invariant.later c.loop-i.invariant.gate c.requires.may
+
+pub feed_from-requires-clause-standby : goal.feed_from-requires-clause-standby
+feed_from-requires-clause-standby g c = standby_at g.W.Work.plan _ _ c.loop-i.client.pass c.loop-i.invariant.later _ c.loop-i.invariant.fed.standby
+
+pub feed_from-requires-clause-topic : goal.feed_from-requires-clause-topic
+feed_from-requires-clause-topic g c = own_topic c.args.replica.now c.loop-i.replica c.args.changelogs.now c.loop-i.i c.loop-i-test.true c.requires.changelogs c.loop-i.invariant.fed.changelogs
+
+pub loop-i-init : goal.loop-i-init
+loop-i-init g c = record {
+  later = not_later g.W.Work.plan c.args.client.now.pass c.requires.may.history;
+  gate = refl;
+  fed = not_fed g.W.Work.plan _ _ c.args.client.now.pass (not_later g.W.Work.plan c.args.client.now.pass c.requires.may.history) c.args.replica.now c.requires.may.network c.requires.standby;
+}
+
+pub loop-i-preserved : goal.loop-i-preserved
+loop-i-preserved g c = record {
+  later = later_twice g.W.Work.plan _ _ _ c.loop-i.invariant.later c.feed_from.ensures.later;
+  gate = same_counts _ _ c.feed_from.result c.in_ok-moves.moves c.in_ok-moves.was c.feed_from.ensures.gate ∙ c.loop-i.invariant.gate;
+  fed = subst (λ l. IsFedStandby (setup_in g.W.Work.plan c.args.client.now.pass.frame) c.args.client.now.pass.seen c.feed_from.new.client.pass.seen l c.args.replica.now c.feed_from.new.replica)
+      (one_more_topic c.args.changelogs.now c.loop-i.i c.loop-i-test.true)
+      (fed_more g.W.Work.plan _ _ _ c.loop-i.invariant.later c.feed_from.ensures.later c.requires.may.network _ _ _ _ _ c.loop-i.invariant.fed c.in_ok-moves.ensures.fed);
+}

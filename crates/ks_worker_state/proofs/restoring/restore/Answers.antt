@@ -1,0 +1,45 @@
+use Rattle.std.proofs.Common.{◌≡◌, ℕ, true, None, map, sym, ap, subst, ◌∙◌}
+use Rattle.ks_row.specs.declared.record.TaskId.{TaskId}
+use Rattle.ks_topo.specs.Topologies.{draft_of, plan_in}
+use Rattle.ks_law_topology.specs.Work.{setup_of}
+use Rattle.ks_nodes.specs.Rules.{rules_of}
+use Rattle.ks_history.specs.State.{Setup, has_task}
+use Rattle.ks_history.specs.Reads.{committed_refusal, committed_offsets}
+use Rattle.ks_shared.specs.Calls.{setup_in}
+use Rattle.ks_task.proofs.Restoring.{listed_topics}
+use Rattle.ks_client.specs.Calls.{state_seen}
+use Rattle.ks_client.proofs.Moments.{later_twice}
+use Rattle.ks_worker_state.proofs.Fed.{standby_later, standby_at}
+use Rattle.ks_worker_state.proofs.Restored.{both_ok, made_held, ok_said, free_said}
+use Rattle.ks_worker_state.proofs.restoring.restore.Goals as goal
+
+pub committed-requires-clause-task : goal.committed-requires-clause-task
+committed-requires-clause-task g c = subst (λ u. has_task u (setup_in g.W.Work.plan c.args.client.now.pass.frame).tasks ≡ true) (sym c.id-task.ensures) c.requires.standby.known
+
+pub returns-in_default-clause-standby : goal.returns-in_default-clause-standby
+returns-in_default-clause-standby g c = standby_later g.W.Work.plan _ _ c.committed.new.self.pass c.committed.ensures.later _ c.requires.may.network c.requires.standby
+
+pub restore_with-requires-clause-standby : goal.restore_with-requires-clause-standby
+restore_with-requires-clause-standby g c =
+    standby_at g.W.Work.plan _ _ c.committed.new.self.pass c.committed.ensures.later _
+    (standby_later g.W.Work.plan _ _ c.committed.new.self.pass c.committed.ensures.later _ c.requires.may.network c.requires.standby)
+
+pub restore_with-requires-clause-offsets : goal.restore_with-requires-clause-offsets
+restore_with-requires-clause-offsets g c =
+    ap (map (λ (o : ℕ × ℕ). o.0)) (c.as_slice.ensures.value ∙ ok_said _ _ _ c.in-Ok.is c.in_ok-answer.ensures.offsets)
+    ∙ listed_topics _ _
+    ∙ ap (λ (s : Setup). s.plan.inputs c.id-task.result.sub) c.requires.topology.setup_is
+    ∙ ap (λ (u : TaskId). (setup_of (rules_of g.H.Hash128.hash_of) (plan_in c.args.topology.now)).plan.inputs u.sub) c.id-task.ensures
+
+pub returns-clause-later : goal.returns-clause-later
+returns-clause-later g c = later_twice g.W.Work.plan _ _ _ c.committed.ensures.later c.restore_with.ensures.later
+
+pub returns-clause-task : goal.returns-clause-task
+returns-clause-task g c =
+    both_ok c.restore_with.result _ _
+    (λ made k. made_held g.W.Work.plan c.args.client.now.pass c.committed.new.self.pass c.restore_with.new.client.pass c.committed.ensures.later (draft_of c.args.topology.now) c.args.member c.args.replica.id c.as_slice.result.now made
+    c.requires.may.network c.requires.seen
+    (subst (λ u. committed_refusal (state_seen g.W.Work.plan c.committed.new.self.pass) c.args.member.number c.args.member.generation u ≡ None) c.id-task.ensures (free_said _ _ _ c.in-Ok.is c.in_ok-answer.ensures.refused))
+    (c.as_slice.ensures.value ∙ ok_said _ _ _ c.in-Ok.is c.in_ok-answer.ensures.offsets
+    ∙ ap (λ u. committed_offsets (setup_in g.W.Work.plan c.args.client.now.pass.frame) (state_seen g.W.Work.plan c.committed.new.self.pass) u) c.id-task.ensures) k)
+    c.restore_with.ensures.task

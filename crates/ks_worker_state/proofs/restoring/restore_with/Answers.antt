@@ -1,0 +1,41 @@
+use Rattle.std.proofs.Common.{◌≡◌, true, sym, ap, subst, ◌∙◌, map}
+use Rattle.ks_row.specs.declared.record.TaskId.{TaskId}
+use Rattle.ks_plan.specs.Infos.{input_numbers}
+use Rattle.ks_topo.specs.Topologies.{draft_of, plan_in}
+use Rattle.ks_history.specs.State.{has_task}
+use Rattle.ks_shared.specs.Calls.{setup_in}
+use Rattle.ks_client.proofs.Halting.{same_counts, counts_on}
+use Rattle.ks_client.proofs.Moments.{may_later, later_twice, same_frame}
+use Rattle.ks_worker_state.specs.Topology.{RunsTopology}
+use Rattle.ks_worker_state.proofs.Fed.{standby_later, standby_at}
+use Rattle.ks_worker_state.proofs.Restored.{own_changelogs, all_changelogs, made_at_the_ends}
+use Rattle.ks_worker_state.proofs.restoring.restore_with.Goals as goal
+
+pub ends_of_task-requires-clause-known : goal.ends_of_task-requires-clause-known
+ends_of_task-requires-clause-known g c = subst (λ u. has_task u (setup_in g.W.Work.plan c.args.client.now.pass.frame).tasks ≡ true) (sym c.id-task.ensures) c.requires.standby.known
+
+pub ends_of_task-requires-clause-changelogs : goal.ends_of_task-requires-clause-changelogs
+ends_of_task-requires-clause-changelogs g c =
+    own_changelogs g.H.Hash128.hash_of (draft_of c.args.topology.now) (setup_in g.W.Work.plan c.args.client.now.pass.frame) c.requires.topology c.id-task.result c.changelogs_in-changelogs.result.now c.changelogs_in-changelogs.ensures
+
+pub feed_to_the_end-requires-clause-may : goal.feed_to_the_end-requires-clause-may
+feed_to_the_end-requires-clause-may g c =
+    may_later g.W.Work.plan _ _ _ _ _ c.ends_of_task.ensures.later (same_counts _ _ c.ends_of_task.result _ c.in_ok-ends.was c.ends_of_task.ensures.gate) c.requires.may
+
+pub feed_to_the_end-requires-clause-standby : goal.feed_to_the_end-requires-clause-standby
+feed_to_the_end-requires-clause-standby g c =
+    standby_at g.W.Work.plan _ _ c.ends_of_task.new.client.pass c.ends_of_task.ensures.later _
+    (standby_later g.W.Work.plan _ _ c.ends_of_task.new.client.pass c.ends_of_task.ensures.later _ c.requires.may.network c.requires.standby)
+
+pub feed_to_the_end-requires-clause-changelogs : goal.feed_to_the_end-requires-clause-changelogs
+feed_to_the_end-requires-clause-changelogs g c =
+    all_changelogs g.H.Hash128.hash_of (draft_of c.args.topology.now) (setup_in g.W.Work.plan c.args.client.now.pass.frame) c.requires.topology c.args.client.now.pass.seen c.args.replica c.requires.standby
+    c.id-task.result c.changelogs_in-changelogs.result.now c.id-task.ensures c.changelogs_in-changelogs.ensures
+
+pub returns-clause-task : goal.returns-clause-task
+returns-clause-task g c =
+    made_at_the_ends g.W.Work.plan c.args.client.now.pass c.ends_of_task.new.client.pass c.feed_to_the_end.new.client.pass c.ends_of_task.ensures.later c.feed_to_the_end.ensures.later
+    (draft_of c.args.topology.now) c.id-task.result c.args.replica c.feed_to_the_end.new.replica c.args.offsets.now c.changelogs_in-changelogs.result.now c.in_ok-ends.ends.items c.as_slice.result.now c.in_ok-task_of.field-0
+    c.id-task.ensures c.in_ok-feed_to_the_end.ensures.fed c.in_ok-task_of.ensures.task c.in_ok-task_of.ensures.view
+    (own_changelogs g.H.Hash128.hash_of (draft_of c.args.topology.now) (setup_in g.W.Work.plan c.args.client.now.pass.frame) c.requires.topology c.id-task.result c.changelogs_in-changelogs.result.now c.changelogs_in-changelogs.ensures)
+    c.in_ok-ends.ensures.ends c.as_slice.ensures.value (sym c.has_reached.ensures ∙ c.if-not-has_reached.false)

@@ -1,0 +1,5 @@
+pub mod Restoring
+pub mod Standbys
+pub mod Tasks
+pub mod Topology
+pub mod Worker

@@ -1,0 +1,29 @@
+-- A worker's tasks (KIP-441: active tasks).
+use Rattle.std.specs.Prelude.{◌≡◌, ◌≤◌, ◌<◌, ℕ, Bool, true, false, List}
+use Rattle.ks_plan.specs.Drafts.{DraftView}
+use Rattle.ks_history.specs.declared.journal.Entry.{Entry}
+use Rattle.ks_history.specs.Machine.{part_of}
+use Rattle.ks_history.specs.State.{Setup}
+use Rattle.ks_history.specs.History.{at}
+use Rattle.ks_law_sharing.specs.Tasks.{HasSeen}
+use Rattle.ks_law_worker.specs.Bounds.{stable_of}
+use Rattle.ks_law_worker.specs.Held.{IsHeld}
+use Rattle.ks_law_worker.specs.Moves.{HasRead}
+use Rattle.ks_task.specs.declared.task.Task.{Task}
+use Rattle.ks_task.specs.Tasks.{task_view, IsTaskOf}
+use Rattle.ks_worker_state.specs.declared.member.Member.{Member}
+
+-- the member's generation and the place that it remembers are of the journal's past
+abbrev pub MemberHasSeen : Setup → List Entry → Member → Type 0
+MemberHasSeen setup journal m = HasSeen setup journal m.number m.generation m.last
+
+-- a task of this topology that the member holds
+pub record IsHeldTask (d : DraftView) (setup : Setup) (journal : List Entry) (m : Member) (t : Task) : Type 0 where
+  pub of : IsTaskOf d t
+  pub held : IsHeld setup journal m.number m.generation m.last (task_view t)
+
+-- one fetch of an input since the journal was `h`: it moved the task there, or did nothing and nothing stable was left there
+pub record IsReadOnce (setup : Setup) (h : List Entry) (topic : ℕ) (moved : Bool) (old new : Task) : Type 0 where
+  pub read : HasRead topic (task_view old) (task_view new)
+  pub moves : moved ≡ true → (task_view old).inputs topic < (task_view new).inputs topic
+  pub stops : moved ≡ false → stable_of (at setup h) (part_of topic (task_view old).task) ≤ (task_view new).inputs topic

@@ -1,0 +1,88 @@
+//! A worker's tasks read.
+ghost use Rattle.std.specs.Prelude.{◌≡◌, true, OnOk, IfOk};
+ghost use Rattle.ks_history.specs.Machine.{has_topic};
+ghost use Rattle.ks_plan.specs.Infos.{input_numbers};
+ghost use Rattle.ks_topo.specs.Topologies.{draft_of, plan_in};
+ghost use Rattle.ks_law_topology.specs.Work.{work_of};
+ghost use Rattle.ks_law_restore.specs.Views.{take_all};
+ghost use Rattle.ks_nodes.specs.Rules.{rules_of};
+ghost use Rattle.ks_shared.specs.Calls.{setup_in};
+ghost use Rattle.ks_task.specs.Tasks.{task_view, IsTaskOf};
+ghost use Rattle.ks_client.specs.Turns.{counts_after};
+ghost use Rattle.ks_client.specs.Calls.{MayCall, Later};
+ghost use Rattle.ks_worker_state.specs.Tasks.{MemberHasSeen, IsHeldTask, IsReadOnce};
+ghost use Rattle.ks_worker_state.specs.Topology.{RunsTopology};
+
+use crate::member::Member;
+use ks_client::{ClusterClient, Halt, or_halt};
+use ks_cluster::Work;
+use ks_edge::Gate;
+use ks_hash::Hash128;
+use ks_row::{PartId, Rec};
+use ks_shared::Shared;
+use ks_task::Task;
+use ks_topo::Topology;
+use std::alloc::{AllocError, Global};
+use std::sync::Wait;
+
+// Takes these records of an input, one after another.
+fn take_fetched<H: Hash128>(
+    alloc: Global,
+    topology: &Topology,
+    task: &mut Task,
+    topic: u16,
+    recs: &[(u64, Rec)],
+) -> Result<(), AllocError>
+    requires task { IsTaskOf (draft_of topology.now) task.old }
+    requires input { has_topic topic (input_numbers (plan_in topology.now)
+        (task_view task.old).task.sub) ≡ true }
+    ensures task { OnOk result (IsTaskOf (draft_of topology.now) task.new) }
+    ensures view { OnOk result (task_view task.new
+        ≡ take_all (work_of (rules_of H.hash_of) (plan_in topology.now)) (task_view task.old) topic recs.now) }
+{
+    for i in 0..recs.len() {
+        let rec = &recs[i];
+        task.take::<H>(alloc, topology, topic, rec.0, &rec.1)?;
+    }
+    Ok(())
+}
+
+/// A task takes what one fetch of one of its inputs gives, at most 32 records; whether that moved it.
+pub fn read_once<H: Hash128, R: Wait, W: Work, G: Gate>(
+    rt: &R,
+    alloc: Global,
+    topology: &Topology,
+    shared: &Shared<W>,
+    client: &mut ClusterClient<W, G>,
+    member: &Member,
+    task: &mut Task,
+    topic: u16,
+) -> Result<bool, Halt>
+    requires may { MayCall W.plan shared.now.growing.id client.old.pass client.old.gate }
+    requires topology { RunsTopology H.hash_of (draft_of topology.now)
+        (setup_in W.plan client.old.pass.frame) }
+    requires seen { MemberHasSeen (setup_in W.plan client.old.pass.frame) client.old.pass.seen member.now }
+    requires task { IsHeldTask (draft_of topology.now) (setup_in W.plan client.old.pass.frame)
+        client.old.pass.seen member.now task.old }
+    requires input { has_topic topic (input_numbers (plan_in topology.now)
+        (task_view task.old).task.sub) ≡ true }
+    ensures gate { client.new.gate ≡ counts_after client.old.gate result }
+    ensures later { Later W.plan client.old.pass client.new.pass }
+    ensures task { OnOk result (IsHeldTask (draft_of topology.now) (setup_in W.plan client.old.pass.frame)
+        client.new.pass.seen member.now task.new) }
+    ensures read { IfOk result (λ moved. IsReadOnce (setup_in W.plan client.old.pass.frame)
+        client.old.pass.seen topic moved task.old task.new) }
+{
+    let from = task.input_position(topic);
+    let part = PartId {
+        topic,
+        part: task.id().part,
+    };
+    let (recs, next) = client.fetch(rt, alloc, shared, part, from)?;
+    if next == from {
+        return Ok(false);
+    }
+    or_halt(take_fetched::<H>(alloc, topology, task, topic, recs.as_slice()))?;
+    task.skip(topic, next);
+    Ok(true)
+}

@@ -1,0 +1,194 @@
+//! A task is made of a replica.
+ghost use Rattle.std.specs.Prelude.{◌≡◌, ◌≤◌, true, map, OnOk, IfOk, IfErr};
+ghost use Rattle.ks_history.specs.Machine.{part_of};
+ghost use Rattle.ks_history.specs.Reads.{ends_of};
+ghost use Rattle.ks_history.specs.State.{has_task, offset_in};
+ghost use Rattle.ks_plan.specs.Infos.{input_numbers, changelog_numbers};
+ghost use Rattle.ks_plan.specs.Layout.{tasks};
+ghost use Rattle.ks_topo.specs.Topologies.{draft_of, plan_in};
+ghost use Rattle.ks_law_restore.specs.Replicas.{restored_view};
+ghost use Rattle.ks_nodes.specs.Rules.{HaveParts};
+ghost use Rattle.ks_shared.specs.Calls.{setup_in};
+ghost use Rattle.ks_standby.specs.Replicas.{replica_view, changelogs_of};
+ghost use Rattle.ks_task.specs.Tasks.{task_view, IsTaskOf};
+ghost use Rattle.ks_client.specs.declared.halt.Halt.TheVariants.{OutOfMemory};
+ghost use Rattle.ks_client.specs.Turns.{counts_after};
+ghost use Rattle.ks_client.specs.Calls.{MayCall, Later, state_seen};
+ghost use Rattle.ks_worker_state.specs.Standbys.{IsStandby};
+ghost use Rattle.ks_worker_state.specs.Tasks.{MemberHasSeen, IsHeldTask};
+ghost use Rattle.ks_worker_state.specs.Topology.{RunsTopology};
+ghost use Rattle.ks_worker_state.specs.Restoring.{reached_in, IsMadeAtTheEnds};
+
+use crate::feeding::feed_to_the_end;
+use crate::member::Member;
+use crate::topics::changelogs_in;
+use ks_client::{ClusterClient, Halt, or_halt};
+use ks_cluster::Work;
+use ks_edge::Gate;
+use ks_hash::Hash128;
+use ks_row::{PartId, TaskId};
+use ks_shared::Shared;
+use ks_standby::Replica;
+use ks_task::Task;
+use ks_topo::Topology;
+use std::alloc::{AllocError, Global};
+use std::sync::Wait;
+
+// The partitions of a task in these topics.
+fn parts_of(alloc: Global, task: TaskId, topics: &[u16]) -> Result<Vec<PartId>, AllocError>
+    ensures { IfOk result (λ v. v.items ≡ map (λ topic. part_of topic task) topics.now) }
+{
+    let mut parts = Vec::new(alloc);
+    for topic in topics {
+        parts.push(PartId {
+            topic: *topic,
+            part: task.part,
+        })?;
+    }
+    Ok(parts)
+}
+
+// Whether a replica stands at or past these ends of these changelogs.
+fn has_reached(replica: &Replica, changelogs: &[u16], ends: &[u64]) -> bool
+    ensures { result ≡ reached_in (replica_view replica.now).position changelogs.now ends.now }
+{
+    let mut topics = changelogs;
+    let mut left = ends;
+    while let [topic, more @ ..] = topics {
+        let [end, rest @ ..] = left else {
+            return false;
+        };
+        if replica.position(*topic) < *end {
+            return false;
+        }
+        topics = more;
+        left = rest;
+    }
+    true
+}
+
+// The ends of a task's changelogs, in their order.
+fn ends_of_task<R: Wait, W: Work, G: Gate>(
+    rt: &R,
+    alloc: Global,
+    shared: &Shared<W>,
+    client: &mut ClusterClient<W, G>,
+    task: TaskId,
+    changelogs: &[u16],
+) -> Result<Vec<u64>, Halt>
+    requires may { MayCall W.plan shared.now.growing.id client.old.pass client.old.gate }
+    requires known { has_task task (setup_in W.plan client.old.pass.frame).tasks ≡ true }
+    requires changelogs { changelogs.now
+        ≡ (setup_in W.plan client.old.pass.frame).plan.changelogs task.sub }
+    ensures gate { client.new.gate ≡ counts_after client.old.gate result }
+    ensures later { Later W.plan client.old.pass client.new.pass }
+    ensures ends { IfOk result (λ v. v.items ≡ ends_of (state_seen W.plan client.new.pass)
+        (map (λ topic. part_of topic task) changelogs.now)) }
+{
+    let parts = or_halt(parts_of(alloc, task, changelogs))?;
+    client.ends(rt, alloc, shared, parts.as_slice())
+}
+
+// A task of a replica; on want of memory the replica is let go.
+fn task_of(
+    alloc: Global,
+    topology: &Topology,
+    replica: Replica,
+    offsets: &[(u16, u64)],
+) -> Result<Task, Halt>
+    requires parts { HaveParts (plan_in topology.now) }
+    requires there { has_task replica.id (tasks (plan_in topology.now)) ≡ true }
+    requires changelogs { changelogs_of replica
+        ≡ changelog_numbers (plan_in topology.now) replica.id.sub }
+    requires offsets { map (λ o. o.0) offsets.now
+        ≡ input_numbers (plan_in topology.now) replica.id.sub }
+    ensures task { IfOk result (λ t. IsTaskOf (draft_of topology.now) t) }
+    ensures view { IfOk result (λ t. task_view t
+        ≡ restored_view (replica_view replica) (λ topic. offset_in 0 topic offsets.now)) }
+    ensures memory { IfErr result (λ halt. halt ≡ OutOfMemory) }
+{
+    match Task::of(alloc, topology, replica, offsets) {
+        Ok(task) => Ok(task),
+        Err(_failed) => Err(Halt::OutOfMemory),
+    }
+}
+
+// Makes a task of a replica of these committed offsets, once it is fed and has reached the ends of its changelogs; else it is given back.
+#[tactic(auto, using(ks_client::proofs::Moments::later_twice, ks_client::proofs::Halting::same_counts, ks_client::proofs::Halting::counts_on))]
+fn restore_with<H: Hash128, R: Wait, W: Work, G: Gate>(
+    rt: &R,
+    alloc: Global,
+    topology: &Topology,
+    shared: &Shared<W>,
+    client: &mut ClusterClient<W, G>,
+    mut replica: Replica,
+    offsets: &[(u16, u64)],
+) -> Result<Result<Task, Replica>, Halt>
+    requires may { MayCall W.plan shared.now.growing.id client.old.pass client.old.gate }
+    requires topology { RunsTopology H.hash_of (draft_of topology.now)
+        (setup_in W.plan client.old.pass.frame) }
+    requires standby { IsStandby (setup_in W.plan client.old.pass.frame) client.old.pass.seen replica }
+    requires offsets { map (λ o. o.0) offsets.now
+        ≡ input_numbers (plan_in topology.now) replica.id.sub }
+    ensures gate { client.new.gate ≡ counts_after client.old.gate result }
+    ensures later { Later W.plan client.old.pass client.new.pass }
+    ensures task { IfOk result (λ r. IfOk r (IsMadeAtTheEnds W.plan (draft_of topology.now)
+        client.old.pass client.new.pass replica.id offsets.now)) }
+    ensures standby { IfOk result (λ r. IfErr r (λ b. IsStandby
+        (setup_in W.plan client.old.pass.frame) client.new.pass.seen b)) }
+    ensures same { IfOk result (λ r. IfErr r (λ b. b.id ≡ replica.id)) }
+{
+    let task = replica.id();
+    let changelogs = changelogs_in(topology, task.sub);
+    let ends = ends_of_task(rt, alloc, shared, client, task, changelogs)?;
+    feed_to_the_end(rt, alloc, shared, client, &mut replica, changelogs)?;
+    if !has_reached(&replica, changelogs, ends.as_slice()) {
+        return Ok(Err(replica));
+    }
+    Ok(Ok(task_of(alloc, topology, replica, offsets)?))
+}
+
+/// Makes a task of a replica, where the group answers its committed offsets and the replica, fed until no fetch moves it, has reached the
+/// ends of its changelogs; else the replica is given back, for a later try.
+///
+/// The committed offsets are asked for first and the ends then, so that nothing is committed for the task behind these ends while it is
+/// the worker's.
+pub fn restore<H: Hash128, R: Wait, W: Work, G: Gate>(
+    rt: &R,
+    alloc: Global,
+    topology: &Topology,
+    shared: &Shared<W>,
+    client: &mut ClusterClient<W, G>,
+    member: Member,
+    replica: Replica,
+) -> Result<Result<Task, Replica>, Halt>
+    requires may { MayCall W.plan shared.now.growing.id client.old.pass client.old.gate }
+    requires topology { RunsTopology H.hash_of (draft_of topology.now)
+        (setup_in W.plan client.old.pass.frame) }
+    requires worker { member.number ≤ 16 }
+    requires seen { MemberHasSeen (setup_in W.plan client.old.pass.frame) client.old.pass.seen member }
+    requires standby { IsStandby (setup_in W.plan client.old.pass.frame) client.old.pass.seen replica }
+    ensures gate { client.new.gate ≡ counts_after client.old.gate result }
+    ensures later { Later W.plan client.old.pass client.new.pass }
+    ensures task { IfOk result (λ r. IfOk r (λ t. IsHeldTask (draft_of topology.now)
+        (setup_in W.plan client.old.pass.frame) client.new.pass.seen member t)) }
+    ensures named { IfOk result (λ r. IfOk r (λ t. (task_view t).task ≡ replica.id)) }
+    ensures standby { IfOk result (λ r. IfErr r (λ b. IsStandby
+        (setup_in W.plan client.old.pass.frame) client.new.pass.seen b)) }
+    ensures same { IfOk result (λ r. IfErr r (λ b. b.id ≡ replica.id)) }
+{
+    let task = replica.id();
+    let answer = client.committed(rt, alloc, shared, member.number, member.generation, task)?;
+    let Ok(offsets) = answer else {
+        return Ok(Err(replica));
+    };
+    restore_with::<H, R, W, G>(
+        rt,
+        alloc,
+        topology,
+        shared,
+        client,
+        replica,
+        offsets.as_slice(),
+    )
+}
