@@ -3,11 +3,15 @@
 
 mod client;
 mod halt;
+mod member;
 mod reading;
+mod session;
 mod shelving;
 mod turn_gate;
 mod writing;
 
 pub use client::ClusterClient;
 pub use halt::{Halt, or_halt};
+pub use member::Member;
+pub use session::Session;
 pub use turn_gate::TurnGate;

@@ -1,7 +1,7 @@
 //! The calls of a worker's client that read.
 ghost use Rattle.std.specs.Prelude.{◌≡◌, ◌≤◌, true, IfOk};
 ghost use Rattle.std.specs.List.{All};
-ghost use Rattle.ks_history.specs.Reads.{MayFetch, fetched, committed_offsets, committed_refusal, ends_of};
+ghost use Rattle.ks_history.specs.Reads.{MayFetch, fetched, committed_offsets, committed_refusal, ends_of, status};
 ghost use Rattle.ks_history.specs.State.{IsPart, has_task};
 ghost use Rattle.ks_cluster.specs.View.{Refuses};
 ghost use Rattle.ks_shared.specs.Calls.{setup_in};
@@ -12,6 +12,7 @@ use crate::client::ClusterClient;
 use crate::halt::{Halt, or_halt};
 use ks_cluster::Work;
 use ks_edge::Gate;
+use ks_history::Status;
 use ks_row::{PartId, Rec, Refused, TaskId};
 use ks_shared::Shared;
 use std::alloc::Global;
@@ -84,5 +85,23 @@ impl<W: Work, G: Gate> ClusterClient<W, G> {
     {
         self.gate.pass_step()?;
         or_halt(shared.ends(rt, alloc, parts, &mut self.pass))
+    }
+
+    /// The group and the changelogs: the generation, the members, the assignment, the positions that workers hold, how many markers
+    /// wait, and the end of each partition of a changelog.
+    pub fn status<R: Wait>(
+        &mut self,
+        rt: &R,
+        alloc: Global,
+        shared: &Shared<W>,
+    ) -> Result<Status, Halt>
+        requires may { MayCall W.plan shared.now.growing.id self.old.pass self.old.gate }
+        ensures gate { self.new.gate ≡ counts_after self.old.gate result }
+        ensures later { Later W.plan self.old.pass self.new.pass }
+        ensures status { IfOk result (λ r. r ≡ status (setup_in W.plan self.old.pass.frame)
+            (state_seen W.plan self.new.pass)) }
+    {
+        self.gate.pass_step()?;
+        or_halt(shared.status(rt, alloc, &mut self.pass))
     }
 }

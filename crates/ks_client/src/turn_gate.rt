@@ -1,5 +1,6 @@
 //! The gate of a worker, asked before each step of a turn.
-ghost use Rattle.std.specs.Prelude.{◌≡◌, ◌+◌};
+ghost use Rattle.std.specs.Prelude.{◌≡◌, ◌+◌, IfErr};
+ghost use Rattle.ks_client.specs.declared.halt.Halt.TheVariants.{Cut};
 ghost use Rattle.ks_edge.specs.Counts.{stops_of, calls_of};
 ghost use Rattle.ks_client.specs.Turns.{HasRoomFor, counts_after};
 
@@ -45,7 +46,8 @@ impl<G: Gate> TurnGate<G> {
     /// Whether the worker is cut off before the next step of its turn.
     pub fn pass_step(&mut self) -> Result<(), Halt>
         requires { HasRoomFor self.old }
-        ensures { self.new ≡ counts_after self.old result }
+        ensures counts { self.new ≡ counts_after self.old result }
+        ensures cut { IfErr result (λ halt. halt ≡ Cut) }
     {
         let step = self.step;
         self.step = step.saturating_add(1);

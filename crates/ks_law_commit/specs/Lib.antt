@@ -1,2 +1,4 @@
 pub mod Cases
 pub mod Sending
+pub mod Holding
+pub mod Producers

@@ -1,5 +1,7 @@
-//! A worker's commit among others, from what its pass had seen when it began to what it came to. Laws over the definitions of
-//! `ks_history`: no program code.
+//! A worker's commit among others, from what its pass had seen when it began to what it came to, and what its tasks and its producer
+//! are then. Laws over the definitions of `ks_history`: no program code.
 #![tactic(auto)]
 
+pub mod holding;
+pub mod producers;
 pub mod sending;

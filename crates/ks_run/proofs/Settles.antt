@@ -34,8 +34,9 @@ use Rattle.ks_law_inputs.specs.Records.{records_of, HavePartitions, AreRecords, 
 use Rattle.ks_law_inputs.proofs.Items.{job_items}
 use Rattle.ks_job_source.specs.declared.stop.Stop.TheVariants.{BadTopology}
 use Rattle.ks_job_source.specs.Stops.{topology_stop, line_stop}
-use Rattle.ks_run.specs.Producing.{placed_all, IsParted}
-use Rattle.ks_run.specs.Producing.{Produces}
+use Rattle.ks_shared.specs.declared.state.Frame.{Frame}
+use Rattle.ks_feed.specs.Placing.{placed_all, IsParted}
+use Rattle.ks_feed.specs.Producing.{IsFilled}
 use Rattle.ks_settle.specs.Drained.{Extends}
 use Rattle.ks_report.specs.Report.{IsOf}
 use Rattle.ks_task.proofs.Subs.{inputs_there}
@@ -84,8 +85,8 @@ pub records_ready : (hash : List ℕ → ℕ) (d : DraftView) (plan : TaskPlan) 
 records_ready hash d plan is a h =
     subst (λ s. AreRecords s is) (sym (ap (λ q. q.sources) a)) (subst (λ n. AreRecords n is) (sym (counts_length d)) h)
 
-pub produced_setup : {W : Type 0} (plan : W → TaskPlan) (old new : ClusterView W) (records : List (PartId × Rec)) → Produces old new records → kept.setup_of plan new ≡ kept.setup_of plan old
-produced_setup plan old new records h = rw (h.work, h.counts, h.tasks) refl
+pub filled_setup : {W : Type 0} (plan : W → TaskPlan) (old new : ClusterView W) (records : List (PartId × Rec)) → IsFilled old new records → kept.setup_of plan new ≡ kept.setup_of plan old
+filled_setup {W = W} plan old new records h = ap (λ (f : Frame W). setup_from (plan f.work) f.counts f.tasks) h.frame
 
 pub drained_setup : {W : Type 0} (plan : W → TaskPlan) (old new : ClusterView W) → Extends old new → kept.setup_of plan new ≡ kept.setup_of plan old
 drained_setup plan old new h = rw (ap (λ c. c.work) h.same, ap (λ c. c.counts) h.same, ap (λ c. c.tasks) h.same) refl
@@ -116,13 +117,13 @@ answered hash shown d is setup status text journal ready e made drained told_is 
     }
 
 pub settled_answers : {W : Type 0} (hash : List ℕ → ℕ) (shown : Bool) (d : DraftView) (plan : W → TaskPlan) (is : List ItemView) (begun filled drained : ClusterView W) (counts : List ℕ) (status : ℕ) (text : List ℕ) (journal : List Entry) →
-    IsRunnable hash d is → kept.setup_of plan begun ≡ setup_of (rules_of hash) (plan_of d) → begun.journal ≡ [] →
-    counts ≡ map (parts_of_topic (plan_of d)) (topics_of (plan_of d)) → Produces begun filled (placed_all counts is) → Extends filled drained → IsDrained (kept.setup_of plan drained) drained.journal →
+    IsRunnable hash d is → kept.setup_of plan begun ≡ setup_of (rules_of hash) (plan_of d) →
+    counts ≡ map (parts_of_topic (plan_of d)) (topics_of (plan_of d)) → IsFilled begun filled (placed_all counts is) → Extends filled drained → IsDrained (kept.setup_of plan drained) drained.journal →
     (status, text) ≡ with_lines shown drained.journal (told (rules_of hash) d (kept.state_of plan drained)) → journal ≡ drained.journal → SettlesJob (rules_of hash) shown d (records_of is) status text journal
-settled_answers hash shown d plan is begun filled drained counts status text journal ready start empty counts_are filling draining done told_is handed =
-    let setup = drained_setup plan filled drained draining ∙ (produced_setup plan begun filled (placed_all counts is) filling ∙ start) in
+settled_answers hash shown d plan is begun filled drained counts status text journal ready start counts_are filling draining done told_is handed =
+    let setup = drained_setup plan filled drained draining ∙ (filled_setup plan begun filled (placed_all counts is) filling ∙ start) in
     let made : produces drained.journal ≡ placed_all (map (parts_of_topic (plan_of d)) (topics_of (plan_of d))) is =
-    draining.produces ∙ (filling.produced ∙ (ap (λ j. produces j ++ placed_all counts is) empty ∙ ap (λ cs. placed_all cs is) counts_are)) in
+    draining.produces ∙ (filling.produced ∙ ap (λ cs. placed_all cs is) counts_are) in
     subst (λ j. SettlesJob (rules_of hash) shown d (records_of is) status text j) (sym handed) (answered hash shown d is (kept.setup_of plan drained) status text drained.journal ready setup made done told_is)
 
 -- the report and the tables are those of the topology

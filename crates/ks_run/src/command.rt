@@ -6,9 +6,9 @@ ghost use Rattle.ks_hash.specs.Murmur3.{murmur3_of};
 ghost use Rattle.ks_nodes.specs.Rules.{rules_of};
 ghost use Rattle.ks_output.specs.Bytes.{AppendsFront};
 ghost use Rattle.ks_output.specs.Texts.{bad_words_text, read_fault_text};
-ghost use Rattle.ks_words.specs.Grammar.{usual, words_of, command_of};
+ghost use Rattle.ks_words.specs.Grammar.{words_of, command_of};
 ghost use Rattle.ks_words.specs.Load.{load_text};
-ghost use Rattle.ks_words.specs.Ranges.{IsWithin};
+ghost use Rattle.ks_words.specs.Ranges.{HasRanges, IsWithin};
 ghost use Rattle.ks_job_source.specs.Reading.{TookNoFault};
 ghost use Rattle.ks_run.specs.Answers.{IsRefused, IsStatus};
 ghost use Rattle.ks_run.specs.Commands.{HasValidJob, IsRun, IsJudgedBy, IsLoadJudged, job_bytes, journal_of};
@@ -26,13 +26,20 @@ use std::alloc::Global;
 use std::sync::Wait;
 use std::thread::Threads;
 
-// The usual settings, but for whether the journal is printed: what is in force of all settings today.
-fn with_journal(journal: bool) -> Settings
-    ensures { result ≡ record usual { journal = journal } }
+// What is in force of settings today: one instance, and no standby. The journal is printed where it is shown.
+fn in_force(settings: Settings, shown: bool) -> Settings
+    requires { HasRanges settings }
+    ensures ranges { HasRanges result }
+    ensures instances { result.instances ≡ 1 }
+    ensures standbys { result.standbys ≡ 0 }
+    ensures journal { result.journal ≡ shown }
 {
-    let mut settings = Settings::usual();
-    settings.journal = journal;
-    settings
+    Settings {
+        instances: 1,
+        standbys: 0,
+        journal: shown,
+        ..settings
+    }
 }
 
 // What is answered where the words say nothing.
@@ -69,9 +76,11 @@ fn run_load<R: Threads + Wait + Sync, K: Sink>(
     rt: &R,
     alloc: Global,
     orders: u32,
+    settings: Settings,
     out: &mut K,
     gates: Vec<Box<dyn Gate + Send>>,
 ) -> Ended
+    requires settings { HasRanges settings }
     requires gates { length gates.items ≡ 16 }
     requires some { 0 < orders }
     requires few { orders ≤ 150000 }
@@ -103,7 +112,8 @@ fn run_load<R: Threads + Wait + Sync, K: Sink>(
         };
     };
     let mut source = TextSource::new(text);
-    run_job::<Murmur3, R, TextSource, K>(rt, alloc, &Settings::usual(), &mut source, out, gates)
+    let settings = in_force(settings, false);
+    run_job::<Murmur3, R, TextSource, K>(rt, alloc, &settings, &mut source, out, gates)
 }
 
 // Runs a command, or refuses the words that name none.
@@ -160,24 +170,19 @@ fn run_command<R: Threads + Wait + Sync, S: Source, K: Sink>(
 {
     match command {
         Some(Command::Run(settings)) => {
-            run_job::<Murmur3, R, S, K>(
-                rt,
-                alloc,
-                &with_journal(settings.journal),
-                input,
-                out,
-                gates,
-            )
+            let settings = in_force(settings, settings.journal);
+            run_job::<Murmur3, R, S, K>(rt, alloc, &settings, input, out, gates)
         }
-        Some(Command::Load(orders, _)) => run_load::<R, K>(rt, alloc, orders, out, gates),
+        Some(Command::Load(orders, settings)) => {
+            run_load::<R, K>(rt, alloc, orders, settings, out, gates)
+        }
         None => refuse_words(alloc, out),
     }
 }
 
 /// Runs the command that the words name, by `run_job` with Murmur3: `run` the job that the source holds, `load N` the load job of N orders,
-/// which asks no source. `--journal` has the journal's lines printed last; the
-/// settings that only workers use have no effect yet: the run has the usual ones. Words that aren't in the
-/// grammar have status 1: `bad words` is written, the source is as it was, and the journal is empty.
+/// which asks no source. `--journal` has the journal's lines of `run` printed last. `--instances` and `--standbys` have no effect yet: the
+/// run has one instance and no standby. Words that aren't in the grammar have status 1: `bad words` is written, the source is as it was, and the journal is empty.
 pub fn top<R: Threads + Wait + Sync, S: Source, K: Sink>(
     rt: &R,
     alloc: Global,

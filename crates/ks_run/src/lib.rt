@@ -5,7 +5,6 @@ mod answer;
 mod command;
 mod loading;
 mod outcome;
-mod producing;
 mod runs;
 mod settling;
 mod status;

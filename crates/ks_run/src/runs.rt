@@ -5,13 +5,14 @@ ghost use Rattle.ks_edge.specs.Causes.{Rose};
 ghost use Rattle.ks_nodes.specs.Rules.{rules_of};
 ghost use Rattle.ks_output.specs.Bytes.{AppendsFront};
 ghost use Rattle.ks_output.specs.Texts.{read_fault_text};
-ghost use Rattle.ks_words.specs.Grammar.{usual};
+ghost use Rattle.ks_words.specs.Ranges.{HasRanges};
 ghost use Rattle.ks_run.specs.Journals.{IsSettledRun, IsLateRun, IsCollidedRun, HasJournal, IsInTime, IsWithoutCollision};
 ghost use Rattle.ks_job_source.specs.Reading.{TookNoFault};
 ghost use Rattle.ks_run.specs.Answers.{IsRefused, IsJudged, IsStatus};
 
 use crate::outcome::judge_job;
 use crate::status::{NO_MEMORY, WRITE_FAULT};
+use ks_crew::Crew;
 use ks_edge::{Gate, Sink, Source};
 use ks_hash::Hash128;
 use ks_history::Journal;
@@ -39,14 +40,16 @@ pub struct Ended {
 /// | 5 | as 0, but two decided records of a left key in one partition have rows that differ and one hash, whatever was late | `collision NODE KEY FIRST SECOND`: the join, the key, and the offsets of the first two such records | as of 0 |
 /// | 6 | the source failed before that | `read fault` | empty |
 /// | 7 | the sink failed, in place of each of these | a front of what they write | as theirs |
-/// | 8 | there was no memory | nothing | |
+/// | 8 | there was no memory, in a worker or elsewhere | nothing | |
 ///
 /// So a job whose records are within grace is answered by its query, unless a device fails, memory runs out, or rows of one key have one
 /// hash.
 ///
-/// Of the settings `journal` alone may differ from the usual ones: with it the journal's lines come last under statuses 0, 3 and 5
-/// (`ks_journal`). A line is whole at its line feed, at its byte 65,537, or at the end of the input; the source isn't asked again once a
-/// faulty line is whole, nor after its end. The text is built whole before its first byte is written. The gates are dropped unasked.
+/// The records are taken and committed by so many workers, each in a thread of its own, as `threads` says, and then by the drain
+/// (`ks_crew`, `ks_settle`). The worker w is told its acts by the gate w, which begins for it with `chaos` and `interval`, and has the
+/// turns of `stop`; gates that are left over are dropped unasked. Of the instances and the standbys the usual ones alone may be asked for.
+/// With `journal` the journal's lines come last under statuses 0, 3 and 5 (`ks_journal`). A line is whole at its line feed, at its byte 65,537, or at the end of the input; the source isn't asked again once a
+/// faulty line is whole, nor after its end. The text is built whole before its first byte is written.
 pub fn run_job<H: Hash128 + Send + Sync, R: Threads + Wait + Sync, S: Source, K: Sink>(
     rt: &R,
     alloc: Global,
@@ -56,7 +59,9 @@ pub fn run_job<H: Hash128 + Send + Sync, R: Threads + Wait + Sync, S: Source, K:
     gates: Vec<Box<dyn Gate + Send>>,
 ) -> Ended
     requires gates { length gates.items ≡ 16 }
-    requires usual { record settings.now { journal = false } ≡ usual }
+    requires settings { HasRanges settings.now }
+    requires instances { settings.now.instances ≡ 1 }
+    requires standbys { settings.now.standbys ≡ 0 }
 
     // What was written is known from the status, and so is why it came.
     ensures read_fault { result.status ≡ 6 → Rose (S.faults input.old) (S.faults input.new)
@@ -100,8 +105,11 @@ pub fn run_job<H: Hash128 + Send + Sync, R: Threads + Wait + Sync, S: Source, K:
     ensures only { IsStatus result.status }
     ensures words { result.status ≡ 1 → ⊥ }
 {
-    drop(gates);
-    let Ok(answer) = judge_job::<H, R, S>(rt, alloc, input, settings.journal) else {
+    let crew = Crew {
+        settings: *settings,
+        gates,
+    };
+    let Ok(answer) = judge_job::<H, R, S>(rt, alloc, input, crew) else {
         return Ended {
             status: NO_MEMORY,
             journal: Seq::new(alloc),

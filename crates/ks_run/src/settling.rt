@@ -10,14 +10,17 @@ ghost use Rattle.ks_law_inputs.specs.Records.{HavePartitions, AreRecords, record
 ghost use Rattle.ks_law_topology.specs.Work.{work_of};
 ghost use Rattle.ks_law_kinds.specs.Fitting.{FitsRules};
 ghost use Rattle.ks_nodes.specs.Rules.{rules_of};
+ghost use Rattle.ks_words.specs.Ranges.{HasRanges};
 ghost use Rattle.ks_run.specs.Told.{lines_of, with_lines};
 ghost use Rattle.ks_run.specs.Verdict.{told_as};
 ghost use Rattle.ks_run.specs.Settling.{IsReadJob, split, SettlesJob, SettlesItems};
 
 use crate::answer::Answer;
-use crate::producing::{counts_of, produce_all};
 use crate::verdict::{Verdict, judge, print_verdict};
 use ks_cluster::{Cluster, Work};
+use ks_crew::{Crew, run_crew};
+use ks_edge::Gate;
+use ks_feed::counts_of;
 use ks_hash::Hash128;
 use ks_history::Entry;
 use ks_job::JobItem;
@@ -27,6 +30,7 @@ use ks_settle::drain;
 use ks_task::TaskWork;
 use ks_topo::{Draft, Topology, share_topology};
 use std::alloc::{AllocError, Global};
+use std::sync::Wait;
 use std::thread::{Threads, join};
 
 // Appends the lines of a journal, where they are asked for.
@@ -72,18 +76,20 @@ fn hashes_fit<H: Hash128>()
 {}
 
 // The run of a job's tasks.
-fn settle<H: Hash128 + Send + Sync, R: Threads + Sync, W: Work + Send + Sync>(
+fn settle<H: Hash128 + Send + Sync, R: Threads + Wait + Sync, W: Work + Send + Sync>(
     rt: &R,
     alloc: Global,
     topology: &Topology,
     work: W,
     records: Vec<JobItem>,
-    shown: bool,
+    crew: Crew<Box<dyn Gate + Send>>,
 ) -> Result<Answer, AllocError>
+    requires settings { HasRanges crew.settings }
+    requires gates { length crew.gates.items ≡ 16 }
     requires work { W.plan work ≡ work_of (rules_of H.hash_of) (plan_in topology.now) }
     requires partitions { HavePartitions (draft_of topology.now).topics }
     requires records { AreRecords (length (draft_of topology.now).topics) (item_views records.items) }
-    ensures { IfOk result (λ a. SettlesJob (rules_of H.hash_of) shown (draft_of topology.now) (records_of (item_views records.items)) a.status a.text.items a.journal) }
+    ensures { IfOk result (λ a. SettlesJob (rules_of H.hash_of) crew.settings.journal (draft_of topology.now) (records_of (item_views records.items)) a.status a.text.items a.journal) }
 {
     // Its names and constants can be written, and it is well formed: the law on settled journals asks for both.
     topology_fits(topology);
@@ -92,8 +98,17 @@ fn settle<H: Hash128 + Send + Sync, R: Threads + Sync, W: Work + Send + Sync>(
     let counts = counts_of(alloc, topology.topics())?;
     let kept = Vec::from_slice(alloc, counts.as_slice())?;
     let tasks = Vec::from_slice(alloc, topology.tasks())?;
-    let mut cluster = Cluster::new(alloc, work, kept, tasks)?;
-    produce_all(alloc, &mut cluster, counts.as_slice(), records)?;
+    let empty = Cluster::new(alloc, work, kept, tasks)?;
+    let shown = crew.settings.journal;
+    let mut cluster = run_crew::<H, R, W>(
+        rt,
+        alloc,
+        topology,
+        empty,
+        counts.as_slice(),
+        records,
+        crew,
+    )?;
     drain::<H, R, W>(rt, alloc, topology, &mut cluster)?;
     let verdict = judge::<H, R, W>(rt, alloc, topology, &cluster)?;
     end_run(rt, alloc, cluster, verdict, shown)
@@ -113,15 +128,18 @@ fn split_job(items: Vec<JobItem>) -> Option<(Draft, Vec<JobItem>)>
     }
 }
 
-/// The run of a job that was read to its end, and whether its text has the journal's lines. Want of memory is the one error.
-pub fn settle_job<H: Hash128 + Send + Sync, R: Threads + Sync>(
+/// The run of a job that was read to its end, by this crew; the text has the journal's lines where the crew's settings say so. Want of
+/// memory, also in a worker, is the one error.
+pub fn settle_job<H: Hash128 + Send + Sync, R: Threads + Wait + Sync>(
     rt: &R,
     alloc: Global,
     items: Vec<JobItem>,
-    shown: bool,
+    crew: Crew<Box<dyn Gate + Send>>,
 ) -> Result<Answer, AllocError>
-    requires { IsReadJob (item_views items.items) }
-    ensures { IfOk result (λ a. SettlesItems (rules_of H.hash_of) shown (item_views items.items) a.status a.text.items a.journal) }
+    requires settings { HasRanges crew.settings }
+    requires gates { length crew.gates.items ≡ 16 }
+    requires read { IsReadJob (item_views items.items) }
+    ensures { IfOk result (λ a. SettlesItems (rules_of H.hash_of) crew.settings.journal (item_views items.items) a.status a.text.items a.journal) }
 {
     let Some((draft, records)) = split_job(items) else {
         unreachable!()
@@ -131,5 +149,5 @@ pub fn settle_job<H: Hash128 + Send + Sync, R: Threads + Sync>(
     };
     share_topology();
     let work = TaskWork::<H>::new(&topology);
-    settle::<H, R, TaskWork<H>>(rt, alloc, &topology, work, records, shown)
+    settle::<H, R, TaskWork<H>>(rt, alloc, &topology, work, records, crew)
 }

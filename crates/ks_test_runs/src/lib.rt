@@ -5,3 +5,5 @@
 mod rows;
 #[cfg(test)]
 mod runs;
+#[cfg(test)]
+mod workers;

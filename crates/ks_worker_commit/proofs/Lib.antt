@@ -1,2 +1,13 @@
+pub mod Ended
 pub mod Requesting
 pub mod ByKind
+pub mod Filling
+pub mod Rising
+pub mod Carrying
+pub mod Ending
+pub mod Deciding
+pub mod Begun
+pub mod Kept
+pub mod Closing
+pub mod Owned
+pub mod Sends

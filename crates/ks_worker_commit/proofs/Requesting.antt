@@ -13,7 +13,7 @@ use Rattle.ks_history.specs.declared.journal.Reply.TheVariants.{Refused as Refus
 use Rattle.ks_history.specs.Partition.{count_sent}
 use Rattle.ks_history.specs.Machine.{TaskPlan}
 use Rattle.ks_history.specs.State.{State, Setup, start, has_task}
-use Rattle.ks_history.specs.Step.{refusal, effect, state_by, reply_by}
+use Rattle.ks_history.specs.Step.{refusal, effect, state_by, reply_by, reply_to}
 use Rattle.ks_history.specs.Follows.{TaskView}
 use Rattle.ks_history.specs.History.{at, IsHistory}
 use Rattle.ks_history.specs.Touched.{is_of, is_refused, touches, touched, untouched}
@@ -24,6 +24,7 @@ use Rattle.ks_law_sharing.specs.Refusals.{IsFencing, IsMarkersWaiting}
 use Rattle.ks_law_sharing.specs.Tasks.{IsAssigned, IsActive, HasSeen}
 use Rattle.ks_law_sharing.proofs.Touching.{touched_grows, seen_stays}
 use Rattle.ks_law_sharing.proofs.Leaving.{count_stays}
+use Rattle.ks_law_sharing.proofs.Rising.{journal_rises}
 use Rattle.ks_law_sharing.proofs.Assigned.{active_stays}
 use Rattle.ks_law_transaction.specs.Building.{Contents, adds_to}
 use Rattle.ks_law_transaction.specs.Accounts.{is_of_commit, accepted_of}
@@ -39,9 +40,11 @@ use Rattle.ks_shared.specs.declared.state.Frame.{Frame}
 use Rattle.ks_shared.specs.declared.barred.Barred.{Barred}
 use Rattle.ks_shared.specs.declared.barred.Barred.TheVariants.{Refused as Refusal, Touched}
 use Rattle.ks_shared.specs.Calls.{setup_in, Called}
+use Rattle.ks_worker_commit.specs.declared.halt.Halt.TheVariants.{Barred as IsBarred}
 use Rattle.ks_shared.specs.Own.{IsAccepted, IsRefused, IsTouched, IsOwn}
 use Rattle.ks_worker_commit.specs.Outcomes.{IsAmong, are_of_commit, Requests, halted}
-use Rattle.ks_worker_commit.specs.Underway.{AreActiveWorks, IsUnderway, IsHalted, Puts, Halts, Carries}
+use Rattle.ks_worker_commit.proofs.Ended.{ends_stay, gained_epoch}
+use Rattle.ks_worker_commit.specs.Underway.{Memory, HasEnds, AreActiveWorks, IsUnderway, IsHalted, Puts, Halts, Carries}
 
 -- ---- own entries among others
 pub among_all : (xs : List Entry) → IsAmong xs xs
@@ -66,19 +69,19 @@ of_commit_both w (x ∷ xs) ys h g = by (is_of_commit w x.request) h (λ k. of_c
     by false k on = absurd (true≢false (sym k))
 
 module _ {W : Type 0} (plan : W → TaskPlan) where
-  pub requests_none : (p : PassView Entry (Frame W)) (w : ℕ) → Requests plan p p w
+  pub made_none : (p : PassView Entry (Frame W)) → p.made ≡ p.made + 0
+  made_none p = omega arith
+
+  abbrev pub requests_none : (p : PassView Entry (Frame W)) (w : ℕ) → Requests plan p p w
   requests_none p w = record {
     more = [];
     own = [];
     seen = sym (append-nil p.seen);
-    same = λ i. record p { made = same_made p i };
+    same = λ i. record p { made = made_none p i };
     among = refl;
     of_commit = refl;
     history = λ h. h;
   }
-    where
-      same_made : (p : PassView Entry (Frame W)) → p.made ≡ p.made + 0
-      same_made p = omega arith
 
   pub made_both : (a : PassView Entry (Frame W)) (xs ys : List Entry) → (a.made + length xs) + length ys ≡ a.made + length (xs ++ ys)
   made_both a xs ys = omega (arith, length-append xs ys)
@@ -137,8 +140,8 @@ active_in setup journal w g last t (f ∷ fs) has works = by (same_task t f.task
     by false is h on = on h
 
 -- ---- a request of a commit that is under way
-module _ {W : Type 0} (plan : W → TaskPlan) (from old new : PassView Entry (Frame W)) (w e g first last : ℕ) (fs : List WorkView) (numbers : List (PartId × ℕ)) (contents : Contents)
-    (u : IsUnderway plan from old w e g first last fs numbers contents) (Does : ClusterView W → ClusterView W → Type 0) (c : Called plan old new Does) where
+module _ {W : Type 0} (plan : W → TaskPlan) (from old new : PassView Entry (Frame W)) (w e g first : ℕ) (mem : Memory) (fs : List WorkView) (contents : Contents)
+    (u : IsUnderway plan from old w e g first mem fs contents) (Does : ClusterView W → ClusterView W → Type 0) (c : Called plan old new Does) where
   abbrev pub setup : Setup
   setup = setup_in plan from.frame
 
@@ -171,33 +174,33 @@ module _ {W : Type 0} (plan : W → TaskPlan) (from old new : PassView Entry (Fr
       history_front setup reached new.seen (own, seen_is own is ∙ sym (append_assoc from.seen (u.requests.more ++ c.others) own)) history_now
 
   -- where the number is still the worker's at this call, it was so when the commit began
-  pub was_mine : touched w c.before.journal ≡ last → touched w from.seen ≡ first
+  pub was_mine : touched w c.before.journal ≡ mem.last → touched w from.seen ≡ first
   was_mine was =
-      let there : touched w (old.seen ++ c.others) ≡ last = ap (touched w) (sym c.came) ∙ was in
+      let there : touched w (old.seen ++ c.others) ≡ mem.last = ap (touched w) (sym c.came) ∙ was in
       u.back (omega (arith, u.seen.place, touched_grows w old.seen c.others, there))
 
   pub reached_apart : IsHistory setup ((from.seen ++ u.requests.more) ++ c.others)
   reached_apart = subst (IsHistory setup) (sym (append_assoc from.seen u.requests.more c.others)) reached_history
 
   -- the numbers are those of the log at this call
-  pub numbered_reached : touched w from.seen ≡ first → touched w reached ≡ last → IsNumbered (at setup reached) w e numbers
+  pub numbered_reached : touched w from.seen ≡ first → touched w reached ≡ mem.last → IsNumbered (at setup reached) w e mem.numbers
   numbered_reached mine place q =
-      let quiet : untouched w c.others ≡ true = quiet_is setup from.seen u.requests.more c.others w e (length u.requests.own) first last contents (u.sending mine) place in
+      let quiet : untouched w c.others ≡ true = quiet_is setup from.seen u.requests.more c.others w e (length u.requests.own) first mem.last contents (u.sending mine) place in
       u.numbered mine q
       ∙ ap (λ l. count_sent w e ((at setup l).partition q)) u.requests.seen
       ∙ sym (count_stays setup (from.seen ++ u.requests.more) c.others w e q reached_apart quiet)
       ∙ ap (λ l. count_sent w e ((at setup l).partition q)) (append_assoc from.seen u.requests.more c.others)
 
   -- a task whose work is committed is the worker's at this call, while the generation stands
-  pub assigned_reached : (t : TaskId) → has_task t (tasks_in fs) ≡ true → touched w from.seen ≡ first → touched w reached ≡ last → (at setup reached).generation ≡ g → IsAssigned (at setup reached) w g t
+  pub assigned_reached : (t : TaskId) → has_task t (tasks_in fs) ≡ true → touched w from.seen ≡ first → touched w reached ≡ mem.last → (at setup reached).generation ≡ g → IsAssigned (at setup reached) w g t
   assigned_reached t has mine place same =
       let v = active_in setup from.seen w g first t fs has u.worker.works in
       let front : IsHistory setup (from.seen ++ u.requests.more) = history_front setup (from.seen ++ u.requests.more) ((from.seen ++ u.requests.more) ++ c.others) (c.others, refl) reached_apart in
-      let now : IsActive setup (from.seen ++ u.requests.more) w g last v.0 =
-      sending_keeps_active setup from.seen u.requests.more w e g (length u.requests.own) first last contents v.0 u.worker.network front u.worker.seen (u.sending mine) v.2 in
-      let later : IsActive setup ((from.seen ++ u.requests.more) ++ c.others) w g last v.0 =
-      active_stays setup (from.seen ++ u.requests.more) c.others w g last v.0 u.worker.network reached_apart (subst (λ l. HasSeen setup l w g last) u.requests.seen u.seen) now in
-      let there : IsActive setup reached w g last v.0 = subst (λ l. IsActive setup l w g last v.0) (append_assoc from.seen u.requests.more c.others) later in
+      let now : IsActive setup (from.seen ++ u.requests.more) w g mem.last v.0 =
+      sending_keeps_active setup from.seen u.requests.more w e g (length u.requests.own) first mem.last contents v.0 u.worker.network front u.worker.seen (u.sending mine) v.2 in
+      let later : IsActive setup ((from.seen ++ u.requests.more) ++ c.others) w g mem.last v.0 =
+      active_stays setup (from.seen ++ u.requests.more) c.others w g mem.last v.0 u.worker.network reached_apart (subst (λ l. HasSeen setup l w g mem.last) u.requests.seen u.seen) now in
+      let there : IsActive setup reached w g mem.last v.0 = subst (λ l. IsActive setup l w g mem.last v.0) (append_assoc from.seen u.requests.more c.others) later in
       subst (IsAssigned (at setup reached) w g) v.1 (there.assigned same place)
 
   abbrev pub requests_now : (own : List Entry) → c.after.journal ≡ c.before.journal ++ own → are_of_commit w own ≡ true → Requests plan from new w
@@ -222,18 +225,18 @@ was_refused s request refused (Some other) is h = same refused other is
     same a b e = cc
 
 -- it is done
-module _ {W : Type 0} (plan : W → TaskPlan) (from old new : PassView Entry (Frame W)) (w e g first last next : ℕ) (fs : List WorkView) (numbers : List (PartId × ℕ)) (contents : Contents)
-    (u : IsUnderway plan from old w e g first last fs numbers contents) (request : Request) (reply : Reply)
-    (c : Called plan old new (λ before after. IsAccepted plan before after w last next request reply))
+module _ {W : Type 0} (plan : W → TaskPlan) (from old new : PassView Entry (Frame W)) (w e g first : ℕ) (mem next : Memory) (fs : List WorkView) (contents : Contents)
+    (u : IsUnderway plan from old w e g first mem fs contents) (request : Request) (reply : Reply)
+    (c : Called plan old new (λ before after. IsAccepted plan before after w mem.last next.last request reply))
     (adds : adds_to w request ≡ true) (kind : is_of_commit w request ≡ true) (carried : carries w e g request ≡ true) (own : is_of w request ≡ true) (plain : is_refused reply ≡ false) where
   abbrev entry : Entry
   entry = record { request = request; reply = reply }
 
   abbrev Done_so : ClusterView W → ClusterView W → Type 0
-  Done_so before after = IsAccepted plan before after w last next request reply
+  Done_so before after = IsAccepted plan before after w mem.last next.last request reply
 
   abbrev reach : List Entry
-  reach = reached plan from old new w e g first last fs numbers contents u Done_so c
+  reach = reached plan from old new w e g first mem fs contents u Done_so c
 
   abbrev here : Setup
   here = setup_in plan from.frame
@@ -242,72 +245,106 @@ module _ {W : Type 0} (plan : W → TaskPlan) (from old new : PassView Entry (Fr
   journal_is = ap (λ (k : ClusterView W). k.journal) c.does.adds.journal
 
   abbrev all : Requests plan from new w
-  all = requests_now plan from old new w e g first last fs numbers contents u Done_so c (entry ∷ []) journal_is (one_of_commit w entry kind)
+  all = requests_now plan from old new w e g first mem fs contents u Done_so c (entry ∷ []) journal_is (one_of_commit w entry kind)
 
   taken : touches w entry ≡ true
   taken = ap₂ (λ a b. a && not b) own plain
 
-  reach_place : touched w reach ≡ last
-  reach_place = ap (touched w) (sym (before_is plan from old new w e g first last fs numbers contents u Done_so c)) ∙ c.does.was
+  reach_place : touched w reach ≡ mem.last
+  reach_place = ap (touched w) (sym (before_is plan from old new w e g first mem fs contents u Done_so c)) ∙ c.does.was
 
   free : refusal here (at here reach) request ≡ None
-  free = subst (λ (s : Setup). refusal s (at s reach) request ≡ None) (before_setup plan from old new w e g first last fs numbers contents u Done_so c)
-      (subst (λ l. refusal (setup_of plan c.before) (at (setup_of plan c.before) l) request ≡ None) (before_is plan from old new w e g first last fs numbers contents u Done_so c)
+  free = subst (λ (s : Setup). refusal s (at s reach) request ≡ None) (before_setup plan from old new w e g first mem fs contents u Done_so c)
+      (subst (λ l. refusal (setup_of plan c.before) (at (setup_of plan c.before) l) request ≡ None) (before_is plan from old new w e g first mem fs contents u Done_so c)
       (is_accepted (state_of plan c.before) request reply (refusal (setup_of plan c.before) (state_of plan c.before) request) c.does.adds.step plain))
 
   now_is : new.seen ≡ from.seen ++ (u.requests.more ++ c.others ++ entry ∷ [])
-  now_is = seen_is plan from old new w e g first last fs numbers contents u Done_so c (entry ∷ []) journal_is
+  now_is = seen_is plan from old new w e g first mem fs contents u Done_so c (entry ∷ []) journal_is
 
   behind_is : new.seen ≡ reach ++ entry ∷ []
   behind_is = now_is ∙ sym (append_assoc from.seen (u.requests.more ++ c.others) (entry ∷ []))
 
-  next_is : touched w new.seen ≡ next
+  next_is : touched w new.seen ≡ next.last
   next_is = ap (touched w) (seen_after plan old new Done_so c) ∙ sym c.does.is
 
   -- the state behind it
   there : at here new.seen ≡ effect (at here reach) request
   there = ap (at here) behind_is ∙ state_after-append here start reach (entry ∷ []) ∙ ap (state_by (at here reach) request) free
 
-  sending_now : touched w from.seen ≡ first → IsSending here from.seen all.more w e (length all.own) first next (added_by request contents)
+  sending_now : touched w from.seen ≡ first → IsSending here from.seen all.more w e (length all.own) first next.last (added_by request contents)
   sending_now mine =
-      let k = sending_gains here from.seen u.requests.more c.others entry w e g (length u.requests.own) first last contents u.worker.network
-      (subst (IsHistory here) now_is (history_now plan from old new w e g first last fs numbers contents u Done_so c)) (u.worker.idle mine) adds carried taken reach_place (u.sending mine) in
-      subst (λ l. IsSending here from.seen l w e (length all.own) first next (added_by request contents)) (sym (more_now plan from old new w e g first last fs numbers contents u Done_so c (entry ∷ [])))
-      (subst (λ n. IsSending here from.seen (u.requests.more ++ c.others ++ entry ∷ []) w e n first next (added_by request contents)) (omega (arith, length-append u.requests.own (entry ∷ [])))
+      let k = sending_gains here from.seen u.requests.more c.others entry w e g (length u.requests.own) first mem.last contents u.worker.network
+      (subst (IsHistory here) now_is (history_now plan from old new w e g first mem fs contents u Done_so c)) (u.worker.idle mine) adds carried taken reach_place (u.sending mine) in
+      subst (λ l. IsSending here from.seen l w e (length all.own) first next.last (added_by request contents)) (sym (more_now plan from old new w e g first mem fs contents u Done_so c (entry ∷ [])))
+      (subst (λ n. IsSending here from.seen (u.requests.more ++ c.others ++ entry ∷ []) w e n first next.last (added_by request contents)) (omega (arith, length-append u.requests.own (entry ∷ [])))
       (subst (λ n. IsSending here from.seen (u.requests.more ++ c.others ++ entry ∷ []) w e (length u.requests.own + 1) first n (added_by request contents)) (ap (touched w) (sym now_is) ∙ next_is) k))
 
-  numbered_now : (numbers' : List (PartId × ℕ)) → ((s : State) → IsNumbered s w e numbers → IsNumbered (effect s request) w e numbers') → touched w from.seen ≡ first → IsNumbered (at here new.seen) w e numbers'
-  numbered_now numbers' counts mine =
-      let before : IsNumbered (at here reach) w e numbers = numbered_reached plan from old new w e g first last fs numbers contents u Done_so c mine reach_place in
-      subst (λ (s : State). IsNumbered s w e numbers') (sym there) (counts (at here reach) before)
+  -- what it answers there
+  answered : reply ≡ reply_by (at here reach) request None
+  answered = subst (λ (s : Setup). reply ≡ reply_to s (at s reach) request) (before_setup plan from old new w e g first mem fs contents u Done_so c)
+      (subst (λ l. reply ≡ reply_to (setup_of plan c.before) (at (setup_of plan c.before) l) request) (before_is plan from old new w e g first mem fs contents u Done_so c) c.does.adds.step)
+      ∙ ap (reply_by (at here reach) request) free
 
-  pub request_done : (numbers' : List (PartId × ℕ)) → ((s : State) → IsNumbered s w e numbers → IsNumbered (effect s request) w e numbers') → IsUnderway plan from new w e g first next fs numbers' (added_by request contents)
-  request_done numbers' counts = record {
+  abbrev pub Numbers_so : Type 0
+  Numbers_so = (s : State) → IsNumbered s w e mem.numbers → IsNumbered (effect s request) w e next.numbers
+
+  abbrev pub Ends_so : Type 0
+  Ends_so = (s : State) → reply ≡ reply_by s request None → HasEnds s w e contents mem.ends → HasEnds (effect s request) w e (added_by request contents) next.ends
+
+  ended_now : Ends_so → touched w from.seen ≡ first → HasEnds (at here new.seen) w e (added_by request contents) next.ends
+  ended_now counts mine =
+      let low : e ≤ ((at here from.seen).producer w).epoch = u.worker.past in
+      let rises : ((at here from.seen).producer w).epoch ≤ ((at here reach).producer w).epoch = (journal_rises here from.seen (u.requests.more ++ c.others)).epochs w in
+      let gained : IsSending here from.seen (u.requests.more ++ c.others ++ entry ∷ []) w e (suc (length u.requests.own)) first next.last (added_by request contents) =
+      subst (λ n. IsSending here from.seen (u.requests.more ++ c.others ++ entry ∷ []) w e n first next.last (added_by request contents)) (omega (arith, length-append u.requests.own (entry ∷ [])))
+      (subst (λ l. IsSending here from.seen l w e (length all.own) first next.last (added_by request contents)) (more_now plan from old new w e g first mem fs contents u Done_so c (entry ∷ [])) (sending_now mine)) in
+      let epoch : ((at here reach).producer w).epoch ≡ e =
+      gained_epoch here from.seen u.requests.more c.others w e (length u.requests.own) first mem.last contents mem.ends entry (length u.requests.own) next.last (added_by request contents) u.worker.network
+      (subst (IsHistory here) now_is (history_now plan from old new w e g first mem fs contents u Done_so c)) gained (omega (arith, low, rises)) in
+      let before : HasEnds (at here reach) w e contents mem.ends =
+      ends_stay here from.seen u.requests.more c.others w e (length u.requests.own) first mem.last contents mem.ends u.worker.network (reached_history plan from old new w e g first mem fs contents u Done_so c)
+      reach_place epoch (u.sending mine) (subst (λ l. HasEnds (at here l) w e contents mem.ends) u.requests.seen (u.ended mine)) in
+      subst (λ (s : State). HasEnds s w e (added_by request contents) next.ends) (sym there) (counts (at here reach) answered before)
+
+  numbered_now : Numbers_so → touched w from.seen ≡ first → IsNumbered (at here new.seen) w e next.numbers
+  numbered_now counts mine =
+      let before : IsNumbered (at here reach) w e mem.numbers = numbered_reached plan from old new w e g first mem fs contents u Done_so c mine reach_place in
+      subst (λ (s : State). IsNumbered s w e next.numbers) (sym there) (counts (at here reach) before)
+
+  pub request_done : Numbers_so → Ends_so → IsUnderway plan from new w e g first next fs (added_by request contents)
+  request_done counts ends = record {
     worker = u.worker;
     requests = all;
-    history = history_now plan from old new w e g first last fs numbers contents u Done_so c;
+    history = history_now plan from old new w e g first mem fs contents u Done_so c;
     seen = record {
       generation = subst (λ l. g ≤ (at here l).generation) (sym all.seen) (seen_stays here from.seen all.more w g first u.worker.seen).generation;
       place = omega (arith, next_is);
     };
-    back = λ h. was_mine plan from old new w e g first last fs numbers contents u Done_so c c.does.was;
+    back = λ h. was_mine plan from old new w e g first mem fs contents u Done_so c c.does.was;
     sending = sending_now;
-    numbered = numbered_now numbers' counts;
+    numbered = numbered_now counts;
+    ended = ended_now ends;
   }
 
+-- the producer remembers the same
+under_same : {W : Type 0} (plan : W → TaskPlan) (from now : PassView Entry (Frame W)) (w e g first : ℕ) (mem next : Memory) (fs : List WorkView) (contents : Contents) → IsUnderway plan from now w e g first mem fs contents →
+    next.last ≡ mem.last → next.numbers ≡ mem.numbers → next.ends ≡ mem.ends → IsUnderway plan from now w e g first next fs contents
+under_same plan from now w e g first mem next fs contents u last numbers ends =
+    subst (λ (m : Memory). IsUnderway plan from now w e g first m fs contents) (λ i. record { last = sym last i; numbers = sym numbers i; ends = sym ends i }) u
+
 -- the cluster refuses it
-module _ {W : Type 0} (plan : W → TaskPlan) (from old new : PassView Entry (Frame W)) (w e g first last next : ℕ) (fs : List WorkView) (numbers : List (PartId × ℕ)) (contents : Contents)
-    (u : IsUnderway plan from old w e g first last fs numbers contents) (request : Request) (r : Refused)
-    (c : Called plan old new (λ before after. IsRefused plan before after w last next request r))
-    (kind : is_of_commit w request ≡ true) (carried : carries w e g request ≡ true) (answers : (s : State) → is_refused (reply_by s request None) ≡ false) where
+module _ {W : Type 0} (plan : W → TaskPlan) (from old new : PassView Entry (Frame W)) (w e g first : ℕ) (mem next : Memory) (fs : List WorkView) (contents : Contents)
+    (u : IsUnderway plan from old w e g first mem fs contents) (request : Request) (r : Refused)
+    (c : Called plan old new (λ before after. IsRefused plan before after w mem.last next.last request r))
+    (kind : is_of_commit w request ≡ true) (carried : carries w e g request ≡ true) (answers : (s : State) → is_refused (reply_by s request None) ≡ false) (numbers : next.numbers ≡ mem.numbers) (ends : next.ends ≡ mem.ends) where
   abbrev refused_entry : Entry
   refused_entry = record { request = request; reply = Refuse r }
 
   abbrev Refused_so : ClusterView W → ClusterView W → Type 0
-  Refused_so before after = IsRefused plan before after w last next request r
+  Refused_so before after = IsRefused plan before after w mem.last next.last request r
 
   abbrev refused_reach : List Entry
-  refused_reach = reached plan from old new w e g first last fs numbers contents u Refused_so c
+  refused_reach = reached plan from old new w e g first mem fs contents u Refused_so c
 
   abbrev refused_here : Setup
   refused_here = setup_in plan from.frame
@@ -316,14 +353,14 @@ module _ {W : Type 0} (plan : W → TaskPlan) (from old new : PassView Entry (Fr
   refused_journal = ap (λ (k : ClusterView W). k.journal) c.does.adds.journal
 
   abbrev refused_all : Requests plan from new w
-  refused_all = requests_now plan from old new w e g first last fs numbers contents u Refused_so c (refused_entry ∷ []) refused_journal (one_of_commit w refused_entry kind)
+  refused_all = requests_now plan from old new w e g first mem fs contents u Refused_so c (refused_entry ∷ []) refused_journal (one_of_commit w refused_entry kind)
 
-  refused_place : touched w refused_reach ≡ last
-  refused_place = ap (touched w) (sym (before_is plan from old new w e g first last fs numbers contents u Refused_so c)) ∙ c.does.was
+  refused_place : touched w refused_reach ≡ mem.last
+  refused_place = ap (touched w) (sym (before_is plan from old new w e g first mem fs contents u Refused_so c)) ∙ c.does.was
 
   refused_why : refusal refused_here (at refused_here refused_reach) request ≡ Some r
-  refused_why = subst (λ (s : Setup). refusal s (at s refused_reach) request ≡ Some r) (before_setup plan from old new w e g first last fs numbers contents u Refused_so c)
-      (subst (λ l. refusal (setup_of plan c.before) (at (setup_of plan c.before) l) request ≡ Some r) (before_is plan from old new w e g first last fs numbers contents u Refused_so c)
+  refused_why = subst (λ (s : Setup). refusal s (at s refused_reach) request ≡ Some r) (before_setup plan from old new w e g first mem fs contents u Refused_so c)
+      (subst (λ l. refusal (setup_of plan c.before) (at (setup_of plan c.before) l) request ≡ Some r) (before_is plan from old new w e g first mem fs contents u Refused_so c)
       (was_refused (state_of plan c.before) request r (refusal (setup_of plan c.before) (state_of plan c.before) request) c.does.adds.step (answers (state_of plan c.before))))
 
   turned_down : (Why : Refused → Type 0) → Why r → IsTurnedDown refused_all.more w e g Why
@@ -332,16 +369,23 @@ module _ {W : Type 0} (plan : W → TaskPlan) (from old new : PassView Entry (Fr
     request = request;
     refused = r;
     rest = [];
-    is = more_now plan from old new w e g first last fs numbers contents u Refused_so c (refused_entry ∷ []);
+    is = more_now plan from old new w e g first mem fs contents u Refused_so c (refused_entry ∷ []);
     carried = carried;
     why = why;
   }
 
-  pub request_refused : (touched w from.seen ≡ first → touched w refused_reach ≡ last → IsPrepared (at refused_here refused_reach) contents request) → IsHalted plan from new w e g first (Refusal r)
+  pub request_refused : (touched w from.seen ≡ first → touched w refused_reach ≡ mem.last → IsPrepared (at refused_here refused_reach) contents request) → IsHalted plan from new w e g first next (Refusal r)
   request_refused ready = record {
     requests = refused_all;
-    why = λ mine. by (sending_refused refused_here from.seen u.requests.more c.others request r w e g (length u.requests.own) first last contents u.worker.network
-        (reached_history plan from old new w e g first last fs numbers contents u Refused_so c) (u.worker.idle mine) u.worker.past carried refused_place (ready mine refused_place) refused_why (u.sending mine));
+    why = λ mine. by (sending_refused refused_here from.seen u.requests.more c.others request r w e g (length u.requests.own) first mem.last contents u.worker.network
+        (reached_history plan from old new w e g first mem fs contents u Refused_so c) (u.worker.idle mine) u.worker.past carried refused_place (ready mine refused_place) refused_why (u.sending mine));
+    mid = old;
+    fs = fs;
+    contents = contents;
+    under = under_same plan from old w e g first mem next fs contents u c.does.same numbers ends;
+    others = c.others ++ refused_entry ∷ [];
+    seen = (requests_by plan old new Refused_so c w (refused_entry ∷ []) refused_journal (one_of_commit w refused_entry kind)).seen;
+    history = history_now plan from old new w e g first mem fs contents u Refused_so c;
   }
     where
       by : IsFencing r ⊎ (IsMarkersWaiting r × ((at refused_here from.seen).producer w).waiting ≢ []) →
@@ -350,24 +394,31 @@ module _ {W : Type 0} (plan : W → TaskPlan) (from old new : PassView Entry (Fr
       by (inr m) = inr (m.0, turned_down IsMarkersWaiting m.0, m.1)
 
 -- somebody else used the number
-module _ {W : Type 0} (plan : W → TaskPlan) (from old new : PassView Entry (Frame W)) (w e g first last next place : ℕ) (fs : List WorkView) (numbers : List (PartId × ℕ)) (contents : Contents)
-    (u : IsUnderway plan from old w e g first last fs numbers contents)
-    (c : Called plan old new (λ before after. IsTouched before after w last next place)) where
+module _ {W : Type 0} (plan : W → TaskPlan) (from old new : PassView Entry (Frame W)) (w e g first : ℕ) (mem next : Memory) (place : ℕ) (fs : List WorkView) (contents : Contents)
+    (u : IsUnderway plan from old w e g first mem fs contents)
+    (c : Called plan old new (λ before after. IsTouched before after w mem.last next.last place)) (numbers : next.numbers ≡ mem.numbers) (ends : next.ends ≡ mem.ends) where
   abbrev Touched_so : ClusterView W → ClusterView W → Type 0
-  Touched_so before after = IsTouched before after w last next place
+  Touched_so before after = IsTouched before after w mem.last next.last place
 
   same_journal : c.after.journal ≡ c.before.journal ++ []
   same_journal = ap (λ (k : ClusterView W). k.journal) c.does.same ∙ sym (append-nil c.before.journal)
 
-  pub request_touched : IsHalted plan from new w e g first (Touched place)
+  pub request_touched : IsHalted plan from new w e g first next (Touched place)
   request_touched = record {
-    requests = requests_now plan from old new w e g first last fs numbers contents u Touched_so c [] same_journal refl;
+    requests = requests_now plan from old new w e g first mem fs contents u Touched_so c [] same_journal refl;
     why = λ mine.
-        let there = before_is plan from old new w e g first last fs numbers contents u Touched_so c in
-        let counted = sending_touched (setup_in plan from.frame) from.seen u.requests.more c.others w e (length u.requests.own) first last contents (u.sending mine)
+        let there = before_is plan from old new w e g first mem fs contents u Touched_so c in
+        let counted = sending_touched (setup_in plan from.frame) from.seen u.requests.more c.others w e (length u.requests.own) first mem.last contents (u.sending mine)
         (λ same. c.does.other (c.does.at_is ∙ ap (touched w) there ∙ same)) in
         subst (λ l. suc (length (u.requests.own ++ [])) ≤ accepted_of w (u.requests.more ++ l)) (sym (append-nil c.others))
         (subst (λ l. suc (length l) ≤ accepted_of w (u.requests.more ++ c.others)) (sym (append-nil u.requests.own)) counted);
+    mid = old;
+    fs = fs;
+    contents = contents;
+    under = under_same plan from old w e g first mem next fs contents u c.does.last_is numbers ends;
+    others = c.others ++ [];
+    seen = (requests_by plan old new Touched_so c w [] same_journal refl).seen;
+    history = history_now plan from old new w e g first mem fs contents u Touched_so c;
   }
 
 -- ---- a request, whatever is answered
@@ -378,36 +429,42 @@ called_as plan old new One Other f c = record { before = c.before; after = c.aft
 abbrev pub Asked : {W A E : Type 0} → (W → TaskPlan) → ℕ → ℕ → ℕ → Request → (A → Reply) → Result (Result A Barred) E → ClusterView W → ClusterView W → Type 0
 Asked plan w last next request reply r before after = IfOk r (λ x. IsOwn plan before after w last next request reply x) × OnErr r (after ≡ before) × OnErr r (next ≡ last)
 
-module _ {W A : Type 0} (plan : W → TaskPlan) (old new : PassView Entry (Frame W)) (w e g last next : ℕ) (numbers numbers' : List (PartId × ℕ)) (Ready : List WorkView → Contents → Type 0) (request : Request) (reply : A → Reply)
+module _ {W A : Type 0} (plan : W → TaskPlan) (old new : PassView Entry (Frame W)) (w e g : ℕ) (mem next : Memory) (Ready : List WorkView → Contents → Type 0) (request : Request) (reply : A → Reply)
     (adds : adds_to w request ≡ true) (kind : is_of_commit w request ≡ true) (carried : carries w e g request ≡ true) (own : is_of w request ≡ true) (plain : (a : A) → is_refused (reply a) ≡ false)
     (answers : (s : State) → is_refused (reply_by s request None) ≡ false) where
-  abbrev pub Counts : Type 0
-  Counts = (s : State) → IsNumbered s w e numbers → IsNumbered (effect s request) w e numbers'
+  -- what it makes of what the producer remembers
+  pub record Counts (a : A) : Type 0 where
+    pub numbers : (s : State) → IsNumbered s w e mem.numbers → IsNumbered (effect s request) w e next.numbers
+    pub ends : (s : State) (c : Contents) → reply a ≡ reply_by s request None → HasEnds s w e c mem.ends → HasEnds (effect s request) w e (added_by request c) next.ends
 
   -- what the request needs, at a call that is refused
   abbrev pub Prepared : Type 0
-  Prepared = (from : PassView Entry (Frame W)) (first : ℕ) (fs : List WorkView) (c : Contents) (refused : Refused) → Ready fs c → (u : IsUnderway plan from old w e g first last fs numbers c) →
-      (k : Called plan old new (λ b x. IsRefused plan b x w last next request refused)) → touched w from.seen ≡ first →
-      touched w (reached plan from old new w e g first last fs numbers c u (λ b x. IsRefused plan b x w last next request refused) k) ≡ last →
-      IsPrepared (at (setup_in plan from.frame) (reached plan from old new w e g first last fs numbers c u (λ b x. IsRefused plan b x w last next request refused) k)) c request
+  Prepared = (from : PassView Entry (Frame W)) (first : ℕ) (fs : List WorkView) (c : Contents) (refused : Refused) → Ready fs c → (u : IsUnderway plan from old w e g first mem fs c) →
+      (k : Called plan old new (λ b x. IsRefused plan b x w mem.last next.last request refused)) → touched w from.seen ≡ first →
+      touched w (reached plan from old new w e g first mem fs c u (λ b x. IsRefused plan b x w mem.last next.last request refused) k) ≡ mem.last →
+      IsPrepared (at (setup_in plan from.frame) (reached plan from old new w e g first mem fs c u (λ b x. IsRefused plan b x w mem.last next.last request refused) k)) c request
 
-  is_done : (a : A) → Counts → Called plan old new (λ b x. IsAccepted plan b x w last next request (reply a)) → Puts plan old new w e g last next numbers numbers' (added_by request)
-  is_done a counts k from first fs c u = request_done plan from old new w e g first last next fs numbers c u request (reply a) k adds kind carried own (plain a) numbers' counts
+  is_done : (a : A) → Counts a → Called plan old new (λ b x. IsAccepted plan b x w mem.last next.last request (reply a)) → Puts plan old new w e g mem next (added_by request)
+  is_done a counts k from first fs c u = request_done plan from old new w e g first mem next fs c u request (reply a) k adds kind carried own (plain a) counts.numbers (λ s. counts.ends s c)
 
-  is_refused_so : (refused : Refused) → Prepared → Called plan old new (λ b x. IsRefused plan b x w last next request refused) → Halts plan old new w e g last numbers Ready (Refusal refused)
-  is_refused_so refused ready k from first fs c is u =
-      request_refused plan from old new w e g first last next fs numbers c u request refused k kind carried answers (λ mine place. ready from first fs c refused is u k mine place)
+  -- what the producer remembers but for the place stays, where it isn't done
+  abbrev pub Same : Type 0
+  Same = (next.numbers ≡ mem.numbers) × (next.ends ≡ mem.ends)
 
-  is_touched_so : (place : ℕ) → Called plan old new (λ b x. IsTouched b x w last next place) → Halts plan old new w e g last numbers Ready (Touched place)
-  is_touched_so place k from first fs c is u = request_touched plan from old new w e g first last next place fs numbers c u k
+  is_refused_so : (refused : Refused) → Same → Prepared → Called plan old new (λ b x. IsRefused plan b x w mem.last next.last request refused) → Halts plan old new w e g mem next Ready (Refusal refused)
+  is_refused_so refused same ready k from first fs c is u =
+      request_refused plan from old new w e g first mem next fs c u request refused k kind carried answers same.0 same.1 (λ mine place. ready from first fs c refused is u k mine place)
 
-  pub carries_request : {E : Type 0} (r : Result (Result A Barred) E) → Counts → Prepared → Called plan old new (Asked plan w last next request reply r) → Carries plan old new w e g last next numbers numbers' Ready (added_by request) (halted r)
-  carries_request (Ok (Ok a)) counts ready k = is_done a counts (called_as plan old new _ (λ b x. IsAccepted plan b x w last next request (reply a)) (λ b x d. d.0) k)
-  carries_request (Ok (Err (Refusal refused))) counts ready k = is_refused_so refused ready (called_as plan old new _ (λ b x. IsRefused plan b x w last next request refused) (λ b x d. d.0) k)
-  carries_request (Ok (Err (Touched place))) counts ready k = is_touched_so place (called_as plan old new _ (λ b x. IsTouched b x w last next place) (λ b x d. d.0) k)
-  carries_request (Err x) counts ready k = tt
+  is_touched_so : (place : ℕ) → Same → Called plan old new (λ b x. IsTouched b x w mem.last next.last place) → Halts plan old new w e g mem next Ready (Touched place)
+  is_touched_so place same k from first fs c is u = request_touched plan from old new w e g first mem next place fs c u k same.0 same.1
 
-  pub requests_request : {E : Type 0} (r : Result (Result A Barred) E) → Called plan old new (Asked plan w last next request reply r) → Requests plan old new w
+  pub carries_request : {E : Type 0} (r : Result (Result A Barred) E) → ((a : A) → halted r ≡ Ok a → Counts a) → ((b : Barred) → halted r ≡ Err (IsBarred b) → Same) → Prepared → Called plan old new (Asked plan w mem.last next.last request reply r) → Carries plan old new w e g mem next Ready (added_by request) (halted r)
+  carries_request (Ok (Ok a)) counts same ready k = is_done a (counts a refl) (called_as plan old new _ (λ b x. IsAccepted plan b x w mem.last next.last request (reply a)) (λ b x d. d.0) k)
+  carries_request (Ok (Err (Refusal refused))) counts same ready k = is_refused_so refused (same (Refusal refused) refl) ready (called_as plan old new _ (λ b x. IsRefused plan b x w mem.last next.last request refused) (λ b x d. d.0) k)
+  carries_request (Ok (Err (Touched place))) counts same ready k = is_touched_so place (same (Touched place) refl) (called_as plan old new _ (λ b x. IsTouched b x w mem.last next.last place) (λ b x d. d.0) k)
+  carries_request (Err x) counts same ready k = tt
+
+  pub requests_request : {E : Type 0} (r : Result (Result A Barred) E) → Called plan old new (Asked plan w mem.last next.last request reply r) → Requests plan old new w
   requests_request (Ok (Ok a)) k =
       requests_by plan old new _ k w (record { request = request; reply = reply a } ∷ []) (ap (λ (x : ClusterView W). x.journal) k.does.0.adds.journal) (one_of_commit w (record { request = request; reply = reply a }) kind)
   requests_request (Ok (Err (Refusal refused))) k =

@@ -1,3 +1,5 @@
-pub mod Steps
 pub mod Outcomes
+pub mod Outputs
 pub mod Underway
+pub mod Ends
+pub mod Leaves

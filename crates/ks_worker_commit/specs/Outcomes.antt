@@ -12,6 +12,7 @@ use Rattle.ks_shared.specs.declared.barred.Barred.TheVariants.{Refused as Refusa
 use Rattle.ks_law_sharing.specs.Refusals.{IsFencing, IsMarkersWaiting}
 use Rattle.ks_law_transaction.specs.Accounts.{is_of_commit, accepted_of}
 use Rattle.ks_law_commit.specs.Cases.{IsTurnedDown}
+use Rattle.ks_client.specs.Turns.{GateCounts}
 use Rattle.ks_worker_commit.specs.declared.halt.Halt.{Halt}
 use Rattle.ks_worker_commit.specs.declared.halt.Halt.TheVariants.{OutOfMemory, Cut, Barred as IsBarred}
 
@@ -46,6 +47,10 @@ abbrev pub written : {A E : Type 0} → Result (Option A) E → Result Bool Halt
 written (Ok None) = Ok false
 written (Ok (Some a)) = Ok true
 written (Err e) = Err OutOfMemory
+
+-- the counts of a gate that cut the worker off so often more
+abbrev pub with_cuts : GateCounts → ℕ → GateCounts
+with_cuts counts n = record counts { cuts = counts.cuts + n }
 
 -- how often the gate cut the worker off
 abbrev pub cuts_in : {A : Type 0} → Result A Halt → ℕ

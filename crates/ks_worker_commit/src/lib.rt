@@ -1,16 +1,16 @@
-//! The requests of a worker's commit among others, through the lock round the cluster (KIP-98, KIP-447; Kafka
-//! Streams: StreamsProducer).
+//! A worker's commit among others, through the lock round the cluster (KIP-98, KIP-447; Kafka Streams:
+//! StreamsProducer).
 #![tactic(auto)]
 
+mod committing;
+mod ends;
 mod halt;
 mod numbers;
+mod outcome;
+mod outputs;
 mod requests;
-mod session;
-mod steps;
+mod sending;
 
-pub use halt::Halt;
-pub use requests::{
-    add_part, append_output, decide_abort, decide_commit, send_offsets, write_marker,
-};
-pub use session::{Member, Session};
-pub use steps::Steps;
+pub use committing::commit;
+pub use ends::ends_of_task;
+pub use outcome::Outcome;

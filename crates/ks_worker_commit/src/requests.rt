@@ -4,17 +4,19 @@ ghost use Rattle.ks_history.specs.declared.journal.Request.TheVariants.{Decide};
 ghost use Rattle.ks_history.specs.State.{IsPart, has_task};
 ghost use Rattle.ks_history.specs.History.{at, are_offsets, CommitsFaithfully};
 ghost use Rattle.ks_history.specs.Touched.{touched};
-ghost use Rattle.ks_worker_commit.specs.Steps.{HasRoomFor, are_later};
+ghost use Rattle.ks_client.specs.Turns.{HasRoomFor};
+ghost use Rattle.ks_worker_commit.specs.Outcomes.{with_cuts};
 ghost use Rattle.ks_shared.specs.Calls.{setup_in};
 ghost use Rattle.ks_law_restore.specs.Views.{pending_work};
 ghost use Rattle.ks_law_transaction.specs.Building.{with_part, with_records, with_pending_offsets};
 ghost use Rattle.ks_commit.specs.Work.{work_view};
 ghost use Rattle.ks_worker_commit.specs.Outcomes.{Requests, cuts_in, halted, written};
-ghost use Rattle.ks_worker_commit.specs.Underway.{Carries, Decides, always, has_added, has_work};
+ghost use Rattle.ks_worker_commit.specs.Ends.{NeverBarred};
+ghost use Rattle.ks_worker_commit.specs.Underway.{memory, with_end, Carries, Decides, Aborts, always, has_added, has_work};
 
 use crate::halt::Halt;
 use crate::numbers::{number, renumbered};
-use crate::session::{Member, Session};
+use ks_client::{Member, Session};
 use ks_cluster::Work;
 use ks_commit::Frozen;
 use ks_edge::Gate;
@@ -31,6 +33,24 @@ fn number_after(before: u64, recs: &[Rec]) -> Result<u64, AllocError>
         Some(after) => Ok(after),
         None => Err(AllocError),
     }
+}
+
+// Takes down where records of a task end in a partition that stand from an offset on. An end that would pass its type's greatest value
+// is answered as want of memory.
+fn note_end(
+    ends: &mut Vec<(TaskId, PartId, u64)>,
+    place: (TaskId, PartId),
+    offset: u64,
+    recs: &[Rec],
+) -> Result<(), AllocError>
+    ensures { OnOk result (ends.new.items ≡ with_end place.0 place.1 offset recs.now ends.old.items) }
+{
+    if recs.is_empty() {
+        return Ok(());
+    }
+    let end = number_after(offset, recs)?;
+    ends.push((place.0, place.1, end))?;
+    Ok(())
 }
 
 // What a call's answer is to a commit.
@@ -64,21 +84,23 @@ pub fn add_part<R: Wait, W: Work, G: Gate>(
     member: Member,
     part: PartId,
 ) -> Result<(), Halt>
-    requires own { session.old.pass.lock ≡ shared.now.growing.id }
-    requires free { session.old.pass.holds ≡ false }
-    requires room { HasRoomFor session.old.steps }
-    requires worker { member.worker ≤ 16 }
-    requires part { IsPart (setup_in W.plan session.old.pass.frame) part }
-    ensures requests { Requests W.plan session.old.pass session.new.pass member.worker }
-    ensures carries { Carries W.plan session.old.pass session.new.pass
-        member.worker member.epoch member.generation session.old.last session.new.last
-        session.old.numbers.items session.new.numbers.items always (with_part part) result }
-    ensures steps { are_later session.old.steps session.new.steps (cuts_in result) }
+    requires own { session.old.client.pass.lock ≡ shared.now.growing.id }
+    requires free { session.old.client.pass.holds ≡ false }
+    requires room { HasRoomFor session.old.client.gate }
+    requires worker { member.number ≤ 16 }
+    requires part { IsPart (setup_in W.plan session.old.client.pass.frame) part }
+    ensures requests { Requests W.plan session.old.client.pass session.new.client.pass member.number }
+    ensures carries { Carries W.plan session.old.client.pass session.new.client.pass
+        member.number member.epoch member.generation
+        (memory session.old.last session.old.numbers.items session.old.ends.items)
+        (memory session.new.last session.new.numbers.items session.new.ends.items)
+        always (with_part part) result }
+    ensures gate { session.new.client.gate ≡ with_cuts session.old.client.gate (cuts_in result) }
 {
-    if session.steps.is_cut() {
+    if session.client.gate.pass_step().is_err() {
         return Err(Halt::Cut);
     }
-    let (worker, epoch) = (member.worker, member.epoch);
+    let (worker, epoch) = (member.number, member.epoch);
     done(shared.add(
         rt,
         alloc,
@@ -86,7 +108,7 @@ pub fn add_part<R: Wait, W: Work, G: Gate>(
         epoch,
         part,
         &mut session.last,
-        &mut session.pass,
+        &mut session.client.pass,
     ))
 }
 
@@ -101,34 +123,37 @@ pub fn append_output<R: Wait, W: Work, G: Gate>(
     task: TaskId,
     out: &(PartId, Seq<Rec>),
 ) -> Result<(), Halt>
-    requires own { session.old.pass.lock ≡ shared.now.growing.id }
-    requires free { session.old.pass.holds ≡ false }
-    requires room { HasRoomFor session.old.steps }
-    requires worker { member.worker ≤ 16 }
-    requires part { IsPart (setup_in W.plan session.old.pass.frame) out.now.0 }
-    requires task { has_task task (setup_in W.plan session.old.pass.frame).tasks ≡ true }
-    ensures requests { Requests W.plan session.old.pass session.new.pass member.worker }
-    ensures carries { Carries W.plan session.old.pass session.new.pass
-        member.worker member.epoch member.generation session.old.last session.new.last
-        session.old.numbers.items session.new.numbers.items (has_added out.now.0) (with_records task out.now.0 out.now.1) result }
-    ensures steps { are_later session.old.steps session.new.steps (cuts_in result) }
+    requires own { session.old.client.pass.lock ≡ shared.now.growing.id }
+    requires free { session.old.client.pass.holds ≡ false }
+    requires room { HasRoomFor session.old.client.gate }
+    requires worker { member.number ≤ 16 }
+    requires part { IsPart (setup_in W.plan session.old.client.pass.frame) out.now.0 }
+    requires task { has_task task (setup_in W.plan session.old.client.pass.frame).tasks ≡ true }
+    ensures requests { Requests W.plan session.old.client.pass session.new.client.pass member.number }
+    ensures carries { Carries W.plan session.old.client.pass session.new.client.pass
+        member.number member.epoch member.generation
+        (memory session.old.last session.old.numbers.items session.old.ends.items)
+        (memory session.new.last session.new.numbers.items session.new.ends.items)
+        (has_added out.now.0) (with_records task out.now.0 out.now.1) result }
+    ensures gate { session.new.client.gate ≡ with_cuts session.old.client.gate (cuts_in result) }
 {
-    if session.steps.is_cut() {
+    if session.client.gate.pass_step().is_err() {
         return Err(Halt::Cut);
     }
     let (part, recs) = (out.0, out.1.as_slice());
     let before = number(session.numbers.as_slice(), part);
     let after = number_after(before, recs)?;
     let numbers = renumbered(alloc, session.numbers.as_slice(), part, after)?;
-    let (worker, epoch) = (member.worker, member.epoch);
-    let (last, pass) = (&mut session.last, &mut session.pass);
-    match done(shared.append(
+    let (worker, epoch) = (member.number, member.epoch);
+    let (last, pass) = (&mut session.last, &mut session.client.pass);
+    let offset = match done(shared.append(
         rt, alloc, worker, epoch, before, task, part, recs, last, pass,
     )) {
-        Ok(_offset) => {}
+        Ok(offset) => offset,
         Err(halt) => return Err(halt),
-    }
+    };
     session.numbers = numbers;
+    note_end(&mut session.ends, (task, part), offset, recs)?;
     Ok(())
 }
 
@@ -141,31 +166,33 @@ pub fn send_offsets<R: Wait, W: Work, G: Gate>(
     member: Member,
     work: &Frozen,
 ) -> Result<(), Halt>
-    requires own { session.old.pass.lock ≡ shared.now.growing.id }
-    requires free { session.old.pass.holds ≡ false }
-    requires room { HasRoomFor session.old.steps }
-    requires worker { member.worker ≤ 16 }
-    requires task { has_task work.now.task (setup_in W.plan session.old.pass.frame).tasks ≡ true }
-    requires offsets { are_offsets (setup_in W.plan session.old.pass.frame)
-        (at (setup_in W.plan session.old.pass.frame) session.old.pass.seen) work.now.task work.now.offsets
+    requires own { session.old.client.pass.lock ≡ shared.now.growing.id }
+    requires free { session.old.client.pass.holds ≡ false }
+    requires room { HasRoomFor session.old.client.gate }
+    requires worker { member.number ≤ 16 }
+    requires task { has_task work.now.task (setup_in W.plan session.old.client.pass.frame).tasks ≡ true }
+    requires offsets { are_offsets (setup_in W.plan session.old.client.pass.frame)
+        (at (setup_in W.plan session.old.client.pass.frame) session.old.client.pass.seen) work.now.task work.now.offsets
         ≡ true }
-    ensures requests { Requests W.plan session.old.pass session.new.pass member.worker }
-    ensures carries { Carries W.plan session.old.pass session.new.pass
-        member.worker member.epoch member.generation session.old.last session.new.last
-        session.old.numbers.items session.new.numbers.items (has_work work.now.task) (with_pending_offsets (pending_work (work_view work.now))) result }
-    ensures sent { OnOk result (touched member.worker session.new.pass.seen ≡ session.new.last) }
-    ensures generation { OnOk result ((at (setup_in W.plan session.old.pass.frame) session.new.pass.seen).generation
+    ensures requests { Requests W.plan session.old.client.pass session.new.client.pass member.number }
+    ensures carries { Carries W.plan session.old.client.pass session.new.client.pass
+        member.number member.epoch member.generation
+        (memory session.old.last session.old.numbers.items session.old.ends.items)
+        (memory session.new.last session.new.numbers.items session.new.ends.items)
+        (has_work work.now.task) (with_pending_offsets (pending_work (work_view work.now))) result }
+    ensures sent { OnOk result (touched member.number session.new.client.pass.seen ≡ session.new.last) }
+    ensures generation { OnOk result ((at (setup_in W.plan session.old.client.pass.frame) session.new.client.pass.seen).generation
         ≡ member.generation) }
-    ensures steps { are_later session.old.steps session.new.steps (cuts_in result) }
+    ensures gate { session.new.client.gate ≡ with_cuts session.old.client.gate (cuts_in result) }
 {
-    if session.steps.is_cut() {
+    if session.client.gate.pass_step().is_err() {
         return Err(Halt::Cut);
     }
     let (offsets, order) = (work.offsets.as_slice(), work.order.as_slice());
     done(shared.send_offsets(
         rt,
         alloc,
-        member.worker,
+        member.number,
         member.epoch,
         member.generation,
         work.task,
@@ -173,7 +200,7 @@ pub fn send_offsets<R: Wait, W: Work, G: Gate>(
         order,
         work.late,
         &mut session.last,
-        &mut session.pass,
+        &mut session.client.pass,
     ))
 }
 
@@ -185,24 +212,26 @@ pub fn decide_commit<R: Wait, W: Work, G: Gate>(
     session: &mut Session<W, G>,
     member: Member,
 ) -> Result<(), Halt>
-    requires own { session.old.pass.lock ≡ shared.now.growing.id }
-    requires free { session.old.pass.holds ≡ false }
-    requires room { HasRoomFor session.old.steps }
-    requires worker { member.worker ≤ 16 }
-    requires within { session.old.last ≤ length session.old.pass.seen }
-    requires faithful { CommitsFaithfully (setup_in W.plan session.old.pass.frame)
-        (at (setup_in W.plan session.old.pass.frame) session.old.pass.seen)
-        (Decide member.worker member.epoch true) }
-    ensures requests { Requests W.plan session.old.pass session.new.pass member.worker }
-    ensures decides { Decides W.plan session.old.pass session.new.pass
-        member.worker member.epoch member.generation session.old.last session.old.numbers.items result }
-    ensures steps { are_later session.old.steps session.new.steps (cuts_in result) }
+    requires own { session.old.client.pass.lock ≡ shared.now.growing.id }
+    requires free { session.old.client.pass.holds ≡ false }
+    requires room { HasRoomFor session.old.client.gate }
+    requires worker { member.number ≤ 16 }
+    requires within { session.old.last ≤ length session.old.client.pass.seen }
+    requires faithful { CommitsFaithfully (setup_in W.plan session.old.client.pass.frame)
+        (at (setup_in W.plan session.old.client.pass.frame) session.old.client.pass.seen)
+        (Decide member.number member.epoch true) }
+    ensures requests { Requests W.plan session.old.client.pass session.new.client.pass member.number }
+    ensures decides { Decides W.plan session.old.client.pass session.new.client.pass
+        member.number member.epoch member.generation
+        (memory session.old.last session.old.numbers.items session.old.ends.items)
+        (memory session.new.last session.new.numbers.items session.new.ends.items) result }
+    ensures gate { session.new.client.gate ≡ with_cuts session.old.client.gate (cuts_in result) }
 {
-    if session.steps.is_cut() {
+    if session.client.gate.pass_step().is_err() {
         return Err(Halt::Cut);
     }
-    let (last, pass) = (&mut session.last, &mut session.pass);
-    done(shared.decide(rt, alloc, member.worker, member.epoch, true, last, pass))
+    let (last, pass) = (&mut session.last, &mut session.client.pass);
+    done(shared.decide(rt, alloc, member.number, member.epoch, true, last, pass))
 }
 
 /// Aborts the worker's transaction.
@@ -213,18 +242,21 @@ pub fn decide_abort<R: Wait, W: Work, G: Gate>(
     session: &mut Session<W, G>,
     member: Member,
 ) -> Result<(), Halt>
-    requires own { session.old.pass.lock ≡ shared.now.growing.id }
-    requires free { session.old.pass.holds ≡ false }
-    requires room { HasRoomFor session.old.steps }
-    requires worker { member.worker ≤ 16 }
-    ensures requests { Requests W.plan session.old.pass session.new.pass member.worker }
-    ensures steps { are_later session.old.steps session.new.steps (cuts_in result) }
+    requires own { session.old.client.pass.lock ≡ shared.now.growing.id }
+    requires free { session.old.client.pass.holds ≡ false }
+    requires room { HasRoomFor session.old.client.gate }
+    requires worker { member.number ≤ 16 }
+    ensures requests { Requests W.plan session.old.client.pass session.new.client.pass member.number }
+    ensures aborts { Aborts W.plan session.old.client.pass session.new.client.pass member.number member.epoch
+        (memory session.old.last session.old.numbers.items session.old.ends.items)
+        (memory session.new.last session.new.numbers.items session.new.ends.items) result }
+    ensures gate { session.new.client.gate ≡ with_cuts session.old.client.gate (cuts_in result) }
 {
-    if session.steps.is_cut() {
+    if session.client.gate.pass_step().is_err() {
         return Err(Halt::Cut);
     }
-    let (last, pass) = (&mut session.last, &mut session.pass);
-    done(shared.decide(rt, alloc, member.worker, member.epoch, false, last, pass))
+    let (last, pass) = (&mut session.last, &mut session.client.pass);
+    done(shared.decide(rt, alloc, member.number, member.epoch, false, last, pass))
 }
 
 /// Writes the worker's next waiting marker; false where none waits.
@@ -235,17 +267,20 @@ pub fn write_marker<R: Wait, W: Work, G: Gate>(
     session: &mut Session<W, G>,
     member: Member,
 ) -> Result<bool, Halt>
-    requires own { session.old.pass.lock ≡ shared.now.growing.id }
-    requires free { session.old.pass.holds ≡ false }
-    requires room { HasRoomFor session.old.steps }
-    requires worker { member.worker ≤ 16 }
-    ensures requests { Requests W.plan session.old.pass session.new.pass member.worker }
-    ensures none { IfOk result (λ more. more ≡ false → ((at (setup_in W.plan session.old.pass.frame)
-        session.new.pass.seen).producer member.worker).waiting ≡ []) }
-    ensures steps { are_later session.old.steps session.new.steps (cuts_in result) }
+    requires own { session.old.client.pass.lock ≡ shared.now.growing.id }
+    requires free { session.old.client.pass.holds ≡ false }
+    requires room { HasRoomFor session.old.client.gate }
+    requires worker { member.number ≤ 16 }
+    ensures requests { Requests W.plan session.old.client.pass session.new.client.pass member.number }
+    ensures same { memory session.new.last session.new.numbers.items session.new.ends.items
+        ≡ memory session.old.last session.old.numbers.items session.old.ends.items }
+    ensures done { NeverBarred result }
+    ensures none { IfOk result (λ more. more ≡ false → ((at (setup_in W.plan session.old.client.pass.frame)
+        session.new.client.pass.seen).producer member.number).waiting ≡ []) }
+    ensures gate { session.new.client.gate ≡ with_cuts session.old.client.gate (cuts_in result) }
 {
-    if session.steps.is_cut() {
+    if session.client.gate.pass_step().is_err() {
         return Err(Halt::Cut);
     }
-    is_written(shared.mark_next(rt, alloc, member.worker, &mut session.pass))
+    is_written(shared.mark_next(rt, alloc, member.number, &mut session.client.pass))
 }

@@ -1,18 +1,19 @@
 -- A task reads what one fetch gives.
-use Rattle.std.proofs.Common.{◌≡◌, ℕ, ◌+◌, ◌<◌, ◌≤◌, true, false, List, [], ◌∷◌, ◌++◌, length, take, get_or, refl, sym, ap, ap₂, subst, ◌∙◌, arith, add-one}
+use Rattle.std.proofs.Common.{◌≡◌, ◌≢◌, ℕ, ◌+◌, ◌<◌, ◌≤◌, true, false, List, [], ◌∷◌, ◌++◌, length, take, get_or, refl, sym, ap, ap₂, subst, ◌∙◌, arith, add-one}
 use Rattle.std.proofs.Math.Seq.{take-suc}
 use Rattle.ks_row.specs.declared.record.Rec.{Rec}
+use Rattle.ks_row.specs.declared.record.PartId.{PartId}
 use Rattle.ks_row.specs.declared.record.TaskId.{TaskId}
 use Rattle.ks_plan.specs.Drafts.{DraftView}
 use Rattle.ks_plan.specs.Plan.{plan_of}
 use Rattle.ks_plan.specs.Infos.{input_numbers}
 use Rattle.ks_history.specs.declared.journal.Entry.{Entry}
 use Rattle.ks_history.specs.Machine.{TaskPlan, IsNetwork, has_topic, part_of}
-use Rattle.ks_history.specs.State.{Setup, IsSetup}
+use Rattle.ks_history.specs.State.{Setup, IsSetup, IsPart, has_task}
 use Rattle.ks_history.specs.Reads.{MayFetch, fetched}
 use Rattle.ks_history.specs.Follows.{TaskView}
 use Rattle.ks_history.specs.History.{at}
-use Rattle.ks_law_restore.specs.Views.{take_view, take_all, skip_view}
+use Rattle.ks_law_restore.specs.Views.{take_view, take_all, skip_view, SendsInside}
 use Rattle.ks_law_worker.specs.Bounds.{stable_of, FetchGoesOn}
 use Rattle.ks_law_worker.specs.Held.{IsHeld}
 use Rattle.ks_law_worker.specs.Moves.{HasRead}
@@ -26,8 +27,9 @@ use Rattle.ks_client.specs.Calls.{Later, state_seen}
 use Rattle.ks_client.proofs.Moments.{same_frame}
 use Rattle.ks_task.specs.declared.task.Task.{Task}
 use Rattle.ks_task.specs.Tasks.{task_view, IsTaskOf}
-use Rattle.ks_worker_state.specs.declared.member.Member.{Member}
-use Rattle.ks_worker_state.specs.Tasks.{MemberHasSeen, IsHeldTask, IsReadOnce}
+use Rattle.ks_client.specs.declared.member.Member.{Member}
+use Rattle.ks_client.specs.Members.{MemberHasSeen}
+use Rattle.ks_worker_state.specs.Tasks.{IsHeldTask, IsReadOnce, MakesInside}
 use Rattle.ks_worker_state.specs.Topology.{RunsTopology}
 
 -- ---- the records of a fetch, one after another
@@ -50,6 +52,19 @@ takes_on plan v topic (r ∷ rs) = takes_on plan (take_view plan v topic r.0 r.1
 pub still_input : (inputs : ℕ → List ℕ) (plan : TaskPlan) (topic : ℕ) (v new : TaskView) (rs : List (ℕ × Rec)) → new ≡ take_all plan v topic rs → has_topic topic (inputs v.task.sub) ≡ true → has_topic topic (inputs new.task.sub) ≡ true
 still_input inputs plan topic v new rs is h = subst (λ (t : TaskId). has_topic topic (inputs t.sub) ≡ true) (sym (ap (λ (w : TaskView). w.task) is ∙ takes_on plan v topic rs)) h
 
+-- what it makes of its inputs' records goes where all tasks send
+pub takes_inside : (setup : Setup) (topic : ℕ) (rs : List (ℕ × Rec)) (v : TaskView) → SendsInside setup → has_task v.task setup.tasks ≡ true → has_topic topic (setup.plan.inputs v.task.sub) ≡ true → MakesInside setup v →
+    MakesInside setup (take_all setup.plan v topic rs)
+takes_inside setup topic [] v sends known input inside = inside
+takes_inside setup topic (r ∷ rs) v sends known input inside = takes_inside setup topic rs (take_view setup.plan v topic r.0 r.1) sends known input (λ q some. by q some (v.made q) refl)
+  where
+    filled : (x : Rec) (xs : List Rec) → x ∷ xs ≡ [] → ⊥
+    filled x xs e = absurd cc
+
+    by : (q : PartId) → (take_view setup.plan v topic r.0 r.1).made q ≢ [] → (xs : List Rec) → v.made q ≡ xs → IsPart setup q
+    by q some [] none = sends v.task v.stores topic r.1 q known input (λ e. some (ap₂ (λ a b. a ++ b) none e))
+    by q some (x ∷ xs) is = inside q (λ e. filled x xs (sym is ∙ e))
+
 -- ---- a fetch may be made
 pub may_read : (setup : Setup) (journal : List Entry) (w g last : ℕ) (v : TaskView) (topic part from : ℕ) → IsSetup setup → IsHeld setup journal w g last v → has_topic topic (setup.plan.inputs v.task.sub) ≡ true → part ≡ v.task.part → from ≡ v.inputs topic →
     MayFetch setup (at setup journal) (record { topic = topic; part = part }) from 32
@@ -63,11 +78,15 @@ may_read setup journal w g last v topic part from made h input is at_it =
     (subst (λ n. MayFetch setup (at setup journal) (record { topic = topic; part = n }) (v.inputs topic) 32) (sym is) may)
 
 -- ---- what the fetch gave, and what the task made of it
-module _ {W : Type 0} (plan : W → TaskPlan) (old new : PassView Entry (Frame W)) (l : Later plan old new) (d : DraftView) (m : Member) (topic : ℕ) (task : Task) where
-  module _ (net : IsNetwork (setup_in plan old.frame).plan) (past : MemberHasSeen (setup_in plan old.frame) old.seen m) (held : IsHeldTask d (setup_in plan old.frame) old.seen m task) where
-    pub held_later : IsHeldTask d (setup_in plan old.frame) new.seen m task
-    held_later = subst (λ j. IsHeldTask d (setup_in plan old.frame) j m task) (sym l.seen)
-        (record { of = held.of; held = held_stays (setup_in plan old.frame) old.seen l.more m.number m.generation m.last (task_view task) net l.history past held.held })
+module _ {W : Type 0} (plan : W → TaskPlan) (old new : PassView Entry (Frame W)) (l : Later plan old new) (d : DraftView) (m : Member) (last topic : ℕ) (task : Task) where
+  module _ (net : IsNetwork (setup_in plan old.frame).plan) (past : MemberHasSeen (setup_in plan old.frame) old.seen m last) (held : IsHeldTask d (setup_in plan old.frame) old.seen m last task) where
+    pub held_later : IsHeldTask d (setup_in plan old.frame) new.seen m last task
+    held_later = subst (λ j. IsHeldTask d (setup_in plan old.frame) j m last task) (sym l.seen)
+        (record {
+          of = held.of;
+          held = held_stays (setup_in plan old.frame) old.seen l.more m.number m.generation last (task_view task) net l.history past held.held;
+          inside = held.inside;
+        })
 
     module _ (part from next : ℕ) (recs : List (ℕ × Rec)) (input : has_topic topic ((setup_in plan old.frame).plan.inputs (task_view task).task.sub) ≡ true) (is : part ≡ (task_view task).task.part) (at_it : from ≡ (task_view task).inputs topic)
         (records : recs ≡ (fetched (state_seen plan new) (record { topic = topic; part = part }) from 32).0) (goes : next ≡ (fetched (state_seen plan new) (record { topic = topic; part = part }) from 32).1) where
@@ -97,11 +116,13 @@ module _ {W : Type 0} (plan : W → TaskPlan) (old new : PassView Entry (Frame W
         seen_view : task_view after ≡ skip_view (take_all (setup_in plan old.frame).plan (task_view task) topic (fetched (at (setup_in plan old.frame) new.seen) (part_of topic (task_view task).task) ((task_view task).inputs topic) 32).0) topic (fetched (at (setup_in plan old.frame) new.seen) (part_of topic (task_view task).task) ((task_view task).inputs topic) 32).1
         seen_view = view ∙ ap (λ (g : List (ℕ × Rec) × ℕ). skip_view (take_all (setup_in plan old.frame).plan (task_view task) topic g.0) topic g.1) gave
 
-        pub held_read : IsHeldTask d (setup_in plan old.frame) new.seen m after
+        pub held_read : IsHeldTask d (setup_in plan old.frame) new.seen m last after
         held_read = record {
           of = of;
-          held = subst (IsHeld (setup_in plan old.frame) new.seen m.number m.generation m.last) (sym seen_view)
-              (fetching_holds (setup_in plan old.frame) new.seen m.number m.generation m.last (task_view task) topic 32 net input (omega arith) held_later.held more);
+          held = subst (IsHeld (setup_in plan old.frame) new.seen m.number m.generation last) (sym seen_view)
+              (fetching_holds (setup_in plan old.frame) new.seen m.number m.generation last (task_view task) topic 32 net input (omega arith) held_later.held more);
+          inside = λ sends. subst (MakesInside (setup_in plan old.frame)) (sym seen_view)
+              (takes_inside (setup_in plan old.frame) topic (fetched (at (setup_in plan old.frame) new.seen) (part_of topic (task_view task).task) ((task_view task).inputs topic) 32).0 (task_view task) sends held.held.known input (held.inside sends));
         }
 
         pub read_moves : IsReadOnce (setup_in plan old.frame) old.seen topic true task after

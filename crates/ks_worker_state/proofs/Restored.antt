@@ -36,8 +36,9 @@ use Rattle.ks_task.specs.Tasks.{task_view, IsTaskOf}
 use Rattle.ks_worker_state.specs.Topology.{RunsTopology}
 use Rattle.ks_worker_state.specs.Standbys.{IsStandby, IsFedStandby}
 use Rattle.ks_task.specs.declared.task.Task.{Task}
-use Rattle.ks_worker_state.specs.declared.member.Member.{Member}
-use Rattle.ks_worker_state.specs.Tasks.{MemberHasSeen, IsHeldTask}
+use Rattle.ks_client.specs.declared.member.Member.{Member}
+use Rattle.ks_client.specs.Members.{MemberHasSeen}
+use Rattle.ks_worker_state.specs.Tasks.{IsHeldTask}
 use Rattle.ks_worker_state.specs.Restoring.{reached_in, IsMadeAtTheEnds}
 
 -- ---- the partitions of a task's changelogs
@@ -93,16 +94,17 @@ module _ {W : Type 0} (plan : W → TaskPlan) (old asked told new : PassView Ent
 
 -- the task that was made at the ends is the member's
 module _ {W : Type 0} (plan : W → TaskPlan) (old asked new : PassView Entry (Frame W)) (one : Later plan old asked) where
-  pub made_held : (d : DraftView) (m : Member) (t : TaskId) (offsets : List (ℕ × ℕ)) (made : Task) → IsNetwork (setup_in plan old.frame).plan → MemberHasSeen (setup_in plan old.frame) old.seen m →
+  pub made_held : (d : DraftView) (m : Member) (last : ℕ) (t : TaskId) (offsets : List (ℕ × ℕ)) (made : Task) → IsNetwork (setup_in plan old.frame).plan → MemberHasSeen (setup_in plan old.frame) old.seen m last →
       committed_refusal (state_seen plan asked) m.number m.generation t ≡ None → offsets ≡ committed_offsets (setup_in plan old.frame) (state_seen plan asked) t →
-      IsMadeAtTheEnds plan d asked new t offsets made → IsHeldTask d (setup_in plan old.frame) new.seen m made
-  made_held d m t offsets made net past free listing k = record {
+      IsMadeAtTheEnds plan d asked new t offsets made → IsHeldTask d (setup_in plan old.frame) new.seen m last made
+  made_held d m last t offsets made net past free listing k = record {
     of = k.of;
-    held = subst (IsHeld (setup_in plan old.frame) new.seen m.number m.generation m.last) (sym k.view)
-        (held_restored plan old asked k.told new one k.since k.before m.number m.generation m.last t k.replica offsets ((setup_in plan asked.frame).plan.changelogs t.sub)
+    held = subst (IsHeld (setup_in plan old.frame) new.seen m.number m.generation last) (sym k.view)
+        (held_restored plan old asked k.told new one k.since k.before m.number m.generation last t k.replica offsets ((setup_in plan asked.frame).plan.changelogs t.sub)
         (ends_of (state_seen plan k.told) (map (λ n. part_of n t) ((setup_in plan asked.frame).plan.changelogs t.sub))) (map (λ n. part_of n t) ((setup_in plan asked.frame).plan.changelogs t.sub))
         net past (subst (λ f. IsStandby (setup_in plan f) new.seen k.replica) (same_frame plan old asked one) k.standby) k.named free listing
         (ap (λ f. (setup_in plan f).plan.changelogs t.sub) (same_frame plan old asked one)) refl refl k.reached);
+    inside = λ sends q some. absurd (some (ap (λ (v : TaskView). v.made q) k.view));
   }
 
 -- of an answer within an answer

@@ -3,3 +3,4 @@ pub mod Standbys
 pub mod Tasks
 pub mod Topology
 pub mod Worker
+pub mod State

@@ -1,26 +1,29 @@
 -- A worker's tasks (KIP-441: active tasks).
-use Rattle.std.specs.Prelude.{◌≡◌, ◌≤◌, ◌<◌, ℕ, Bool, true, false, List}
+use Rattle.std.specs.Prelude.{◌≡◌, ◌≢◌, ◌≤◌, ◌<◌, ℕ, Bool, true, false, List, []}
+use Rattle.ks_row.specs.declared.record.PartId.{PartId}
 use Rattle.ks_plan.specs.Drafts.{DraftView}
 use Rattle.ks_history.specs.declared.journal.Entry.{Entry}
 use Rattle.ks_history.specs.Machine.{part_of}
-use Rattle.ks_history.specs.State.{Setup}
+use Rattle.ks_history.specs.State.{Setup, IsPart}
+use Rattle.ks_history.specs.Follows.{TaskView}
 use Rattle.ks_history.specs.History.{at}
-use Rattle.ks_law_sharing.specs.Tasks.{HasSeen}
+use Rattle.ks_law_restore.specs.Views.{SendsInside}
 use Rattle.ks_law_worker.specs.Bounds.{stable_of}
 use Rattle.ks_law_worker.specs.Held.{IsHeld}
 use Rattle.ks_law_worker.specs.Moves.{HasRead}
 use Rattle.ks_task.specs.declared.task.Task.{Task}
 use Rattle.ks_task.specs.Tasks.{task_view, IsTaskOf}
-use Rattle.ks_worker_state.specs.declared.member.Member.{Member}
+use Rattle.ks_client.specs.declared.member.Member.{Member}
 
--- the member's generation and the place that it remembers are of the journal's past
-abbrev pub MemberHasSeen : Setup → List Entry → Member → Type 0
-MemberHasSeen setup journal m = HasSeen setup journal m.number m.generation m.last
+-- all that a task made since its last commit goes to partitions of the cluster
+abbrev pub MakesInside : Setup → TaskView → Type 0
+MakesInside setup v = (q : PartId) → v.made q ≢ [] → IsPart setup q
 
--- a task of this topology that the member holds
-pub record IsHeldTask (d : DraftView) (setup : Setup) (journal : List Entry) (m : Member) (t : Task) : Type 0 where
+-- a task of this topology that the member holds, whose producer remembers the place `last`
+pub record IsHeldTask (d : DraftView) (setup : Setup) (journal : List Entry) (m : Member) (last : ℕ) (t : Task) : Type 0 where
   pub of : IsTaskOf d t
-  pub held : IsHeld setup journal m.number m.generation m.last (task_view t)
+  pub held : IsHeld setup journal m.number m.generation last (task_view t)
+  pub inside : SendsInside setup → MakesInside setup (task_view t)
 
 -- one fetch of an input since the journal was `h`: it moved the task there, or did nothing and nothing stable was left there
 pub record IsReadOnce (setup : Setup) (h : List Entry) (topic : ℕ) (moved : Bool) (old new : Task) : Type 0 where

@@ -3,14 +3,12 @@
 
 mod feeding;
 pub mod laws;
-mod member;
 mod reading;
 mod restoring;
 mod state;
 mod topics;
 
 pub use feeding::{feed_from, feed_once, feed_to_the_end};
-pub use member::Member;
 pub use reading::read_once;
 pub use restoring::restore;
 pub use state::WorkerState;

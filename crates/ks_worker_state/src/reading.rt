@@ -1,5 +1,5 @@
 //! A worker's tasks read.
-ghost use Rattle.std.specs.Prelude.{◌≡◌, true, OnOk, IfOk};
+ghost use Rattle.std.specs.Prelude.{◌≡◌, true, false, OnOk, IfOk};
 ghost use Rattle.ks_history.specs.Machine.{has_topic};
 ghost use Rattle.ks_plan.specs.Infos.{input_numbers};
 ghost use Rattle.ks_topo.specs.Topologies.{draft_of, plan_in};
@@ -10,11 +10,11 @@ ghost use Rattle.ks_shared.specs.Calls.{setup_in};
 ghost use Rattle.ks_task.specs.Tasks.{task_view, IsTaskOf};
 ghost use Rattle.ks_client.specs.Turns.{counts_after};
 ghost use Rattle.ks_client.specs.Calls.{MayCall, Later};
-ghost use Rattle.ks_worker_state.specs.Tasks.{MemberHasSeen, IsHeldTask, IsReadOnce};
+ghost use Rattle.ks_client.specs.Members.{MemberHasSeen};
+ghost use Rattle.ks_worker_state.specs.Tasks.{IsHeldTask, IsReadOnce};
 ghost use Rattle.ks_worker_state.specs.Topology.{RunsTopology};
 
-use crate::member::Member;
-use ks_client::{ClusterClient, Halt, or_halt};
+use ks_client::{Halt, Member, Session, or_halt};
 use ks_cluster::Work;
 use ks_edge::Gate;
 use ks_hash::Hash128;
@@ -53,32 +53,36 @@ pub fn read_once<H: Hash128, R: Wait, W: Work, G: Gate>(
     alloc: Global,
     topology: &Topology,
     shared: &Shared<W>,
-    client: &mut ClusterClient<W, G>,
+    session: &mut Session<W, G>,
     member: &Member,
     task: &mut Task,
     topic: u16,
 ) -> Result<bool, Halt>
-    requires may { MayCall W.plan shared.now.growing.id client.old.pass client.old.gate }
+    requires may { MayCall W.plan shared.now.growing.id session.old.client.pass session.old.client.gate }
     requires topology { RunsTopology H.hash_of (draft_of topology.now)
-        (setup_in W.plan client.old.pass.frame) }
-    requires seen { MemberHasSeen (setup_in W.plan client.old.pass.frame) client.old.pass.seen member.now }
-    requires task { IsHeldTask (draft_of topology.now) (setup_in W.plan client.old.pass.frame)
-        client.old.pass.seen member.now task.old }
+        (setup_in W.plan session.old.client.pass.frame) }
+    requires seen { MemberHasSeen (setup_in W.plan session.old.client.pass.frame)
+        session.old.client.pass.seen member.now session.old.last }
+    requires task { IsHeldTask (draft_of topology.now) (setup_in W.plan session.old.client.pass.frame)
+        session.old.client.pass.seen member.now session.old.last task.old }
     requires input { has_topic topic (input_numbers (plan_in topology.now)
         (task_view task.old).task.sub) ≡ true }
-    ensures gate { client.new.gate ≡ counts_after client.old.gate result }
-    ensures later { Later W.plan client.old.pass client.new.pass }
-    ensures task { OnOk result (IsHeldTask (draft_of topology.now) (setup_in W.plan client.old.pass.frame)
-        client.new.pass.seen member.now task.new) }
-    ensures read { IfOk result (λ moved. IsReadOnce (setup_in W.plan client.old.pass.frame)
-        client.old.pass.seen topic moved task.old task.new) }
+    ensures gate { session.new.client.gate ≡ counts_after session.old.client.gate result }
+    ensures last { session.new.last ≡ session.old.last }
+    ensures numbers { session.new.numbers ≡ session.old.numbers }
+    ensures later { Later W.plan session.old.client.pass session.new.client.pass }
+    ensures task { OnOk result (IsHeldTask (draft_of topology.now) (setup_in W.plan session.old.client.pass.frame)
+        session.new.client.pass.seen member.now session.old.last task.new) }
+    ensures read { IfOk result (λ moved. IsReadOnce (setup_in W.plan session.old.client.pass.frame)
+        session.old.client.pass.seen topic moved task.old task.new) }
+    ensures stays { IfOk result (λ moved. moved ≡ false → task.new ≡ task.old) }
 {
     let from = task.input_position(topic);
     let part = PartId {
         topic,
         part: task.id().part,
     };
-    let (recs, next) = client.fetch(rt, alloc, shared, part, from)?;
+    let (recs, next) = session.client.fetch(rt, alloc, shared, part, from)?;
     if next == from {
         return Ok(false);
     }

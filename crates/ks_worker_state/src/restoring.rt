@@ -15,14 +15,14 @@ ghost use Rattle.ks_client.specs.declared.halt.Halt.TheVariants.{OutOfMemory};
 ghost use Rattle.ks_client.specs.Turns.{counts_after};
 ghost use Rattle.ks_client.specs.Calls.{MayCall, Later, state_seen};
 ghost use Rattle.ks_worker_state.specs.Standbys.{IsStandby};
-ghost use Rattle.ks_worker_state.specs.Tasks.{MemberHasSeen, IsHeldTask};
+ghost use Rattle.ks_client.specs.Members.{MemberHasSeen};
+ghost use Rattle.ks_worker_state.specs.Tasks.{IsHeldTask};
 ghost use Rattle.ks_worker_state.specs.Topology.{RunsTopology};
 ghost use Rattle.ks_worker_state.specs.Restoring.{reached_in, IsMadeAtTheEnds};
 
 use crate::feeding::feed_to_the_end;
-use crate::member::Member;
 use crate::topics::changelogs_in;
-use ks_client::{ClusterClient, Halt, or_halt};
+use ks_client::{ClusterClient, Halt, Member, Session, or_halt};
 use ks_cluster::Work;
 use ks_edge::Gate;
 use ks_hash::Hash128;
@@ -158,27 +158,32 @@ pub fn restore<H: Hash128, R: Wait, W: Work, G: Gate>(
     alloc: Global,
     topology: &Topology,
     shared: &Shared<W>,
-    client: &mut ClusterClient<W, G>,
+    session: &mut Session<W, G>,
     member: Member,
     replica: Replica,
 ) -> Result<Result<Task, Replica>, Halt>
-    requires may { MayCall W.plan shared.now.growing.id client.old.pass client.old.gate }
+    requires may { MayCall W.plan shared.now.growing.id session.old.client.pass session.old.client.gate }
     requires topology { RunsTopology H.hash_of (draft_of topology.now)
-        (setup_in W.plan client.old.pass.frame) }
+        (setup_in W.plan session.old.client.pass.frame) }
     requires worker { member.number ≤ 16 }
-    requires seen { MemberHasSeen (setup_in W.plan client.old.pass.frame) client.old.pass.seen member }
-    requires standby { IsStandby (setup_in W.plan client.old.pass.frame) client.old.pass.seen replica }
-    ensures gate { client.new.gate ≡ counts_after client.old.gate result }
-    ensures later { Later W.plan client.old.pass client.new.pass }
+    requires seen { MemberHasSeen (setup_in W.plan session.old.client.pass.frame)
+        session.old.client.pass.seen member session.old.last }
+    requires standby { IsStandby (setup_in W.plan session.old.client.pass.frame) session.old.client.pass.seen replica }
+    ensures gate { session.new.client.gate ≡ counts_after session.old.client.gate result }
+    ensures last { session.new.last ≡ session.old.last }
+    ensures numbers { session.new.numbers ≡ session.old.numbers }
+    ensures later { Later W.plan session.old.client.pass session.new.client.pass }
     ensures task { IfOk result (λ r. IfOk r (λ t. IsHeldTask (draft_of topology.now)
-        (setup_in W.plan client.old.pass.frame) client.new.pass.seen member t)) }
+        (setup_in W.plan session.old.client.pass.frame) session.new.client.pass.seen member session.old.last t)) }
     ensures named { IfOk result (λ r. IfOk r (λ t. (task_view t).task ≡ replica.id)) }
     ensures standby { IfOk result (λ r. IfErr r (λ b. IsStandby
-        (setup_in W.plan client.old.pass.frame) client.new.pass.seen b)) }
+        (setup_in W.plan session.old.client.pass.frame) session.new.client.pass.seen b)) }
     ensures same { IfOk result (λ r. IfErr r (λ b. b.id ≡ replica.id)) }
 {
     let task = replica.id();
-    let answer = client.committed(rt, alloc, shared, member.number, member.generation, task)?;
+    let answer = session
+        .client
+        .committed(rt, alloc, shared, member.number, member.generation, task)?;
     let Ok(offsets) = answer else {
         return Ok(Err(replica));
     };
@@ -187,7 +192,7 @@ pub fn restore<H: Hash128, R: Wait, W: Work, G: Gate>(
         alloc,
         topology,
         shared,
-        client,
+        &mut session.client,
         replica,
         offsets.as_slice(),
     )

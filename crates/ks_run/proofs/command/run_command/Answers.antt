@@ -14,7 +14,7 @@ returns-in-Some-Load-clause-write_fault g c = λ e.
     let fault = c.run_load.ensures.write_fault e in
     let left = g.S.Source.left c.args.input.now in
     let faults = g.S.Source.faults c.args.input.now in
-    let load : c.in-Some-Load.field-0 ≡ Load c.in-Some-Load.orders c.in-Some-Load.field-0-1 = rw c.in-Some-Load.is at c.in-Some-Load.field-0-is in
+    let load : c.in-Some-Load.field-0 ≡ Load c.in-Some-Load.orders c.in-Some-Load.settings = rw c.in-Some-Load.is at c.in-Some-Load.field-0-is in
     let judged = subst (λ (command : Option Command). IsJudgedBy command (rules_of murmur3_of) left left faults faults fault.1.0 fault.1.1 c.run_load.result.journal) (sym (c.in-Some-Load.is ∙ ap Some load)) fault.1.2 in
     (fault.0, (fault.1.0, fault.1.1, judged, fault.1.3))
 

@@ -6,5 +6,5 @@ pub returns-in-Ok-Ok : goal.returns-in-Ok-Ok
 returns-in-Ok-Ok g c = IfOk-weaker c.settle_job.result _ _
     (λ a h. judged_settled _ _ _ _ _ _ c.in-Ok-Ok.items a.status a.text.items a.journal c.in-Ok-Ok.ensures.kept (rw c.in-Ok-Ok.field-0-is at c.in-Ok-Ok.ensures.end) (rw c.in-Ok-Ok.field-0-is at c.in-Ok-Ok.ensures.read) h) c.settle_job.ensures
 
-pub returns-in_ok-text-in-Ok-Err : goal.returns-in_ok-text-in-Ok-Err
-returns-in_ok-text-in-Ok-Err g c = judged_bad_job _ _ _ _ _ _ _ _ c.in-Ok-Err.ensures.kept (bad_job_read _ c.in-Ok-Err.stop _ (rw c.in-Ok-Err.field-0-is at c.in-Ok-Err.ensures.read) c.in_ok-text-in-Ok-Err.ensures) c.new.ensures
+pub returns-in-Ok-Err : goal.returns-in-Ok-Err
+returns-in-Ok-Err g c = judged_bad_job _ _ _ _ _ _ _ _ c.in-Ok-Err.ensures.kept (bad_job_read _ c.in-Ok-Err.stop _ (rw c.in-Ok-Err.field-0-is at c.in-Ok-Err.ensures.read) c.in_ok-text-in-Ok-Err.ensures) c.new.ensures

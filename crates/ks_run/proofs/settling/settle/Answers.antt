@@ -1,4 +1,4 @@
-use Rattle.std.proofs.Common.{◌∙◌, ap, map, refl}
+use Rattle.std.proofs.Common.{◌∙◌, ap, map, refl, sym}
 use Rattle.std.proofs.lemmas.Result.{IfOk-weaker}
 use Rattle.ks_plan.specs.declared.node.TopicInfo.{TopicInfo}
 use Rattle.ks_topo.specs.Topologies.{draft_of}
@@ -6,7 +6,7 @@ use Rattle.ks_job.specs.Items.{item_views}
 use Rattle.ks_cluster.specs.View as kept
 use Rattle.ks_run.proofs.Counts.{shown_counts}
 use Rattle.ks_run.specs.Told.{with_lines}
-use Rattle.ks_run.proofs.Settles.{IsRunnable, IsDrained, setup_is, setup_made, parts_ready, records_ready, produced_setup, drained_setup, nodes_ready, settled_answers, is_of}
+use Rattle.ks_run.proofs.Settles.{IsRunnable, IsDrained, setup_is, setup_made, parts_ready, records_ready, filled_setup, drained_setup, nodes_ready, settled_answers, is_of}
 use Rattle.ks_run.proofs.settling.settle.Goals as goal
 
 pub new-requires : goal.new-requires
@@ -17,24 +17,29 @@ new-requires g c =
     let setup = setup_is hash d (g.W.Work.plan c.args.work) c.in_ok-kept.kept.items c.in_ok-tasks.tasks.items c.requires.work (c.in_ok-kept.ensures.items ∙ (c.as_slice.ensures.value ∙ counts)) (c.in_ok-tasks.ensures.items ∙ c.tasks.ensures) in
     setup_made hash d _ setup c.nodes-nodes.ensures.well_formed
 
-pub produce_all-requires-clause-parts : goal.produce_all-requires-clause-parts
-produce_all-requires-clause-parts g c =
+pub run_crew-requires-clause-ready : goal.run_crew-requires-clause-ready
+run_crew-requires-clause-ready g c κs within =
     let d = draft_of c.args.topology.now in
+    let hash = g.H.Hash128.hash_of in
     let counts = c.in_ok-counts.ensures ∙ (ap (map (λ (i : TopicInfo). i.parts)) c.topics.ensures ∙ shown_counts d) in
-    parts_ready g.H.Hash128.hash_of d (g.W.Work.plan c.in_ok-cluster.cluster.work) c.as_slice-2.result.now c.nodes-nodes.ensures.well_formed c.requires.partitions
-    (ap (λ k. g.W.Work.plan k.work) c.in_ok-cluster.ensures ∙ c.requires.work) (c.as_slice-2.ensures.value ∙ counts)
-
-pub produce_all-requires-clause-records : goal.produce_all-requires-clause-records
-produce_all-requires-clause-records g c =
-    records_ready g.H.Hash128.hash_of (draft_of c.args.topology.now) (g.W.Work.plan c.in_ok-cluster.cluster.work) (item_views c.args.records.items)
-    (ap (λ k. g.W.Work.plan k.work) c.in_ok-cluster.ensures ∙ c.requires.work) c.requires.records
+    let empty = c.in_ok-empty.empty in
+    let work = ap (λ k. g.W.Work.plan k.work) c.in_ok-empty.ensures ∙ c.requires.work in
+    record {
+      new = ap (λ k. k.journal) c.in_ok-empty.ensures;
+      topology = ap (λ k. kept.setup_of g.W.Work.plan k) c.in_ok-empty.ensures
+          ∙ setup_is hash d (g.W.Work.plan c.args.work) c.in_ok-kept.kept.items c.in_ok-tasks.tasks.items c.requires.work (c.in_ok-kept.ensures.items ∙ (c.as_slice.ensures.value ∙ counts)) (c.in_ok-tasks.ensures.items ∙ c.tasks.ensures);
+      nodes = nodes_ready d c.nodes-nodes.ensures.well_formed c.requires.partitions;
+      counts_are = c.as_slice-2.ensures.value ∙ (sym c.as_slice.ensures.value ∙ (sym c.in_ok-kept.ensures.items ∙ sym (ap (λ k. k.counts) c.in_ok-empty.ensures)));
+      parts = parts_ready hash d (g.W.Work.plan empty.work) c.as_slice-2.result.now c.nodes-nodes.ensures.well_formed c.requires.partitions work (c.as_slice-2.ensures.value ∙ counts);
+      records = records_ready hash d (g.W.Work.plan empty.work) (item_views c.args.records.items) work c.requires.records;
+    }
 
 pub drain-requires-clause-setup : goal.drain-requires-clause-setup
 drain-requires-clause-setup g c κs within =
     let d = draft_of c.args.topology.now in
     let counts = c.in_ok-counts.ensures ∙ (ap (map (λ (i : TopicInfo). i.parts)) c.topics.ensures ∙ shown_counts d) in
-    produced_setup g.W.Work.plan c.in_ok-cluster.cluster c.produce_all.new.cluster _ c.in_ok-produce_all.ensures.ok
-    ∙ (ap (λ k. kept.setup_of g.W.Work.plan k) c.in_ok-cluster.ensures
+    filled_setup g.W.Work.plan c.in_ok-empty.empty c.in_ok-cluster.cluster _ c.in_ok-cluster.ensures
+    ∙ (ap (λ k. kept.setup_of g.W.Work.plan k) c.in_ok-empty.ensures
     ∙ setup_is g.H.Hash128.hash_of d (g.W.Work.plan c.args.work) c.in_ok-kept.kept.items c.in_ok-tasks.tasks.items c.requires.work (c.in_ok-kept.ensures.items ∙ (c.as_slice.ensures.value ∙ counts)) (c.in_ok-tasks.ensures.items ∙ c.tasks.ensures))
 
 pub drain-requires-clause-parts : goal.drain-requires-clause-parts
@@ -45,24 +50,24 @@ judge-requires-clause-of g c κs within =
     let d = draft_of c.args.topology.now in
     let hash = g.H.Hash128.hash_of in
     let counts = c.in_ok-counts.ensures ∙ (ap (map (λ (i : TopicInfo). i.parts)) c.topics.ensures ∙ shown_counts d) in
-    let setup = ap (λ k. kept.setup_of g.W.Work.plan k) c.in_ok-cluster.ensures
+    let setup = ap (λ k. kept.setup_of g.W.Work.plan k) c.in_ok-empty.ensures
     ∙ setup_is hash d (g.W.Work.plan c.args.work) c.in_ok-kept.kept.items c.in_ok-tasks.tasks.items c.requires.work (c.in_ok-kept.ensures.items ∙ (c.as_slice.ensures.value ∙ counts)) (c.in_ok-tasks.ensures.items ∙ c.tasks.ensures) in
     is_of hash d c.args.topology.now (kept.setup_of g.W.Work.plan c.drain.new.cluster) refl c.nodes-nodes.ensures.well_formed
-    (drained_setup g.W.Work.plan c.produce_all.new.cluster c.drain.new.cluster c.in_ok-drain.ensures.more
-    ∙ (produced_setup g.W.Work.plan c.in_ok-cluster.cluster c.produce_all.new.cluster _ c.in_ok-produce_all.ensures.ok ∙ setup))
+    (drained_setup g.W.Work.plan c.in_ok-cluster.cluster c.drain.new.cluster c.in_ok-drain.ensures.more
+    ∙ (filled_setup g.W.Work.plan c.in_ok-empty.empty c.in_ok-cluster.cluster _ c.in_ok-cluster.ensures ∙ setup))
 
 pub judge-requires-clause-counts : goal.judge-requires-clause-counts
 judge-requires-clause-counts g c κs within =
     let d = draft_of c.args.topology.now in
     let counts = c.in_ok-counts.ensures ∙ (ap (map (λ (i : TopicInfo). i.parts)) c.topics.ensures ∙ shown_counts d) in
-    ap (λ k. k.counts) c.in_ok-drain.ensures.more.same ∙ (c.in_ok-produce_all.ensures.ok.counts ∙ (ap (λ k. k.counts) c.in_ok-cluster.ensures ∙ (c.in_ok-kept.ensures.items ∙ (c.as_slice.ensures.value ∙ counts))))
+    ap (λ k. k.counts) c.in_ok-drain.ensures.more.same ∙ (ap (λ f. f.counts) c.in_ok-cluster.ensures.frame ∙ (ap (λ k. k.counts) c.in_ok-empty.ensures ∙ (c.in_ok-kept.ensures.items ∙ (c.as_slice.ensures.value ∙ counts))))
 
 pub returns : goal.returns
 returns g c =
     let d = draft_of c.args.topology.now in
     let hash = g.H.Hash128.hash_of in
     let counts = c.in_ok-counts.ensures ∙ (ap (map (λ (i : TopicInfo). i.parts)) c.topics.ensures ∙ shown_counts d) in
-    let setup = ap (λ k. kept.setup_of g.W.Work.plan k) c.in_ok-cluster.ensures
+    let setup = ap (λ k. kept.setup_of g.W.Work.plan k) c.in_ok-empty.ensures
     ∙ setup_is hash d (g.W.Work.plan c.args.work) c.in_ok-kept.kept.items c.in_ok-tasks.tasks.items c.requires.work (c.in_ok-kept.ensures.items ∙ (c.as_slice.ensures.value ∙ counts)) (c.in_ok-tasks.ensures.items ∙ c.tasks.ensures) in
     let ready : IsRunnable hash d (item_views c.args.records.items) = record {
       fine = c.nodes-nodes.ensures.well_formed;
@@ -73,7 +78,7 @@ returns g c =
     } in
     let done : IsDrained (kept.setup_of g.W.Work.plan c.drain.new.cluster) c.drain.new.cluster.journal = record { history = c.end_run.ensures.history; few = c.end_run.ensures.few; settled = c.in_ok-drain.ensures.settled } in
     IfOk-weaker c.end_run.result _ _
-    (λ a h. settled_answers hash c.args.shown d g.W.Work.plan (item_views c.args.records.items) c.in_ok-cluster.cluster c.produce_all.new.cluster c.drain.new.cluster c.as_slice-2.result.now a.status a.text.items a.journal ready
-    setup (ap (λ k. k.journal) c.in_ok-cluster.ensures) (c.as_slice-2.ensures.value ∙ counts) c.in_ok-produce_all.ensures.ok c.in_ok-drain.ensures.more done
-    (h.0 ∙ ap (with_lines c.args.shown c.drain.new.cluster.journal) c.in_ok-verdict.ensures) h.1)
+    (λ a h. settled_answers hash c.args.crew.settings.journal d g.W.Work.plan (item_views c.args.records.items) c.in_ok-empty.empty c.in_ok-cluster.cluster c.drain.new.cluster c.as_slice-2.result.now a.status a.text.items a.journal ready
+    setup (c.as_slice-2.ensures.value ∙ counts) c.in_ok-cluster.ensures c.in_ok-drain.ensures.more done
+    (h.0 ∙ ap (with_lines c.args.crew.settings.journal c.drain.new.cluster.journal) c.in_ok-verdict.ensures) h.1)
     c.end_run.ensures.made

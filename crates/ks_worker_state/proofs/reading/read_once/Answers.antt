@@ -13,32 +13,32 @@ use Rattle.ks_worker_state.proofs.reading.read_once.Goals as goal
 
 pub fetch-requires-clause-fetch : goal.fetch-requires-clause-fetch
 fetch-requires-clause-fetch g c =
-    let setup = setup_in g.W.Work.plan c.args.client.now.pass.frame in
-    may_read setup c.args.client.now.pass.seen c.args.member.now.number c.args.member.now.generation c.args.member.now.last (task_view c.args.task.now) c.args.topic c.id.result.part c.input_position-from.result
+    let setup = setup_in g.W.Work.plan c.args.session.now.client.pass.frame in
+    may_read setup c.args.session.now.client.pass.seen c.args.member.now.number c.args.member.now.generation c.args.session.now.last (task_view c.args.task.now) c.args.topic c.id.result.part c.input_position-from.result
     c.requires.may.setup c.requires.task.held (own_input g.H.Hash128.hash_of (draft_of c.args.topology.now) setup c.args.topic (task_view c.args.task.now).task.sub c.requires.topology c.requires.input)
     (ap (λ (t : TaskId). t.part) c.id.ensures) c.input_position-from.ensures
 
 pub returns-then-next-from-clause-task : goal.returns-then-next-from-clause-task
 returns-then-next-from-clause-task g c =
-    held_later g.W.Work.plan _ _ c.fetch.ensures.later (draft_of c.args.topology.now) c.args.member.now c.args.topic c.args.task.now c.requires.may.network c.requires.seen c.requires.task
+    held_later g.W.Work.plan _ _ c.fetch.ensures.later (draft_of c.args.topology.now) c.args.member.now c.args.session.now.last c.args.topic c.args.task.now c.requires.may.network c.requires.seen c.requires.task
 
 pub returns-then-next-from-clause-read : goal.returns-then-next-from-clause-read
 returns-then-next-from-clause-read g c =
-    let setup = setup_in g.W.Work.plan c.args.client.now.pass.frame in
-    read_stops g.W.Work.plan _ _ c.fetch.ensures.later (draft_of c.args.topology.now) c.args.member.now c.args.topic c.args.task.now c.requires.may.network c.requires.seen c.requires.task
+    let setup = setup_in g.W.Work.plan c.args.session.now.client.pass.frame in
+    read_stops g.W.Work.plan _ _ c.fetch.ensures.later (draft_of c.args.topology.now) c.args.member.now c.args.session.now.last c.args.topic c.args.task.now c.requires.may.network c.requires.seen c.requires.task
     c.id.result.part c.input_position-from.result c.in_ok-recs.next c.in_ok-recs.recs.items (own_input g.H.Hash128.hash_of (draft_of c.args.topology.now) setup c.args.topic (task_view c.args.task.now).task.sub c.requires.topology c.requires.input)
     (ap (λ (t : TaskId). t.part) c.id.ensures) c.input_position-from.ensures c.in_ok-recs.ensures.records c.in_ok-recs.ensures.next c.if-next-from.true
 
 pub returns-clause-task : goal.returns-clause-task
 returns-clause-task g c =
     let d = draft_of c.args.topology.now in
-    let setup = setup_in g.W.Work.plan c.args.client.now.pass.frame in
+    let setup = setup_in g.W.Work.plan c.args.session.now.client.pass.frame in
     let work = work_of (rules_of g.H.Hash128.hash_of) (plan_in c.args.topology.now) in
     let took = sym c.or_halt.ensures ∙ c.in_ok-or_halt.was in
     let view = was_ok c.take_fetched.result _ _ took c.take_fetched.ensures.view in
     let of = was_ok c.take_fetched.result _ _ took c.take_fetched.ensures.task in
     let there = still_input (input_numbers (plan_in c.args.topology.now)) work c.args.topic (task_view c.args.task.now) (task_view c.take_fetched.new.task) c.as_slice.result.now view c.requires.input in
-    held_read g.W.Work.plan _ _ c.fetch.ensures.later d c.args.member.now c.args.topic c.args.task.now c.requires.may.network c.requires.seen c.requires.task
+    held_read g.W.Work.plan _ _ c.fetch.ensures.later d c.args.member.now c.args.session.now.last c.args.topic c.args.task.now c.requires.may.network c.requires.seen c.requires.task
     c.id.result.part c.input_position-from.result c.in_ok-recs.next c.in_ok-recs.recs.items (own_input g.H.Hash128.hash_of d setup c.args.topic (task_view c.args.task.now).task.sub c.requires.topology c.requires.input)
     (ap (λ (t : TaskId). t.part) c.id.ensures) c.input_position-from.ensures c.in_ok-recs.ensures.records c.in_ok-recs.ensures.next
     c.skip.new.self (c.skip.ensures.task d of) c.if-next-from.false
@@ -48,13 +48,13 @@ returns-clause-task g c =
 pub returns-clause-read : goal.returns-clause-read
 returns-clause-read g c =
     let d = draft_of c.args.topology.now in
-    let setup = setup_in g.W.Work.plan c.args.client.now.pass.frame in
+    let setup = setup_in g.W.Work.plan c.args.session.now.client.pass.frame in
     let work = work_of (rules_of g.H.Hash128.hash_of) (plan_in c.args.topology.now) in
     let took = sym c.or_halt.ensures ∙ c.in_ok-or_halt.was in
     let view = was_ok c.take_fetched.result _ _ took c.take_fetched.ensures.view in
     let of = was_ok c.take_fetched.result _ _ took c.take_fetched.ensures.task in
     let there = still_input (input_numbers (plan_in c.args.topology.now)) work c.args.topic (task_view c.args.task.now) (task_view c.take_fetched.new.task) c.as_slice.result.now view c.requires.input in
-    read_moves g.W.Work.plan _ _ c.fetch.ensures.later d c.args.member.now c.args.topic c.args.task.now c.requires.may.network c.requires.seen c.requires.task
+    read_moves g.W.Work.plan _ _ c.fetch.ensures.later d c.args.member.now c.args.session.now.last c.args.topic c.args.task.now c.requires.may.network c.requires.seen c.requires.task
     c.id.result.part c.input_position-from.result c.in_ok-recs.next c.in_ok-recs.recs.items (own_input g.H.Hash128.hash_of d setup c.args.topic (task_view c.args.task.now).task.sub c.requires.topology c.requires.input)
     (ap (λ (t : TaskId). t.part) c.id.ensures) c.input_position-from.ensures c.in_ok-recs.ensures.records c.in_ok-recs.ensures.next
     c.skip.new.self (c.skip.ensures.task d of) c.if-next-from.false

@@ -14,7 +14,7 @@ use Rattle.ks_worker_state.proofs.Restored.{both_ok, made_held, ok_said, free_sa
 use Rattle.ks_worker_state.proofs.restoring.restore.Goals as goal
 
 pub committed-requires-clause-task : goal.committed-requires-clause-task
-committed-requires-clause-task g c = subst (λ u. has_task u (setup_in g.W.Work.plan c.args.client.now.pass.frame).tasks ≡ true) (sym c.id-task.ensures) c.requires.standby.known
+committed-requires-clause-task g c = subst (λ u. has_task u (setup_in g.W.Work.plan c.args.session.now.client.pass.frame).tasks ≡ true) (sym c.id-task.ensures) c.requires.standby.known
 
 pub returns-in_default-clause-standby : goal.returns-in_default-clause-standby
 returns-in_default-clause-standby g c = standby_later g.W.Work.plan _ _ c.committed.new.self.pass c.committed.ensures.later _ c.requires.may.network c.requires.standby
@@ -37,9 +37,9 @@ returns-clause-later g c = later_twice g.W.Work.plan _ _ _ c.committed.ensures.l
 pub returns-clause-task : goal.returns-clause-task
 returns-clause-task g c =
     both_ok c.restore_with.result _ _
-    (λ made k. made_held g.W.Work.plan c.args.client.now.pass c.committed.new.self.pass c.restore_with.new.client.pass c.committed.ensures.later (draft_of c.args.topology.now) c.args.member c.args.replica.id c.as_slice.result.now made
+    (λ made k. made_held g.W.Work.plan c.args.session.now.client.pass c.committed.new.self.pass c.restore_with.new.client.pass c.committed.ensures.later (draft_of c.args.topology.now) c.args.member c.args.session.now.last c.args.replica.id c.as_slice.result.now made
     c.requires.may.network c.requires.seen
     (subst (λ u. committed_refusal (state_seen g.W.Work.plan c.committed.new.self.pass) c.args.member.number c.args.member.generation u ≡ None) c.id-task.ensures (free_said _ _ _ c.in-Ok.is c.in_ok-answer.ensures.refused))
     (c.as_slice.ensures.value ∙ ok_said _ _ _ c.in-Ok.is c.in_ok-answer.ensures.offsets
-    ∙ ap (λ u. committed_offsets (setup_in g.W.Work.plan c.args.client.now.pass.frame) (state_seen g.W.Work.plan c.committed.new.self.pass) u) c.id-task.ensures) k)
+    ∙ ap (λ u. committed_offsets (setup_in g.W.Work.plan c.args.session.now.client.pass.frame) (state_seen g.W.Work.plan c.committed.new.self.pass) u) c.id-task.ensures) k)
     c.restore_with.ensures.task

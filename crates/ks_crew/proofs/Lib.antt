@@ -1,0 +1,2 @@
+pub mod Enlisted
+pub mod Passes

@@ -1,0 +1,11 @@
+use Rattle.ks_crew.proofs.Passes.{closing, first_is}
+use Rattle.ks_crew.proofs.closing.work_and_close.Goals as goal
+
+pub close-requires : goal.close-requires
+close-requires g c =
+    let all = closing c.args.shared.growing.id c.args.shared.growing.passes c.args.members.len (λ m. m.worker.state.session.client.pass) c.args.first c.args.members.items _ _ c.in_ok-passes.passes.items c.in_ok-passes.ensures c.as_mut_slice.ensures.value c.args.members.ok.0
+    c.work_together.ensures c.requires.first c.requires.passes c.requires.all in
+    record { count = (all.0, all.1); passes = all.2 }
+
+pub returns : goal.returns
+returns g c = record { frame = c.close.ensures.frame; reserved = c.close.ensures.reserved c.args.first (first_is _ _ _ c.in_ok-passes.ensures) }

@@ -1,0 +1,20 @@
+-- A cluster before its run.
+use Rattle.std.specs.Prelude.{◌≡◌, ◌<◌, ℕ, List, []}
+use Rattle.ks_plan.specs.Drafts.{DraftView}
+use Rattle.ks_plan.specs.Plan.{plan_of}
+use Rattle.ks_history.specs.Machine.{TaskPlan}
+use Rattle.ks_cluster.specs.View.{ClusterView, setup_of}
+use Rattle.ks_law_topology.specs.Work.{setup_of as topology_setup}
+use Rattle.ks_nodes.specs.Rules.{HaveParts, rules_of}
+use Rattle.ks_job.specs.Items.{ItemView}
+use Rattle.ks_law_inputs.specs.Records.{AreRecords}
+use Rattle.ks_feed.specs.Placing.{IsParted}
+
+-- a new cluster of the tasks of this topology, with this hash; these are its partition counts, and the items are records for its topics
+pub record IsReady {W : Type 0} (plan : W → TaskPlan) (hash : List ℕ → ℕ) (d : DraftView) (c : ClusterView W) (counts : List ℕ) (is : List ItemView) : Type 0 where
+  pub new : c.journal ≡ []
+  pub topology : setup_of plan c ≡ topology_setup (rules_of hash) (plan_of d)
+  pub nodes : HaveParts (plan_of d)
+  pub counts_are : counts ≡ c.counts
+  pub parts : (topic : ℕ) → topic < (plan c.work).sources → IsParted counts topic
+  pub records : AreRecords (plan c.work).sources is

@@ -1,0 +1,81 @@
+//! A crew that works, and then closes the lock.
+ghost use Rattle.std.specs.Prelude.{◌≡◌, ◌+◌, ◌<◌, ◌∷◌, length, map, filter, IfOk};
+ghost use Rattle.std.specs.List.{All};
+ghost use Rattle.ks_history.specs.Touched.{is_reserved};
+ghost use Rattle.ks_growing.specs.Passes.{IsPass};
+ghost use Rattle.ks_shared.specs.Calls.{frame_of};
+ghost use Rattle.ks_topo.specs.Topologies.{draft_of};
+ghost use Rattle.ks_worker.specs.Beginning.{MayRun};
+ghost use Rattle.ks_crew.specs.Members.{ArePasses};
+
+use crate::working::{CrewMember, work_together};
+use ks_cluster::{Cluster, Work};
+use ks_edge::Gate;
+use ks_growing::Pass;
+use ks_hash::Hash128;
+use ks_shared::{Shared, SharedState};
+use ks_topo::Topology;
+use std::alloc::{AllocError, Global};
+use std::sync::Wait;
+use std::thread::Threads;
+
+// Whether one of them ran out of memory.
+fn is_one_starved<W: Work, G: Gate>(members: &[CrewMember<W, G>]) -> bool {
+    for member in members {
+        if member.is_starved {
+            return true;
+        }
+    }
+    false
+}
+
+// All passes of a lock: the first, and those of the workers, which are let go.
+fn passes_of<W: Work, G: Gate>(
+    alloc: Global,
+    first: Pass<SharedState<W>>,
+    members: Vec<CrewMember<W, G>>,
+) -> Result<Vec<Pass<SharedState<W>>>, AllocError>
+    ensures { IfOk result (λ v. v.items ≡ first ∷ map (λ m. m.worker.state.session.client.pass) members.items) }
+{
+    let mut passes = Vec::new(alloc);
+    passes.push(first)?;
+    let mut rest = members.into_iter();
+    while let Some(member) = rest.next() {
+        passes.push(member.worker.into_pass())?;
+    }
+    Ok(passes)
+}
+
+/// Runs workers that have all passes of a lock but the first, closes the lock with all of them, and gives
+/// the cluster back: of its `produce` entries the first pass has seen each. Want of memory, also in a
+/// worker, is the one error; the cluster is let go then.
+pub fn work_and_close<
+    H: Hash128 + Sync,
+    R: Threads + Wait + Sync,
+    W: Work + Send + Sync,
+    G: Gate + Send,
+>(
+    rt: &R,
+    alloc: Global,
+    topology: &Topology,
+    shared: Shared<W>,
+    first: Pass<SharedState<W>>,
+    mut members: Vec<CrewMember<W, G>>,
+    turns: u64,
+) -> Result<Cluster<W>, AllocError>
+    requires some { 0 < length members.items }
+    requires may { All (λ m. MayRun W.plan H.hash_of shared.growing.id (draft_of topology.now) turns
+        m.worker.state) members.items }
+    requires first { IsPass shared.growing.id 0 first }
+    requires passes { ArePasses shared.growing.id (map (λ m. m.worker.state.session.client.pass) members.items) }
+    requires all { length members.items + 1 ≡ shared.growing.passes }
+    ensures frame { IfOk result (λ c. frame_of c ≡ frame_of shared.growing.first) }
+    ensures reserved { IfOk result (λ c. filter is_reserved c.journal ≡ filter is_reserved first.seen) }
+{
+    work_together::<H, R, W, G>(rt, alloc, topology, &shared, members.as_mut_slice(), turns);
+    if is_one_starved(members.as_slice()) {
+        return Err(AllocError);
+    }
+    let passes = passes_of(alloc, first, members)?;
+    Ok(shared.close(passes))
+}

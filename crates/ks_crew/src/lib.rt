@@ -1,0 +1,10 @@
+//! The workers of a run, on threads round one shared cluster.
+#![tactic(auto)]
+
+mod boxed_gate;
+mod closing;
+mod crew;
+mod enlisting;
+mod working;
+
+pub use crew::{Crew, run_crew};

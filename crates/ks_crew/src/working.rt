@@ -1,0 +1,75 @@
+//! Workers that take their turns, each in a thread of its own.
+ghost use Rattle.std.specs.Prelude.{◌≡◌, ◌<◌, ℕ, length, slice_get, option_map};
+ghost use Rattle.std.specs.List.{All};
+ghost use Rattle.ks_topo.specs.Topologies.{draft_of};
+ghost use Rattle.ks_worker.specs.Beginning.{MayRun};
+ghost use Rattle.ks_crew.specs.Members.{pass_key};
+
+use ks_cluster::Work;
+use ks_edge::Gate;
+use ks_hash::Hash128;
+use ks_shared::Shared;
+use ks_topo::{Topology, share_topology};
+use ks_worker::Worker;
+use std::alloc::Global;
+use std::sync::Wait;
+use std::thread;
+use std::thread::Threads;
+
+/// A worker of a crew, and whether it ran out of memory.
+#[derive(Drop)]
+pub struct CrewMember<W: Work, G: Gate> {
+    pub worker: Worker<W, G>,
+    pub is_starved: bool,
+}
+
+// One worker takes its turns.
+fn take_turns<H: Hash128, R: Wait, W: Work, G: Gate>(
+    rt: &R,
+    alloc: Global,
+    topology: &Topology,
+    shared: &Shared<W>,
+    member: &mut CrewMember<W, G>,
+    turns: u64,
+)
+    requires may { MayRun W.plan H.hash_of shared.now.growing.id (draft_of topology.now) turns
+        member.old.worker.state }
+    ensures { pass_key member.new.worker.state.session.client.pass ≡ pass_key member.old.worker.state.session.client.pass }
+{
+    let answer = member
+        .worker
+        .run::<H, R>(rt, alloc, topology, shared, turns);
+    member.is_starved = answer.is_err();
+}
+
+/// All workers take their turns, each in a thread of its own where one can be made. Their passes are of
+/// this lock still, with their numbers, and none holds the value.
+pub fn work_together<
+    H: Hash128 + Sync,
+    R: Threads + Wait + Sync,
+    W: Work + Send + Sync,
+    G: Gate + Send,
+>(
+    rt: &R,
+    alloc: Global,
+    topology: &Topology,
+    shared: &Shared<W>,
+    members: &mut [CrewMember<W, G>],
+    turns: u64,
+)
+    requires some { 0 < length members.old }
+    requires may { All (λ m. MayRun W.plan H.hash_of shared.now.growing.id (draft_of topology.now) turns
+        m.worker.state) members.old }
+    ensures { (i : ℕ) → option_map (λ m. pass_key m.worker.state.session.client.pass) (slice_get members.new i)
+        ≡ option_map (λ m. pass_key m.worker.state.session.client.pass) (slice_get members.old i) }
+{
+    share_topology();
+    let count = members.len();
+    let each = |_: usize, member: &mut CrewMember<W, G>|
+        requires { MayRun W.plan H.hash_of shared.now.growing.id (draft_of topology.now) turns
+            member.now.worker.state }
+        ensures { pass_key member.exit.now.worker.state.session.client.pass
+            ≡ pass_key member.entry.now.worker.state.session.client.pass }
+    { take_turns::<H, R, W, G>(rt, alloc, topology, shared, member, turns) };
+    thread::for_each_mut(rt, members, count, &each);
+}

@@ -1,0 +1,8 @@
+//! The records of a job, put into a shared cluster through the lock's first pass.
+#![tactic(auto)]
+
+mod passes;
+mod producing;
+
+pub use passes::split_first;
+pub use producing::{counts_of, produce_all};

@@ -1,0 +1,4 @@
+pub mod Beginning
+pub mod Crashing
+pub mod Shown
+pub mod Turning

@@ -1,0 +1,114 @@
+-- Turns, one after another.
+use Rattle.std.proofs.Common.{◌≡◌, ◌⊎◌, ◌≤◌, ◌<◌, ◌+◌, ◌-◌, ◌^◌, ℕ, suc, Bool, true, false, cond, List, [], ◌∷◌, ◌++◌, Result, Ok, Err, OnOk, refl, sym, ap, subst, ◌∙◌, arith, append_assoc, append-nil}
+use Rattle.atomic_table.specs.Seated.{TableId}
+use Rattle.ks_plan.specs.Drafts.{DraftView}
+use Rattle.ks_history.specs.declared.journal.Entry.{Entry}
+use Rattle.ks_history.specs.Machine.{TaskPlan}
+use Rattle.ks_growing.specs.Passes.{PassView}
+use Rattle.ks_shared.specs.declared.state.Frame.{Frame}
+use Rattle.ks_client.specs.Turns.{GateCounts}
+use Rattle.ks_client.specs.Calls.{MayCall, Later}
+use Rattle.ks_client.proofs.Moments.{may_later}
+use Rattle.ks_worker_state.specs.declared.state.WorkerState.{WorkerState}
+use Rattle.ks_worker_state.specs.State.{IsWorkerState, MayAct, LaterState}
+use Rattle.ks_worker_state.proofs.States.{runs_later}
+use Rattle.ks_worker.specs.Beginning.{MayRun}
+use Rattle.ks_worker.specs.Running.{is_group_request, group_requests, HasCounted, ShowsCalls}
+
+-- ---- counts
+pub counted_none : (g : GateCounts) → HasCounted g g 0
+counted_none g = record { asked = omega arith; stops = omega arith; calls = omega arith; cuts = omega arith; asked_most = omega arith; stops_most = omega arith; calls_most = omega arith; cuts_most = omega arith }
+
+pub counted_then : (a b c : GateCounts) (m n : ℕ) → HasCounted a b m → HasCounted b c n → HasCounted a c (m + n)
+counted_then a b c m n h k = record {
+  asked = omega (arith, h.asked, k.asked);
+  stops = omega (arith, h.stops, k.stops);
+  calls = omega (arith, h.calls, k.calls);
+  cuts = omega (arith, h.cuts, k.cuts);
+  asked_most = omega (arith, h.asked_most, k.asked_most);
+  stops_most = omega (arith, h.stops_most, k.stops_most);
+  calls_most = omega (arith, h.calls_most, k.calls_most);
+  cuts_most = omega (arith, h.cuts_most, k.cuts_most);
+}
+
+pub counted_more : (a b : GateCounts) (m n : ℕ) → HasCounted a b m → m ≤ n → HasCounted a b n
+counted_more a b m n h le = record {
+  asked = h.asked;
+  stops = h.stops;
+  calls = h.calls;
+  cuts = h.cuts;
+  asked_most = omega (arith, h.asked_most, le);
+  stops_most = omega (arith, h.stops_most, le);
+  calls_most = omega (arith, h.calls_most, le);
+  cuts_most = omega (arith, h.cuts_most, le);
+}
+
+-- ---- what shows
+none_more : (n : ℕ) → n ≡ 0 + n
+none_more n = omega arith
+
+one_more : (n a b : ℕ) → n ≡ a + b → suc n ≡ suc a + b
+one_more n a b e = omega (arith, e)
+
+group_append : (w : ℕ) (xs ys : List Entry) → group_requests w (xs ++ ys) ≡ group_requests w xs + group_requests w ys
+group_append w [] ys = none_more (group_requests w ys)
+group_append w (x ∷ xs) ys = by (is_group_request w x.request) (group_append w xs ys)
+  where
+    by : (b : Bool) → group_requests w (xs ++ ys) ≡ group_requests w xs + group_requests w ys → cond b (suc (group_requests w (xs ++ ys))) (group_requests w (xs ++ ys)) ≡ cond b (suc (group_requests w xs)) (group_requests w xs) + group_requests w ys
+    by true e = one_more (group_requests w (xs ++ ys)) (group_requests w xs) (group_requests w ys) e
+    by false e = e
+
+module _ {W : Type 0} (w : ℕ) where
+  pub shown_none : (p : PassView Entry (Frame W)) (g : GateCounts) → ShowsCalls w p p g g
+  shown_none p g = record { more = []; seen = sym (append-nil p.seen); shown = omega arith }
+
+  pub shown_then : (p q r : PassView Entry (Frame W)) (g h k : GateCounts) → ShowsCalls w p q g h → ShowsCalls w q r h k → ShowsCalls w p r g k
+  shown_then p q r g h k a b =
+      let e : group_requests w (a.more ++ b.more) ≡ group_requests w a.more + group_requests w b.more = group_append w a.more b.more in
+      record {
+        more = a.more ++ b.more;
+        seen = b.seen ∙ ap (λ l. l ++ b.more) a.seen ∙ append_assoc p.seen a.more b.more;
+        shown = omega (arith, e, a.shown, b.shown);
+      }
+
+  -- a part of a turn in which the gate counted nothing
+  pub shown_quiet : (plan : W → TaskPlan) (p q : PassView Entry (Frame W)) (g h : GateCounts) → Later plan p q → h ≡ g → ShowsCalls w p q g h
+  shown_quiet plan p q g h l same =
+      let a : h.calls ≡ g.calls = ap (λ (k : GateCounts). k.calls) same in
+      let b : h.cuts ≡ g.cuts = ap (λ (k : GateCounts). k.cuts) same in
+      record { more = l.more; seen = l.seen; shown = omega (arith, a, b) }
+
+  pub shown_ok : {A E : Type 0} (plan : W → TaskPlan) (v : ℕ) (p q r : PassView Entry (Frame W)) (g h k : GateCounts) (answer : Result A E) → v ≡ w → Later plan p q → h ≡ g → OnOk answer (ShowsCalls v q r h k) → OnOk answer (ShowsCalls w p r g k)
+  shown_ok plan v p q r g h k (Ok a) same l quiet s = shown_then p q r g h k (shown_quiet plan p q g h l quiet) (subst (λ n. ShowsCalls n q r h k) same s)
+  shown_ok plan v p q r g h k (Err e) same l quiet s = tt
+
+-- ---- a worker goes on
+pub may_run_on : {W G : Type 0} (plan : W → TaskPlan) (hash : List ℕ → ℕ) (lock : TableId) (d : DraftView) (turns i : ℕ) (old new : WorkerState W G) → MayRun plan hash lock d turns old → LaterState plan old new → IsWorkerState plan d new →
+    HasCounted old.session.client.gate new.session.client.gate i → i + 1 ≤ turns → MayRun plan hash lock d 1 new
+may_run_on plan hash lock d turns i old new may l worker counts le =
+    let m = may_later plan lock old.session.client.pass new.session.client.pass old.session.client.gate old.session.client.gate l.later refl may.act.call in
+    record {
+      act = record {
+        call = record {
+          lock_is = m.lock_is;
+          free = m.free;
+          history = m.history;
+          network = m.network;
+          setup = m.setup;
+          room = record {
+            asked_fits = omega (arith, counts.asked_most, may.room.asked, le);
+            stops_fit = omega (arith, counts.stops_most, may.room.stops, le);
+            calls_fit = omega (arith, counts.calls_most, may.room.calls, le);
+            cuts_fit = omega (arith, counts.cuts_most, may.room.cuts, le);
+          };
+        };
+        topology = runs_later plan hash d old new l may.act.topology;
+        worker = worker;
+      };
+      room = record {
+        asked = omega (arith, counts.asked_most, may.room.asked, le);
+        stops = omega (arith, counts.stops_most, may.room.stops, le);
+        calls = omega (arith, counts.calls_most, may.room.calls, le);
+        cuts = omega (arith, counts.cuts_most, may.room.cuts, le);
+      };
+    }

@@ -1,0 +1,9 @@
+use Rattle.std.proofs.Common.{refl}
+use Rattle.ks_topo.specs.Topologies.{draft_of}
+use Rattle.ks_worker.proofs.Crashing.{lost_is_worker, lost_later}
+use Rattle.ks_worker.proofs.worker.Worker.begin.Goals as goal
+
+pub returns-in-Err-Cut-clause-worker : goal.returns-in-Err-Cut-clause-worker
+returns-in-Err-Cut-clause-worker g c =
+    lost_is_worker g.W.Work.plan (draft_of c.args.topology.now) _ c.begin_turn-2.new.state c.crash.new.self c.begin_turn-2.ensures.later c.requires.may.worker.number c.requires.may.worker.instance
+    (record { member = c.crash.ensures.member; tasks = c.crash.ensures.tasks; replicas = c.crash.ensures.replicas; last = c.crash.ensures.last; numbers = c.crash.ensures.numbers; client = c.crash.ensures.client })

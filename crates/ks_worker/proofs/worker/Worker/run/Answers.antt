@@ -1,0 +1,29 @@
+use Rattle.std.proofs.Common.{◌≡◌, ◌≤◌, ◌+◌, ◌∙◌, sym, subst, arith}
+use Rattle.ks_topo.specs.Topologies.{draft_of}
+use Rattle.ks_worker_state.proofs.States.{state_later_twice, same_state}
+use Rattle.ks_worker.specs.Running.{ShowsCalls}
+use Rattle.ks_worker.proofs.Turning.{counted_none, counted_then, counted_more, shown_none, shown_then, may_run_on}
+use Rattle.ks_worker.proofs.worker.Worker.run.Goals as goal
+
+pub take_turn-requires : goal.take_turn-requires
+take_turn-requires g c = record {
+  may = may_run_on g.W.Work.plan _ _ (draft_of c.args.topology.now) c.args.turns c.loop.counter c.args.self.now.state c.loop.self.state c.requires.may c.loop.invariant.later c.loop.invariant.worker c.loop.invariant.counts
+      (omega (arith, c.loop-test.true));
+}
+
+pub returns-then-branch-clause-shown : goal.returns-then-branch-clause-shown
+returns-then-branch-clause-shown g c =
+    shown_then c.args.self.now.state.member.number c.args.self.now.state.session.client.pass c.loop.self.state.session.client.pass c.take_turn.new.self.state.session.client.pass
+    c.args.self.now.state.session.client.gate c.loop.self.state.session.client.gate c.take_turn.new.self.state.session.client.gate c.loop.invariant.shown
+    (subst (λ n. ShowsCalls n c.loop.self.state.session.client.pass c.take_turn.new.self.state.session.client.pass c.loop.self.state.session.client.gate c.take_turn.new.self.state.session.client.gate) c.loop.invariant.later.number c.in_ok-take_turn.ensures.shown)
+
+pub loop-preserved : goal.loop-preserved
+loop-preserved g c = record {
+  later = state_later_twice g.W.Work.plan c.args.self.now.state c.loop.self.state c.take_turn.new.self.state c.loop.invariant.later c.take_turn.ensures.later;
+  worker = c.in_ok-take_turn.ensures.worker;
+  counts = counted_then c.args.self.now.state.session.client.gate c.loop.self.state.session.client.gate c.take_turn.new.self.state.session.client.gate c.loop.counter 1 c.loop.invariant.counts c.in_ok-take_turn.ensures.counts;
+  took = omega (arith, c.loop.invariant.took, c.in_ok-take_turn.ensures.took);
+  shown = shown_then c.args.self.now.state.member.number c.args.self.now.state.session.client.pass c.loop.self.state.session.client.pass c.take_turn.new.self.state.session.client.pass
+      c.args.self.now.state.session.client.gate c.loop.self.state.session.client.gate c.take_turn.new.self.state.session.client.gate c.loop.invariant.shown
+      (subst (λ n. ShowsCalls n c.loop.self.state.session.client.pass c.take_turn.new.self.state.session.client.pass c.loop.self.state.session.client.gate c.take_turn.new.self.state.session.client.gate) c.loop.invariant.later.number c.in_ok-take_turn.ensures.shown);
+}

@@ -1,0 +1,12 @@
+use Rattle.ks_worker_state.proofs.States.{state_later_twice}
+use Rattle.ks_worker.proofs.Turning.{shown_ok}
+use Rattle.ks_worker.proofs.worker.Worker.take_turn.Goals as goal
+
+pub returns-clause-later : goal.returns-clause-later
+returns-clause-later g c = state_later_twice g.W.Work.plan c.args.self.now.state c.begin.new.self.state c.obey.new.self.state c.begin.ensures.later c.obey.ensures.later
+
+pub returns-clause-shown : goal.returns-clause-shown
+returns-clause-shown g c =
+    shown_ok c.args.self.now.state.member.number g.W.Work.plan c.begin.new.self.state.member.number c.args.self.now.state.session.client.pass c.begin.new.self.state.session.client.pass c.obey.new.self.state.session.client.pass
+    c.args.self.now.state.session.client.gate c.begin.new.self.state.session.client.gate c.obey.new.self.state.session.client.gate c.obey.result
+    c.begin.ensures.later.number c.begin.ensures.later.later (c.in_ok-begin.ensures.goes_on c.if-branch.false) c.obey.ensures.shown

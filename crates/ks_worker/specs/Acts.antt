@@ -1,0 +1,90 @@
+-- What each act does to a worker (Kafka Streams: one pass of a StreamThread's run loop).
+use Rattle.std.specs.Prelude.{◌≡◌, ◌≢◌, ◌⊎◌, ◌≤◌, ℕ, List, [], ◌∷◌, ◌++◌}
+use Rattle.std.specs.List.{filter}
+use Rattle.ks_row.specs.declared.record.TaskId.{TaskId}
+use Rattle.ks_edge.specs.declared.gate.Act.{Act}
+use Rattle.ks_edge.specs.declared.gate.Act.TheVariants.{Work, Commit, Abort, Crash, Leave, Pump, Probe, Evict, Stop}
+use Rattle.ks_plan.specs.Drafts.{DraftView}
+use Rattle.ks_plan.specs.Plan.{plan_of}
+use Rattle.ks_plan.specs.Infos.{changelog_numbers}
+use Rattle.ks_history.specs.Machine.{TaskPlan}
+use Rattle.ks_history.specs.declared.journal.Request.TheVariants.{Expire, Hold, Probe as ProbeOf}
+use Rattle.ks_shared.specs.Calls.{setup_in}
+use Rattle.ks_worker_state.specs.declared.state.WorkerState.{WorkerState}
+use Rattle.ks_worker_state.specs.Worker.{lost}
+use Rattle.ks_worker_state.specs.State.{KnowsTheSame, task_names, replica_names}
+use Rattle.ks_worker_acts.specs.Inputs.{HaveReadOn, HasMoved, HaveReadAll}
+use Rattle.ks_worker_acts.specs.Feeds.{AreFed}
+use Rattle.ks_worker_acts.specs.Gained.{HasGained}
+use Rattle.ks_worker_acts.specs.Telling.{is_clean_task, outside, parks, positions_held}
+use Rattle.ks_task_commit.specs.declared.commit_end.CommitEnd.{CommitEnd}
+use Rattle.ks_task_commit.specs.Ends.{HasEnded}
+
+-- it read: an input position rose, or nothing stable of what its pass had seen is left
+pub record HasWorked {W G : Type 0} (plan : W → TaskPlan) (old new : WorkerState W G) : Type 0 where
+  pub same : KnowsTheSame old new
+  pub replicas : new.replicas ≡ old.replicas
+  pub names : task_names new.tasks.items ≡ task_names old.tasks.items
+  pub read : HaveReadOn old.tasks.items new.tasks.items
+  pub either : HasMoved old.tasks.items new.tasks.items
+      ⊎ HaveReadAll (setup_in plan old.session.client.pass.frame) old.session.client.pass.seen new.tasks.items
+
+-- it fed its replicas: each position rose, or nothing stable of what its pass had seen is left
+pub record HasPumped {W G : Type 0} (plan : W → TaskPlan) (old new : WorkerState W G) : Type 0 where
+  pub same : KnowsTheSame old new
+  pub tasks : new.tasks ≡ old.tasks
+  pub names : replica_names new.replicas.items ≡ replica_names old.replicas.items
+  pub fed : AreFed (setup_in plan old.session.client.pass.frame) old.session.client.pass.seen old.replicas.items new.replicas.items
+
+-- it dropped its dirty tasks
+pub record HasAborted {W G : Type 0} (old new : WorkerState W G) : Type 0 where
+  pub member : new.member ≡ old.member
+  pub session : new.session ≡ old.session
+  pub replicas : new.replicas ≡ old.replicas
+  pub tasks : new.tasks.items ≡ filter is_clean_task old.tasks.items
+
+-- it lost all that it had, and what it knew
+pub record HasLostAll {W G : Type 0} (old new : WorkerState W G) : Type 0 where
+  pub member : new.member ≡ lost old.member
+  pub last : new.session.last ≡ 0
+  pub tasks : new.tasks.items ≡ []
+  pub replicas : new.replicas.items ≡ []
+
+-- it parked its replicas and those of its clean tasks, and is no member any more
+pub record HasLeft {W G : Type 0} (old new : WorkerState W G) : Type 0 where
+  pub member : new.member ≡ outside old.member
+  pub tasks : new.tasks.items ≡ []
+  pub replicas : new.replicas.items ≡ []
+  pub gained : HasGained old.session.client.pass new.session.client.pass
+      (parks old.member.instance (replica_names old.replicas.items ++ task_names (filter is_clean_task old.tasks.items))
+      ++ Expire old.member.number ∷ [])
+
+-- what it has and knows is the same
+pub record HasTheSame {W G : Type 0} (old new : WorkerState W G) : Type 0 where
+  pub same : KnowsTheSame old new
+  pub tasks : new.tasks ≡ old.tasks
+  pub replicas : new.replicas ≡ old.replicas
+
+-- it told its positions, and asked for a new generation
+pub record HasProbed {W G : Type 0} (d : DraftView) (old new : WorkerState W G) : Type 0 where
+  pub same : HasTheSame old new
+  pub gained : HasGained old.session.client.pass new.session.client.pass
+      (Hold old.member.number (positions_held (changelog_numbers (plan_of d)) old.tasks.items old.replicas.items)
+      ∷ ProbeOf old.member.number old.member.generation ∷ [])
+
+-- it removed a worker from the group
+pub record HasEvicted {W G : Type 0} (w : ℕ) (old new : WorkerState W G) : Type 0 where
+  pub same : HasTheSame old new
+  pub gained : w ≤ 15 → HasGained old.session.client.pass new.session.client.pass (Expire w ∷ [])
+
+-- what each act does
+abbrev pub Does : {W G : Type 0} → (W → TaskPlan) → DraftView → Act → WorkerState W G → WorkerState W G → Type 0
+Does plan d (Work pick) old new = HasWorked plan old new
+Does plan d Commit old new = (end : CommitEnd) × HasEnded plan d old new end
+Does plan d Abort old new = HasAborted old new
+Does plan d Crash old new = HasLostAll old new
+Does plan d Leave old new = HasLeft old new
+Does plan d Pump old new = HasPumped plan old new
+Does plan d Probe old new = HasProbed d old new
+Does plan d (Evict w) old new = HasEvicted w old new
+Does plan d Stop old new = new ≡ old

@@ -1,0 +1,3 @@
+pub mod Beginning
+pub mod Acts
+pub mod Running

@@ -1,0 +1,168 @@
+//! A worker's acts.
+ghost use Rattle.std.specs.Prelude.{◌≡◌, ◌≢◌, OnOk};
+ghost use Rattle.ks_edge.specs.declared.gate.Act.TheVariants.{Work as Working, Commit as Committing};
+ghost use Rattle.ks_topo.specs.Topologies.{draft_of};
+ghost use Rattle.ks_client.specs.Turns.{counts_after};
+ghost use Rattle.ks_worker_state.specs.State.{MayAct, LaterState, IsWorkerState};
+ghost use Rattle.ks_worker.specs.Acts.{HasLostAll, Does};
+ghost use Rattle.ks_worker.specs.Running.{IsCutOnce};
+
+use crate::worker::Worker;
+use ks_client::Halt;
+use ks_cluster::Work;
+use ks_edge::{Act, Gate};
+use ks_hash::Hash128;
+use ks_shared::Shared;
+use ks_task::Task;
+use ks_task_commit::commit_tasks;
+use ks_topo::Topology;
+use ks_worker_acts::{abort, evict, leave, probe, pump, work};
+use ks_worker_state::inputs_in;
+use std::alloc::{AllocError, Global};
+use std::sync::Wait;
+
+// The sum of a task's positions in these inputs; it stays at its type's greatest value.
+fn positions_in(task: &Task, topics: &[u16]) -> u64 {
+    let mut sum: u64 = 0;
+    for topic in topics {
+        sum = sum.saturating_add(task.input_position(*topic));
+    }
+    sum
+}
+
+// The sum of the input positions of these tasks; it stays at its type's greatest value.
+fn positions_of(topology: &Topology, tasks: &[Task]) -> u64 {
+    let mut sum: u64 = 0;
+    for task in tasks {
+        sum = sum.saturating_add(positions_in(task, inputs_in(topology, task.id().sub)));
+    }
+    sum
+}
+
+impl<W: Work, G: Gate> Worker<W, G> {
+    // Its tasks read; what its gate will see of that is counted.
+    fn work<H: Hash128, R: Wait>(
+        &mut self,
+        rt: &R,
+        alloc: Global,
+        topology: &Topology,
+        shared: &Shared<W>,
+        pick: u32,
+    ) -> Result<(), Halt>
+        requires may { MayAct W.plan H.hash_of shared.now.growing.id (draft_of topology.now) self.old.state }
+        ensures gate { self.new.state.session.client.gate ≡ counts_after self.old.state.session.client.gate result }
+        ensures later { LaterState W.plan self.old.state self.new.state }
+        ensures worker { OnOk result (IsWorkerState W.plan (draft_of topology.now) self.new.state) }
+        ensures does { OnOk result (Does W.plan (draft_of topology.now) (Working pick) self.old.state self.new.state) }
+    {
+        let before = positions_of(topology, self.state.tasks.as_slice());
+        let moved = work::<H, R, W, G>(rt, alloc, topology, shared, &mut self.state, pick)?;
+        if moved {
+            let after = positions_of(topology, self.state.tasks.as_slice());
+            self.read = self.read.saturating_add(after.saturating_sub(before));
+            self.dry = 0;
+        } else {
+            self.dry = self.dry.saturating_add(1);
+        }
+        Ok(())
+    }
+
+    // It commits its tasks; what they read is counted anew.
+    fn commit<H: Hash128, R: Wait>(
+        &mut self,
+        rt: &R,
+        alloc: Global,
+        topology: &Topology,
+        shared: &Shared<W>,
+    ) -> Result<(), Halt>
+        requires may { MayAct W.plan H.hash_of shared.now.growing.id (draft_of topology.now) self.old.state }
+        ensures gate { self.new.state.session.client.gate ≡ counts_after self.old.state.session.client.gate result }
+        ensures later { LaterState W.plan self.old.state self.new.state }
+        ensures worker { OnOk result (IsWorkerState W.plan (draft_of topology.now) self.new.state) }
+        ensures does { OnOk result (Does W.plan (draft_of topology.now) Committing self.old.state self.new.state) }
+    {
+        commit_tasks::<H, R, W, G>(rt, alloc, topology, shared, &mut self.state)?;
+        self.read = 0;
+        Ok(())
+    }
+
+    // It does an act.
+    fn act<H: Hash128, R: Wait>(
+        &mut self,
+        rt: &R,
+        alloc: Global,
+        topology: &Topology,
+        shared: &Shared<W>,
+        act: Act,
+    ) -> Result<(), Halt>
+        requires may { MayAct W.plan H.hash_of shared.now.growing.id (draft_of topology.now) self.old.state }
+        ensures gate { self.new.state.session.client.gate ≡ counts_after self.old.state.session.client.gate result }
+        ensures later { LaterState W.plan self.old.state self.new.state }
+        ensures worker { OnOk result (IsWorkerState W.plan (draft_of topology.now) self.new.state) }
+        ensures does { OnOk result (Does W.plan (draft_of topology.now) act self.old.state self.new.state) }
+    {
+        let state = &mut self.state;
+        match act {
+            Act::Work(pick) => return self.work::<H, R>(rt, alloc, topology, shared, pick),
+            Act::Commit => return self.commit::<H, R>(rt, alloc, topology, shared),
+            Act::Abort => abort(state),
+            Act::Crash => state.crash(alloc),
+            Act::Leave => return leave(rt, alloc, shared, state),
+            Act::Pump => return pump::<H, R, W, G>(
+                rt,
+                alloc,
+                topology,
+                shared,
+                state,
+                self.waiting,
+            ),
+            Act::Probe => return probe::<H, R, W, G>(rt, alloc, topology, shared, state),
+            Act::Evict(w) => return evict(rt, alloc, shared, state, w),
+            Act::Stop => {}
+        }
+        Ok(())
+    }
+
+    /// Does one act:
+    ///
+    /// | Act | What it does |
+    /// |---|---|
+    /// | `Work(pick)` | looks at the inputs of its tasks, in order of task and topic, from the one at `pick` modulo their number on, round once; at the first whose fetch moves the position it takes at most 32 records |
+    /// | `Commit` | commits what its tasks took in one transaction; makes no call where that is nothing |
+    /// | `Abort` | drops its dirty tasks |
+    /// | `Crash` | loses its tasks, its replicas, its epoch and its membership, and makes no call |
+    /// | `Leave` | parks its replicas and those of its clean tasks, drops its dirty tasks, and removes itself from the group |
+    /// | `Pump` | feeds its replicas once each, and writes a waiting marker of each producer, where some waited |
+    /// | `Probe` | tells its positions, and asks for a new generation |
+    /// | `Evict(w)` | removes worker `w`, 0 to 15, from the group; does nothing for another |
+    /// | `Stop` | nothing |
+    ///
+    /// Before each call its gate is asked whether it is cut off; if it is, it crashes, and nothing else is done. Want of memory is the
+    /// one error: the worker ends then, and the lock is free.
+    pub fn perform<H: Hash128, R: Wait>(
+        &mut self,
+        rt: &R,
+        alloc: Global,
+        topology: &Topology,
+        shared: &Shared<W>,
+        act: Act,
+    ) -> Result<(), AllocError>
+        requires may { MayAct W.plan H.hash_of shared.now.growing.id (draft_of topology.now) self.old.state }
+        ensures gate { IsCutOnce self.old.state.session.client.gate self.new.state.session.client.gate }
+        ensures later { LaterState W.plan self.old.state self.new.state }
+        ensures worker { OnOk result (IsWorkerState W.plan (draft_of topology.now) self.new.state) }
+        ensures does { OnOk result (self.new.state.session.client.gate ≡ self.old.state.session.client.gate
+            → Does W.plan (draft_of topology.now) act self.old.state self.new.state) }
+        ensures cut { OnOk result (self.new.state.session.client.gate ≢ self.old.state.session.client.gate
+            → HasLostAll self.old.state self.new.state) }
+    {
+        match self.act::<H, R>(rt, alloc, topology, shared, act) {
+            Ok(()) => Ok(()),
+            Err(Halt::Cut) => {
+                self.state.crash(alloc);
+                Ok(())
+            }
+            Err(Halt::OutOfMemory) => Err(AllocError),
+        }
+    }
+}

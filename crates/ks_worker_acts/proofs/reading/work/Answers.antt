@@ -1,0 +1,56 @@
+use Rattle.std.proofs.Common.{sym, ap, subst, ◌∙◌, false}
+use Rattle.std.specs.List.{All}
+use Rattle.ks_plan.specs.Infos.{input_numbers}
+use Rattle.ks_topo.specs.Topologies.{draft_of, plan_in}
+use Rattle.ks_shared.specs.Calls.{setup_in}
+use Rattle.ks_client.proofs.Halting.{was_ok_with}
+use Rattle.ks_worker_state.proofs.States.{same_state}
+use Rattle.ks_worker_acts.specs.Inputs.{places_from, IsInputAt, HasLooked}
+use Rattle.ks_worker_acts.proofs.InputPlaces.{inputs_are}
+use Rattle.ks_worker_acts.proofs.Looks.{reads_same, read_names, looked_none}
+use Rattle.ks_worker_acts.proofs.StatesOn.{none_there}
+use Rattle.ks_worker_acts.proofs.WorkerOn.{read_all}
+use Rattle.ks_worker_acts.proofs.reading.work.Goals as goal
+
+pub returns-in_err-places-clause-later : goal.returns-in_err-places-clause-later
+returns-in_err-places-clause-later g c = same_state g.W.Work.plan c.args.shared.now.growing.id c.args.state.now c.requires.may.call
+
+pub returns-then-is_empty-clause-later : goal.returns-then-is_empty-clause-later
+returns-then-is_empty-clause-later g c = same_state g.W.Work.plan c.args.shared.now.growing.id c.args.state.now c.requires.may.call
+
+pub returns-then-is_empty-clause-read : goal.returns-then-is_empty-clause-read
+returns-then-is_empty-clause-read g c = reads_same c.args.state.now.tasks.items
+
+pub returns-then-is_empty-clause-dry : goal.returns-then-is_empty-clause-dry
+returns-then-is_empty-clause-dry g c = λ e.
+    let pass = c.args.state.now.session.client.pass in
+    let setup = setup_in g.W.Work.plan pass.frame in
+    let ts = c.args.state.now.tasks.items in
+    read_all g.H.Hash128.hash_of (draft_of c.args.topology.now) setup pass.seen ts ts c.requires.may.topology
+    (subst (λ l. HasLooked setup pass.seen false l ts ts)
+    (none_there c.as_slice-places.result.now (sym c.is_empty.ensures ∙ c.if-is_empty.true) ∙ c.as_slice-places.ensures.value
+    ∙ was_ok_with c.places_of.result _ c.in_ok-places.places (sym c.or_halt.ensures ∙ c.in_ok-places.was) c.places_of.ensures ∙ ap (places_from (input_numbers (plan_in c.args.topology.now)) 0) c.as_slice.ensures.value)
+    (looked_none setup pass.seen ts))
+
+pub read_round-requires-clause-places : goal.read_round-requires-clause-places
+read_round-requires-clause-places g c =
+    let inputs = input_numbers (plan_in c.args.topology.now) in
+    let ts = c.args.state.now.tasks.items in
+    subst (All (IsInputAt inputs ts))
+    (sym (c.as_slice-places.ensures.value ∙ was_ok_with c.places_of.result _ c.in_ok-places.places (sym c.or_halt.ensures ∙ c.in_ok-places.was) c.places_of.ensures ∙ ap (places_from inputs 0) c.as_slice.ensures.value))
+    (inputs_are inputs ts)
+
+pub returns-clause-names : goal.returns-clause-names
+returns-clause-names g c = read_names c.args.state.now.tasks.items c.read_round.new.state.tasks.items c.in_ok-moved.ensures.looked.read
+
+pub returns-clause-dry : goal.returns-clause-dry
+returns-clause-dry g c = λ e.
+    let pass = c.args.state.now.session.client.pass in
+    let setup = setup_in g.W.Work.plan pass.frame in
+    let ts = c.args.state.now.tasks.items in
+    let now = c.read_round.new.state.tasks.items in
+    read_all g.H.Hash128.hash_of (draft_of c.args.topology.now) setup pass.seen ts now c.requires.may.topology
+    (subst (λ b. HasLooked setup pass.seen b (places_from (input_numbers (plan_in c.args.topology.now)) 0 ts) ts now) e
+    (subst (λ l. HasLooked setup pass.seen c.in_ok-moved.moved l ts now)
+    (c.as_slice-places.ensures.value ∙ was_ok_with c.places_of.result _ c.in_ok-places.places (sym c.or_halt.ensures ∙ c.in_ok-places.was) c.places_of.ensures ∙ ap (places_from (input_numbers (plan_in c.args.topology.now)) 0) c.as_slice.ensures.value)
+    c.in_ok-moved.ensures.looked))

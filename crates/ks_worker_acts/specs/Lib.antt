@@ -1,0 +1,4 @@
+pub mod Inputs
+pub mod Gained
+pub mod Feeds
+pub mod Telling

@@ -1,0 +1,17 @@
+//! What a commit comes to.
+
+/// What a worker's commit came to.
+#[derive(Clone, Copy, PartialEq, Eq, Debug)]
+pub enum Outcome {
+    /// The works are committed, and no marker of the worker waits.
+    Committed,
+    /// A request was refused, though the worker isn't fenced; what it had sent is aborted. The works are to
+    /// be dropped, with the tasks that made them.
+    Aborted,
+    /// The worker is fenced: its producer's epoch is over, and with it all that the worker has.
+    Fenced,
+    /// Somebody else used the worker's number, so all that the worker has is over.
+    Touched,
+    /// The gate cut the worker off.
+    Cut,
+}

@@ -1,0 +1,7 @@
+pub mod Assigned
+pub mod Joined
+pub mod Keeping
+pub mod Listing
+pub mod Members
+pub mod Placed
+pub mod Rested

@@ -1,0 +1,69 @@
+-- Lists with one more, or one less.
+use Rattle.std.proofs.Common.{◌≡◌, ℕ, zero, suc, ◌||◌, Bool, true, false, List, [], ◌∷◌, take, drop, refl, sym, ap, subst, ◌∙◌, arith}
+use Rattle.std.specs.List.{All, insert}
+use Rattle.std.proofs.lemmas.List.Elements.{All-append, All-take, All-drop, All-cons, All-nil}
+use Rattle.ks_row.specs.declared.record.TaskId.{TaskId}
+use Rattle.ks_row.specs.Parts.{same_task}
+use Rattle.ks_history.specs.State.{has_task}
+use Rattle.ks_history.proofs.Names.{same_task-is, same_task-refl}
+use Rattle.ks_task.specs.declared.task.Task.{Task}
+use Rattle.ks_task.specs.Tasks.{task_view}
+use Rattle.ks_worker_state.specs.Worker.{IsNoneOf, HaveOwnNames}
+use Rattle.ks_worker_state.specs.State.{task_names}
+use Rattle.ks_worker_turn.specs.Lists.{HasPut, HasTaken}
+
+module _ {A : Type 0} (P : A → Type 0) where
+  all_insert : (xs : List A) (i : ℕ) (x : A) → All P xs → P x → All P (insert xs i x)
+  all_insert xs i x all px = All-append P (take i xs) (x ∷ drop i xs) (All-take P i xs all) (All-cons P x (drop i xs) px (All-drop P i xs all))
+
+  pub all_put : (old new : List A) (x : A) → HasPut old x new → All P old → P x → All P new
+  all_put old new x h all px = subst (All P) (sym h.is) (all_insert old h.place x all px)
+
+  pub all_taken : (old new : List A) (x : A) → HasTaken old x new → All P old → All P new
+  all_taken old new x h all = subst (All P) (sym h.is) (All-append P (take h.place old) (drop (suc h.place) old) (All-take P h.place old all) (All-drop P (suc h.place) old all))
+
+  pub one_taken : (old new : List A) (x : A) → HasTaken old x new → All P old → P x
+  one_taken old new x h all = subst P (sym h.taken) (all h.place x h.within)
+
+  pub all_tail : (x : A) (xs : List A) → All P (x ∷ xs) → All P xs
+  all_tail x xs all = λ k d lt. all (suc k) d (omega (arith, lt))
+
+  pub all_head : (x : A) (xs : List A) → All P (x ∷ xs) → P x
+  all_head x xs all = all 0 x (omega arith)
+
+-- ---- names of their own
+abbrev name_of : Task → TaskId
+name_of t = (task_view t).task
+
+other_way : (t u : TaskId) → same_task t u ≡ false → same_task u t ≡ false
+other_way t u apart = by (same_task u t) refl
+  where
+    by : (b : Bool) → same_task u t ≡ b → b ≡ false
+    by false e = refl
+    by true e = sym (same_task-refl t) ∙ ap (same_task t) (sym (same_task-is u t e)) ∙ apart
+
+pub none_of : (t : TaskId) (ts : List Task) → has_task t (task_names ts) ≡ false → IsNoneOf t ts
+none_of t [] none = All-nil (λ (other : Task). same_task t (name_of other) ≡ false)
+none_of t (u ∷ us) none = All-cons (λ (other : Task). same_task t (name_of other) ≡ false) u us
+    (left (same_task t (name_of u)) (has_task t (task_names us)) none) (none_of t us (right (same_task t (name_of u)) (has_task t (task_names us)) none))
+  where
+    left : (a b : Bool) → (a || b) ≡ false → a ≡ false
+    left false b e = refl
+    left true b e = e
+
+    right : (a b : Bool) → (a || b) ≡ false → b ≡ false
+    right false b e = e
+    right true b e = absurd cc
+
+names_insert : (ts : List Task) (i : ℕ) (t : Task) → HaveOwnNames ts → IsNoneOf (name_of t) ts → HaveOwnNames (insert ts i t)
+names_insert [] zero t own none = (none, tt)
+names_insert [] (suc i) t own none = (none, tt)
+names_insert (u ∷ us) zero t own none = (none, own)
+names_insert (u ∷ us) (suc i) t own none = (
+  all_insert (λ (other : Task). same_task (name_of u) (name_of other) ≡ false) us i t own.0
+      (other_way (name_of t) (name_of u) (all_head (λ (other : Task). same_task (name_of t) (name_of other) ≡ false) u us none)),
+  names_insert us i t own.1 (all_tail (λ (other : Task). same_task (name_of t) (name_of other) ≡ false) u us none),
+)
+
+pub names_put : (old new : List Task) (t : Task) → HasPut old t new → HaveOwnNames old → IsNoneOf (name_of t) old → HaveOwnNames new
+names_put old new t h own none = subst HaveOwnNames (sym h.is) (names_insert old h.place t own none)

@@ -1,0 +1,39 @@
+use Rattle.std.proofs.Common.{ap, ◌∙◌}
+use Rattle.ks_topo.specs.Topologies.{draft_of}
+use Rattle.ks_client.specs.declared.member.Member.{Member}
+use Rattle.ks_client.proofs.Halting.{same_counts}
+use Rattle.ks_client.proofs.Moments.{may_later}
+use Rattle.ks_worker_state.proofs.States.{may_act_on, state_later_twice}
+use Rattle.ks_worker_turn.proofs.Keeping.{told_state, still_rested, keeps_both}
+use Rattle.ks_worker_turn.proofs.Assigned.{either_within}
+use Rattle.ks_worker_turn.proofs.beginning.begin_turn.Goals as goal
+
+pub heed_status-requires : goal.heed_status-requires
+heed_status-requires g c = record {
+  may = may_later g.W.Work.plan _ _ _ _ _ c.join_group.ensures.later.later (same_counts _ _ c.join_group.result c.in_ok-join_group.field-0 c.in_ok-join_group.was c.join_group.ensures.gate) c.requires.may.call;
+}
+
+pub place_tasks-requires-clause-may : goal.place_tasks-requires-clause-may
+place_tasks-requires-clause-may g c =
+    let s = c.args.state.now in
+    let one = c.join_group.new.state in
+    let two = c.heed_status.new.state in
+    may_act_on g.W.Work.plan g.H.Hash128.hash_of _ (draft_of c.args.topology.now) s two c.requires.may (state_later_twice g.W.Work.plan s one two c.join_group.ensures.later c.heed_status.ensures.later)
+    (same_counts _ _ c.heed_status.result c.in_ok-status.status c.in_ok-status.was c.heed_status.ensures.gate ∙ same_counts _ _ c.join_group.result c.in_ok-join_group.field-0 c.in_ok-join_group.was c.join_group.ensures.gate)
+    (keeps_both g.W.Work.plan s one two c.join_group.ensures.later c.in_ok-join_group.ensures.worker c.in_ok-status.ensures.worker g.H.Hash128.hash_of (draft_of c.args.topology.now) c.requires.may.topology c.requires.may.worker)
+
+pub place_tasks-requires-clause-status : goal.place_tasks-requires-clause-status
+place_tasks-requires-clause-status g c = told_state g.W.Work.plan c.join_group.new.state c.heed_status.new.state c.in_ok-status.status c.heed_status.ensures.later.later c.in_ok-status.ensures.status
+
+pub place_tasks-requires-clause-rested : goal.place_tasks-requires-clause-rested
+place_tasks-requires-clause-rested g c = λ newer. c.in_ok-status.ensures.newer (still_rested c.join_group.new.state.member c.heed_status.new.state.member _ _ c.in_ok-status.ensures.member newer)
+
+pub returns-clause-generation : goal.returns-clause-generation
+returns-clause-generation g c =
+    let s = c.args.state.now in
+    let one = c.join_group.new.state in
+    let two = c.heed_status.new.state in
+    let three = c.place_tasks.new.state in
+    either_within g.W.Work.plan s.session.client.pass two.session.client.pass three.session.client.pass _ _ _
+    (state_later_twice g.W.Work.plan s one two c.join_group.ensures.later c.heed_status.ensures.later).later
+    (ap (λ (m : Member). m.generation) c.in_ok-status.ensures.member ∙ c.join_group.ensures.generation) c.in_ok-place_tasks.ensures.generation

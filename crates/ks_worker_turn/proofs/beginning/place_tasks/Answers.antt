@@ -1,0 +1,47 @@
+use Rattle.std.proofs.Common.{inl, refl}
+use Rattle.std.proofs.lemmas.Result.{on_ok_weaker}
+use Rattle.ks_topo.specs.Topologies.{draft_of}
+use Rattle.ks_client.proofs.Halting.{same_counts}
+use Rattle.ks_client.proofs.Moments.{later_twice}
+use Rattle.ks_worker_turn.proofs.Keeping.{acts_on}
+use Rattle.ks_worker_turn.proofs.Assigned.{own_or_told, told_past}
+use Rattle.ks_worker_turn.specs.Acting.{WasAssigned}
+use Rattle.ks_worker_turn.proofs.Placed.{generation_later, some_said}
+use Rattle.ks_worker_turn.proofs.beginning.place_tasks.Goals as goal
+
+pub take_places-requires-clause-may : goal.take_places-requires-clause-may
+take_places-requires-clause-may g c =
+    acts_on g.W.Work.plan g.H.Hash128.hash_of _ (draft_of c.args.topology.now) c.args.state.now c.assignment_of.new.client c.requires.may c.assignment_of.ensures.later
+    (same_counts _ _ c.assignment_of.result c.in_ok-answer.answer c.in_ok-answer.was c.assignment_of.ensures.gate)
+
+pub take_places-requires-clause-past : goal.take_places-requires-clause-past
+take_places-requires-clause-past g c =
+    generation_later g.W.Work.plan c.args.state.now.session.client.pass c.assignment_of.new.client.pass c.args.told.generation c.assignment_of.ensures.later (told_past g.W.Work.plan c.args.state.now.session.client.pass c.args.told c.requires.status)
+
+pub returns-in_default-clause-worker : goal.returns-in_default-clause-worker
+returns-in_default-clause-worker g c =
+    (acts_on g.W.Work.plan g.H.Hash128.hash_of _ (draft_of c.args.topology.now) c.args.state.now c.assignment_of.new.client c.requires.may c.assignment_of.ensures.later
+    (same_counts _ _ c.assignment_of.result c.in_ok-answer.answer c.in_ok-answer.was c.assignment_of.ensures.gate)).worker
+
+pub returns-in_default-clause-generation : goal.returns-in_default-clause-generation
+returns-in_default-clause-generation g c = inl refl
+
+pub returns-clause-generation : goal.returns-clause-generation
+returns-clause-generation g c =
+    let s = c.args.state.now in
+    let mid = c.assignment_of.new.client.pass in
+    let n = c.take_places.new.state in
+    on_ok_weaker c.take_places.result
+    (λ member. own_or_told g.W.Work.plan s.session.client.pass mid n.session.client.pass s.member n.member c.args.told.generation
+    (some_said c.in_ok-answer.answer c.in-Some.assignment (λ a. WasAssigned g.W.Work.plan s.session.client.pass mid c.args.told.generation) c.in-Some.is c.in_ok-answer.ensures.told)
+    c.take_places.ensures.later.later member)
+    c.take_places.ensures.member
+
+pub returns-clause-later : goal.returns-clause-later
+returns-clause-later g c =
+    let s = c.args.state.now in
+    let l = c.take_places.ensures.later in
+    record { later = later_twice g.W.Work.plan _ _ _ c.assignment_of.ensures.later l.later; number = l.number; instance = l.instance }
+
+pub returns-in_default-clause-later : goal.returns-in_default-clause-later
+returns-in_default-clause-later g c = record { later = c.assignment_of.ensures.later; number = refl; instance = refl }

@@ -1,0 +1,11 @@
+use Rattle.ks_worker_turn.proofs.Rested.{popped, more_rested, left_held}
+use Rattle.ks_worker_turn.proofs.heeding.rest_tasks.Goals as goal
+
+pub loop-task-preserved : goal.loop-task-preserved
+loop-task-preserved c =
+    let is = popped c.loop-task.tasks.items c.pop.new.self.items c.pop.result c.in-Some.task c.in-Some.is c.pop.ensures.items in
+    record {
+      left = λ d setup journal m last all. left_held c.loop-task.tasks.items c.pop.new.self.items c.in-Some.task d setup journal m last is (c.loop-task.invariant.left d setup journal m last all);
+      kept = more_rested c.args.tasks.now.items c.loop-task.tasks.items c.pop.new.self.items c.in-Some.task c.args.replicas.now.items c.loop-task.replicas.items c.rest_task.new.replicas.items is
+          c.loop-task.invariant.left c.loop-task.invariant.kept c.in_ok-rest_task.ensures;
+    }

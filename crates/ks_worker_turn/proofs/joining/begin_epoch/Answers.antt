@@ -1,0 +1,7 @@
+use Rattle.ks_worker_turn.proofs.Joined.{epoch_begun}
+use Rattle.ks_worker_turn.proofs.joining.begin_epoch.Goals as goal
+
+pub returns-clause-worker : goal.returns-clause-worker
+returns-clause-worker g c = λ hash d runs w.
+    epoch_begun g.W.Work.plan _ _ c.init.ensures.later d c.args.state.now.member c.in_ok-epoch.epoch c.args.state.now.session.last c.init.new.last c.args.state.now.session.numbers.items c.clear.new.self.items
+    c.args.state.now.tasks.items c.args.state.now.replicas.items c.in_ok-epoch.ensures.wrote c.in_ok-epoch.ensures.last c.clear.ensures.items c.requires.outside c.requires.may.network w

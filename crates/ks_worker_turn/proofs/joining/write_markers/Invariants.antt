@@ -1,0 +1,10 @@
+use Rattle.std.proofs.Common.{◌≡◌}
+use Rattle.ks_client.specs.Calls.{Later}
+use Rattle.ks_worker_turn.proofs.joining.write_markers.Given as goal
+
+-- a later moment, and nothing was cut off
+abbrev pub invariant-loop : goal.invariant-loop
+invariant-loop g l = record {
+  later : Later g.W.Work.plan l.fn.client.pass l.client.pass;
+  gate : l.client.gate ≡ l.fn.client.gate;
+}

@@ -1,0 +1,14 @@
+use Rattle.std.proofs.Common.{◌≡◌}
+use Rattle.ks_topo.specs.Topologies.{draft_of}
+use Rattle.ks_worker_state.specs.State.{IsWorkerState, LaterState}
+use Rattle.ks_worker_turn.proofs.parking.park_others.Given as goal
+
+-- a later moment, nothing was cut off, and the worker is one
+abbrev pub invariant-loop-i : goal.invariant-loop-i
+invariant-loop-i g l = record {
+  later : LaterState g.W.Work.plan l.fn.state l.state;
+  gate : l.state.session.client.gate ≡ l.fn.state.session.client.gate;
+  worker : IsWorkerState g.W.Work.plan (draft_of l.topology) l.state;
+  member : l.state.member ≡ l.fn.state.member;
+  tasks : l.state.tasks.items ≡ l.fn.state.tasks.items;
+}

@@ -1,0 +1,31 @@
+use Rattle.std.proofs.Common.{refl, ◌∙◌}
+use Rattle.ks_topo.specs.Topologies.{draft_of}
+use Rattle.ks_client.proofs.Halting.{same_counts}
+use Rattle.ks_worker_state.proofs.States.{may_act_on, same_state, state_later_twice}
+use Rattle.ks_worker_turn.proofs.Placed.{known_later}
+use Rattle.ks_worker_turn.proofs.taking.take_all.Goals as goal
+
+pub take_assigned-requires-clause-may : goal.take_assigned-requires-clause-may
+take_assigned-requires-clause-may g c =
+    may_act_on g.W.Work.plan g.H.Hash128.hash_of _ (draft_of c.args.topology.now) c.args.state.now c.loop-i.state c.requires.may c.loop-i.invariant.later c.loop-i.invariant.gate c.loop-i.invariant.worker
+
+pub take_assigned-requires-clause-task : goal.take_assigned-requires-clause-task
+take_assigned-requires-clause-task g c =
+    known_later g.W.Work.plan g.H.Hash128.hash_of (draft_of c.args.topology.now) c.args.state.now.session.client.pass c.loop-i.state.session.client.pass c.tasks-tasks.result.now c.loop-i.i _ c.loop-i.invariant.later.later c.requires.may.topology
+    c.tasks-tasks.ensures c.loop-i-test.true
+
+pub loop-i-init : goal.loop-i-init
+loop-i-init g c = record {
+  later = same_state g.W.Work.plan _ c.args.state.now c.requires.may.call;
+  gate = refl;
+  worker = c.requires.may.worker;
+  member = refl;
+}
+
+pub loop-i-preserved : goal.loop-i-preserved
+loop-i-preserved g c = record {
+  later = state_later_twice g.W.Work.plan c.args.state.now c.loop-i.state c.take_assigned.new.state c.loop-i.invariant.later c.take_assigned.ensures.later;
+  gate = same_counts _ _ c.take_assigned.result c.in_ok-take_assigned.field-0 c.in_ok-take_assigned.was c.take_assigned.ensures.gate ∙ c.loop-i.invariant.gate;
+  worker = c.in_ok-take_assigned.ensures.worker;
+  member = c.take_assigned.ensures.member ∙ c.loop-i.invariant.member;
+}

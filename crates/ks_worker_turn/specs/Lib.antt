@@ -1,0 +1,4 @@
+pub mod Acting
+pub mod Lists
+pub mod Places
+pub mod Resting
