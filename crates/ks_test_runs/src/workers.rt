@@ -14,13 +14,13 @@ use std::test::Fail;
 use std::thread::Threads;
 
 /// An order before its customer.
-const ORDER: &str =
+pub const ORDER: &str =
     r#"{"app":"s","topics":{"customers":1,"orders":1},"nodes":[{"name":"o","op":"table","topic":"orders"},{"name":"c","op":"table","topic":"customers"},{"name":"e","op":"fk_join","left":"o","right":"c","fk":"cust","kind":"inner","set":{"amt":{"left":"amt"},"region":{"right":"region"}}}],"print":["e"]}
 {"topic":"orders","key":"o1","value":{"cust":"c1","amt":5}}
 {"topic":"customers","key":"c1","value":{"region":"eu"}}
 "#;
 
-const SHOWN: &str = "settled\ntable e 1\n[\"o1\",{\"amt\":5,\"region\":\"eu\"}]\n";
+pub const SHOWN: &str = "settled\ntable e 1\n[\"o1\",{\"amt\":5,\"region\":\"eu\"}]\n";
 
 /// Two rows of one order, which have one hash where all have.
 const COLLISION: &str =
