@@ -4,6 +4,7 @@ pub mod Homes
 pub mod Moves
 pub mod Others
 pub mod Tables
+pub mod Tests
 pub mod Told
 pub mod Wanted
 pub mod Warmth

@@ -139,6 +139,19 @@ pub record IsGood (tasks : List TaskId) (clients : List Client) (held : List Hel
       (by_client clients a.standby) (by_client clients a.warmup) ≡ true
   pub even : all_even clients a.active ≡ true
 
+-- the seven points as one test: true exactly where the assignment is good
+abbrev pub is_good : List TaskId → List Client → List Held → Wants → Assignment → Bool
+is_good tasks clients held wants a =
+    let active = by_client clients a.active in
+    let standby = by_client clients a.standby in
+    let warmup = by_client clients a.warmup in
+    places_tasks tasks active standby warmup
+    && (runs_warm clients held wants.lag active
+    && (is_balanced clients held wants.lag active
+    && (has_standbys tasks clients wants.standbys active standby
+    && (warms_up held wants.lag wants.warmups active standby warmup
+    && (prepares clients wants.warmups active standby warmup && all_even clients a.active)))))
+
 -- a client has the worker
 abbrev pub employs : ℕ → List Client → Bool
 employs w clients = list_any (λ c. has_worker w c.workers) clients

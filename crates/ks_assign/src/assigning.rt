@@ -1,6 +1,7 @@
 //! Good assignments: the test, and the making of one.
 ghost use Rattle.std.specs.Prelude.{◌≡◌, ◌↔◌, IsTrue, IfOk, true};
 ghost use Rattle.ks_assign.specs.Placement.{IsGood, AreClients, tasks_apart};
+ghost use Rattle.ks_assign.specs.Rows.{GoodIsATest};
 
 use crate::backing::{candidates, standbys};
 use crate::balancing::balance;
@@ -86,3 +87,10 @@ pub fn assign(
         warmup: Seq::of(warmup),
     })
 }
+
+/// Whether an assignment is good is a test over the tasks, the clients, the lags and the assignment: it is true exactly where all seven
+/// points hold.
+#[tactic(auto, using(crate::proofs::Tests::good_is_a_test))]
+pub fn good_is_a_test()
+    ensures { GoodIsATest }
+{}

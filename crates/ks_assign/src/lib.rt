@@ -15,7 +15,7 @@ mod points;
 mod rows;
 mod spreading;
 
-pub use assigning::{assign, check};
+pub use assigning::{assign, check, good_is_a_test};
 pub use clients::{Client, Held, Placing, Wants};
 pub use conditions::{are_clients, are_tasks_apart};
 pub use ks_row::Assignment;

@@ -1,5 +1,5 @@
 -- The clients of a group meet what the assignor asks of them.
-use Rattle.std.proofs.Common.{◌≡◌, ◌⊎◌, ◌≤◌, ◌<◌, ◌/◌, ◌&&◌, ◌||◌, ◌++◌, ◌==◌, ℕ, zero, suc, not, Bool, true, false, cond, nat_le, nat_lt, List, [], ◌∷◌, length, inl, inr, refl, sym, ap, subst, ◌∙◌, arith}
+use Rattle.std.proofs.Common.{◌≡◌, ◌⊎◌, ◌≤◌, ◌<◌, ◌/◌, ◌||◌, ◌++◌, ◌==◌, ℕ, zero, suc, not, Bool, true, false, cond, nat_le, nat_lt, List, [], ◌∷◌, length, inl, inr, refl, sym, ap, subst, ◌∙◌, arith}
 use Rattle.std.specs.List.{list_all, list_any}
 use Rattle.std.proofs.lemmas.Bool.Decides.{eqb_tells, nat_tests}
 use Rattle.ks_assign.specs.declared.clients.Client.{Client}
@@ -17,11 +17,11 @@ or_none : (a b : Bool) → a ≡ false → b ≡ false → (a || b) ≡ false
 or_none true b h k = absurd (false_not_true (sym h))
 or_none false b h k = k
 
-is_not : (a : Bool) → (a ≡ true → ⊥) → a ≡ false
+pub is_not : (a : Bool) → (a ≡ true → ⊥) → a ≡ false
 is_not true h = absurd (h refl)
 is_not false h = refl
 
-equal_is : (a b : ℕ) → (a == b) ≡ true → a ≡ b
+pub equal_is : (a b : ℕ) → (a == b) ≡ true → a ≡ b
 equal_is a b h = elim (eqb_tells a b) [ inl e ↦ e.1 | inr e ↦ absurd (false_not_true (sym e.0 ∙ h)) ]
 
 pub any_append : {X : Type 0} (p : X → Bool) (xs ys : List X) → list_any p (xs ++ ys) ≡ (list_any p xs || list_any p ys)

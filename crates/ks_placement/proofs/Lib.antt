@@ -1,2 +1,4 @@
+pub mod Alone
 pub mod Grouping
 pub mod Places
+pub mod Subs

@@ -1,24 +1,22 @@
 -- A good assignment names tasks of the cluster and workers 0 to 16.
-use Rattle.std.proofs.Common.{◌≡◌, ◌≤◌, ◌&&◌, ◌||◌, ℕ, not, Bool, true, false, cond, nat_le, nat_lt, List, [], ◌∷◌, inl, inr, refl, sym, ap, subst, ◌∙◌}
-use Rattle.std.specs.List.{list_all, list_any}
+use Rattle.std.proofs.Common.{◌≡◌, ◌&&◌, ◌||◌, ℕ, not, Bool, true, false, cond, nat_le, nat_lt, List, [], ◌∷◌, inl, inr, refl, sym, ap, subst, ◌∙◌}
 use Rattle.ks_row.specs.declared.record.TaskId.{TaskId}
 use Rattle.ks_row.specs.declared.assignment.Assignment.{Assignment}
 use Rattle.ks_row.specs.Parts.{same_task}
-use Rattle.ks_history.specs.declared.journal.Status.{Status}
 use Rattle.ks_history.specs.State.{Setup, are_once, has_task as has}
 use Rattle.ks_history.specs.History.{are_places}
 use Rattle.ks_assign.proofs.Others.{same_tells}
 use Rattle.ks_assign.specs.declared.clients.Client.{Client}
-use Rattle.ks_assign.specs.declared.clients.Placing.{Placing}
 use Rattle.ks_assign.specs.declared.clients.Held.{Held}
 use Rattle.ks_assign.specs.declared.clients.Wants.{Wants}
 use Rattle.ks_row.specs.declared.record.PartId.{PartId}
-use Rattle.ks_assign.specs.Placement.{IsGood, Places, has_task, home, by_client, each_once, all_known, places_tasks, tasks_apart}
+use Rattle.ks_assign.specs.Placement.{IsGood, is_good, Places, has_task, home, by_client, each_once, all_known, tasks_apart}
 use Rattle.ks_assign.proofs.Homes.{and_left, and_right, and_both, false_not_true}
 use Rattle.ks_assign.proofs.Even.{le_true}
-use Rattle.ks_placement.specs.Groups.{clients_below, clients_of, lags_in, IsGoodBy}
-use Rattle.ks_placement.specs.Laws.{ArePlaces, GoodPlaces}
-use Rattle.ks_placement.proofs.Grouping.{employed_in, home_employs, or_cases}
+use Rattle.ks_assign.proofs.Tests.{is_test, test_is}
+use Rattle.ks_placement.specs.Groups.{clients_below, clients_of, lags_in}
+use Rattle.ks_placement.specs.Laws.{GoodPlaces}
+use Rattle.ks_placement.proofs.Grouping.{employed_in, home_employs}
 
 same_task-sym : (t u : TaskId) → same_task t u ≡ same_task u t
 same_task-sym t u = elim (same_tells t u) [
@@ -49,8 +47,9 @@ known_places setup threads members (p ∷ ps) h =
     and_both (has p.0 setup.tasks && nat_le p.1 16) (are_places setup ps) (and_both (has p.0 setup.tasks) (nat_le p.1 16) known (le_true p.1 16 small.1)) (known_places setup threads members ps (and_right _ (all_known setup.tasks (by_client cs ps)) h))
 
 pub good_places : GoodPlaces
-good_places changelogs setup placing status a good =
+good_places changelogs setup placing status a passed =
     let cs : List Client = clients_of placing.threads status.members in
+    let good = test_is setup.tasks cs (lags_in changelogs cs setup.tasks status.held status.ends) placing.wants a passed in
     let known : (all_known setup.tasks (by_client cs a.active) && (all_known setup.tasks (by_client cs a.standby) && all_known setup.tasks (by_client cs a.warmup))) ≡ true =
     and_right (each_once setup.tasks (by_client cs a.active)) _ good.once in
     let rest : (all_known setup.tasks (by_client cs a.standby) && all_known setup.tasks (by_client cs a.warmup)) ≡ true = and_right (all_known setup.tasks (by_client cs a.active)) _ known in
@@ -62,8 +61,8 @@ good_places changelogs setup placing status a good =
 
 -- a good assignment of equal tasks and clients, whose lags are these
 pub same_good : (changelogs : ℕ → List ℕ) (ts us : List TaskId) (cs ds es : List Client) (lags : List Held) (held : List (ℕ × TaskId × ℕ)) (ends : List (PartId × ℕ)) (wants : Wants) (a : Assignment) →
-    us ≡ ts → es ≡ cs → cs ≡ ds → lags ≡ lags_in changelogs es us held ends → IsGood us cs lags wants a → IsGood ts ds (lags_in changelogs ds ts held ends) wants a
+    us ≡ ts → es ≡ cs → cs ≡ ds → lags ≡ lags_in changelogs es us held ends → IsGood us cs lags wants a → is_good ts ds (lags_in changelogs ds ts held ends) wants a ≡ true
 same_good changelogs ts us cs ds es lags held ends wants a tasks first clients told good =
     let here : IsGood us cs (lags_in changelogs cs us held ends) wants a = subst (λ hs. IsGood us cs hs wants a) (told ∙ ap (λ xs. lags_in changelogs xs us held ends) first) good in
     let there : IsGood ts cs (lags_in changelogs cs ts held ends) wants a = subst (λ xs. IsGood xs cs (lags_in changelogs cs xs held ends) wants a) tasks here in
-    subst (λ xs. IsGood ts xs (lags_in changelogs xs ts held ends) wants a) clients there
+    is_test ts ds (lags_in changelogs ds ts held ends) wants a (subst (λ xs. IsGood ts xs (lags_in changelogs xs ts held ends) wants a) clients there)

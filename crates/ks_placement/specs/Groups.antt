@@ -11,7 +11,7 @@ use Rattle.ks_assign.specs.declared.clients.Client.{Client}
 use Rattle.ks_assign.specs.declared.clients.Held.{Held}
 use Rattle.ks_assign.specs.declared.clients.Placing.{Placing}
 use Rattle.ks_assign.specs.Lag.{lag}
-use Rattle.ks_assign.specs.Placement.{has_worker, IsGood}
+use Rattle.ks_assign.specs.Placement.{has_worker, is_good}
 
 -- ---- clients
 -- worker w, 0 to 16, is one of instance w / threads
@@ -71,11 +71,16 @@ lags_in changelogs [] tasks held ends = []
 lags_in changelogs (c ∷ clients) tasks held ends = lags_at changelogs c tasks held ends ++ lags_in changelogs clients tasks held ends
 
 -- ---- the assignment
--- good for a group with these members, held positions and ends, of which each instance has so many workers, by what is wanted
-abbrev pub IsGoodFor : (ℕ → List ℕ) → List TaskId → Placing → List ℕ → List (ℕ × TaskId × ℕ) → List (PartId × ℕ) → Assignment → Type 0
-IsGoodFor changelogs tasks placing members held ends a =
+-- whether an assignment is good for a group with these members, held positions and ends of changelogs, of which each instance has so many
+-- workers, by what is wanted
+abbrev pub good_by : (ℕ → List ℕ) → List TaskId → Placing → List ℕ → List (ℕ × TaskId × ℕ) → List (PartId × ℕ) → Assignment → Bool
+good_by changelogs tasks placing members held ends a =
     let clients = clients_of placing.threads members in
-    IsGood tasks clients (lags_in changelogs clients tasks held ends) placing.wants a
+    is_good tasks clients (lags_in changelogs clients tasks held ends) placing.wants a
+
+-- it is good
+abbrev pub IsGoodFor : (ℕ → List ℕ) → List TaskId → Placing → List ℕ → List (ℕ × TaskId × ℕ) → List (PartId × ℕ) → Assignment → Type 0
+IsGoodFor changelogs tasks placing members held ends a = good_by changelogs tasks placing members held ends a ≡ true
 
 -- the same, by what a cluster tells of its group
 abbrev pub IsGoodBy : (ℕ → List ℕ) → List TaskId → Placing → Status → Assignment → Type 0

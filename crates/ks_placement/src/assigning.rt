@@ -4,7 +4,7 @@ ghost use Rattle.ks_plan.specs.Infos.{changelog_numbers};
 ghost use Rattle.ks_plan.specs.Layout.{tasks};
 ghost use Rattle.ks_topo.specs.Topologies.{plan_in};
 ghost use Rattle.ks_placement.specs.Groups.{clients_of, IsGoodBy};
-ghost use Rattle.ks_placement.specs.Laws.{GoodPlaces};
+ghost use Rattle.ks_placement.specs.Laws.{AloneIsGood, GoodPlaces};
 
 use crate::clients::clients_of;
 use crate::lags::lags_in;
@@ -47,4 +47,9 @@ pub fn assign_group(
 /// The places of a good assignment are of the cluster's tasks and workers.
 pub fn good_places()
     ensures { GoodPlaces }
+{}
+
+/// Where a worker is the one member, it is good that it has every task, with no standby and no warmup, whatever is held.
+pub fn alone_is_good()
+    ensures { AloneIsGood }
 {}

@@ -9,7 +9,6 @@ use ks_assign::{Client, Held, client_lag};
 use ks_history::Status;
 use ks_row::{PartId, TaskId};
 use ks_topo::Topology;
-use ks_worker_state::changelogs_in;
 use std::alloc::{AllocError, Global};
 
 // The end that is told of a partition; 0 where none is.
@@ -82,7 +81,8 @@ fn lag_of(
     changelogs: &[u16],
     status: &Status,
 ) -> Result<Held, AllocError>
-    ensures { IfOk result (λ h. h ≡ lag_of client.now task changelogs.now status.now.held status.now.ends) }
+    ensures { IfOk result (λ h. h ≡ lag_of client.now task changelogs.now status.now.held
+        status.now.ends) }
 {
     let ends = ends_at(alloc, task, changelogs, status.ends.as_slice())?;
     let positions = positions_in(
@@ -98,6 +98,14 @@ fn lag_of(
     })
 }
 
+// The changelogs of a subtopology's tasks.
+fn changelogs_in(topology: &Topology, sub: u8) -> &[u16]
+    ensures { result.now ≡ changelog_numbers (plan_in topology.now) sub }
+{
+    let _nodes = topology.nodes();
+    topology.changelogs(sub)
+}
+
 // Puts the lags of a client for each of these tasks behind others.
 fn push_lags_at(
     alloc: Global,
@@ -107,7 +115,9 @@ fn push_lags_at(
     status: &Status,
     lags: &mut Vec<Held>,
 ) -> Result<(), AllocError>
-    ensures { OnOk result (lags.new.items ≡ lags.old.items ++ lags_at (changelog_numbers (plan_in topology.now)) client.now tasks.now status.now.held status.now.ends) }
+    ensures { OnOk result (lags.new.items ≡ lags.old.items
+        ++ lags_at (changelog_numbers (plan_in topology.now)) client.now tasks.now
+        status.now.held status.now.ends) }
 {
     for task in tasks {
         let changelogs = changelogs_in(topology, task.sub);
@@ -124,7 +134,8 @@ pub(crate) fn lags_in(
     tasks: &[TaskId],
     status: &Status,
 ) -> Result<Vec<Held>, AllocError>
-    ensures { IfOk result (λ v. v.items ≡ lags_in (changelog_numbers (plan_in topology.now)) clients.now tasks.now status.now.held status.now.ends) }
+    ensures { IfOk result (λ v. v.items ≡ lags_in (changelog_numbers (plan_in topology.now))
+        clients.now tasks.now status.now.held status.now.ends) }
 {
     let mut lags = Vec::new(alloc);
     for client in clients {

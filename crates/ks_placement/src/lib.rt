@@ -5,4 +5,4 @@ mod assigning;
 mod clients;
 mod lags;
 
-pub use assigning::{assign_group, good_places};
+pub use assigning::{alone_is_good, assign_group, good_places};
