@@ -43,7 +43,7 @@ pub fn home_of(clients: &[Client], worker: u8) -> u16
     NO_CLIENT
 }
 
-/// How many tasks stand at a worker.
+/// How many tasks stand at a worker. Takes no memory.
 pub fn load_of(places: &[(TaskId, u8)], worker: u8) -> usize
     ensures is { result ≡ load worker places.now }
     ensures few { result ≤ length places.now }

@@ -4,8 +4,9 @@ ghost use Rattle.ks_history.specs.declared.journal.Request.TheVariants.{Init, Ma
 ghost use Rattle.ks_history.specs.declared.journal.Reply.TheVariants.{Done, Number, Truth, Mark as Marked};
 ghost use Rattle.ks_history.specs.History.{are_tasks, are_places};
 ghost use Rattle.ks_history.specs.Touched.{touched};
+ghost use Rattle.ks_cluster.specs.Placed.{IsGoodAt};
 ghost use Rattle.ks_cluster.specs.Replies.{number_or, truth_or};
-ghost use Rattle.ks_shared.specs.Calls.{setup_in};
+ghost use Rattle.ks_shared.specs.Calls.{setup_in, good_in};
 ghost use Rattle.ks_client.specs.Turns.{counts_after};
 ghost use Rattle.ks_client.specs.Calls.{MayCall, Later, Wrote};
 
@@ -20,7 +21,7 @@ use std::sync::Wait;
 
 impl<W: Work, G: Gate> ClusterClient<W, G> {
     /// Begins a new epoch of the worker's producer, whose undecided transaction is aborted, and answers the epoch. `last` is then
-    /// the place of this entry.
+    /// the place of this entry. The number 16 is left to the cluster's caller.
     pub fn init<R: Wait>(
         &mut self,
         rt: &R,
@@ -30,7 +31,7 @@ impl<W: Work, G: Gate> ClusterClient<W, G> {
         last: &mut u64,
     ) -> Result<u64, Halt>
         requires may { MayCall W.plan shared.now.growing.id self.old.pass self.old.gate }
-        requires worker { w ≤ 16 }
+        requires worker { w ≤ 15 }
         ensures gate { self.new.gate ≡ counts_after self.old.gate result }
         ensures later { Later W.plan self.old.pass self.new.pass }
         ensures wrote { IfOk result (λ n. Wrote W.plan self.old.pass self.new.pass (Init w) (Number n)) }
@@ -59,7 +60,8 @@ impl<W: Work, G: Gate> ClusterClient<W, G> {
         or_halt(shared.mark_next(rt, alloc, w, &mut self.pass))
     }
 
-    /// Makes a worker a member, and answers the next generation, which begins without an assignment.
+    /// Makes a worker a member, and answers the next generation, which begins without an assignment. The number 16 is left to the
+    /// cluster's caller.
     pub fn join<R: Wait>(
         &mut self,
         rt: &R,
@@ -68,7 +70,7 @@ impl<W: Work, G: Gate> ClusterClient<W, G> {
         w: u8,
     ) -> Result<u64, Halt>
         requires may { MayCall W.plan shared.now.growing.id self.old.pass self.old.gate }
-        requires worker { w ≤ 16 }
+        requires worker { w ≤ 15 }
         ensures gate { self.new.gate ≡ counts_after self.old.gate result }
         ensures later { Later W.plan self.old.pass self.new.pass }
         ensures wrote { IfOk result (λ n. Wrote W.plan self.old.pass self.new.pass (Join w) (Number n)) }
@@ -134,7 +136,8 @@ impl<W: Work, G: Gate> ClusterClient<W, G> {
         or_halt(shared.probe(rt, alloc, w, generation, &mut self.pass))
     }
 
-    /// Gives the generation its assignment; false where it has one. Refused: OldGeneration, BadAssignment.
+    /// Gives the generation its assignment, which is good by what the pass has seen; false where it has one. Refused: OldGeneration,
+    /// BadAssignment.
     pub fn assign<R: Wait>(
         &mut self,
         rt: &R,
@@ -149,6 +152,8 @@ impl<W: Work, G: Gate> ClusterClient<W, G> {
         requires active { are_places (setup_in W.plan self.old.pass.frame) a.now.active ≡ true }
         requires standby { are_places (setup_in W.plan self.old.pass.frame) a.now.standby ≡ true }
         requires warmup { are_places (setup_in W.plan self.old.pass.frame) a.now.warmup ≡ true }
+        requires good { IsGoodAt (good_in W.good self.old.pass.frame) (setup_in W.plan self.old.pass.frame)
+            self.old.pass.seen generation a.now }
         ensures gate { self.new.gate ≡ counts_after self.old.gate result }
         ensures later { Later W.plan self.old.pass self.new.pass }
         ensures wrote { IfOk result (λ n. Wrote W.plan self.old.pass self.new.pass (Assign w generation a.now) (truth_or n)) }

@@ -18,7 +18,7 @@ use Rattle.ks_group.specs.Group.{GroupView}
 use Rattle.ks_cluster.proofs.Groups.{new_at}
 
 -- a broker that moved has the tasks that it had
-moved_tasks : (setup : Setup) (s : State) (old new : Broker) (request : Request) (reply : Reply) → setup.tasks ≡ old.group.tasks → IsAt setup s old → Moves old new request reply
+pub moved_tasks : (setup : Setup) (s : State) (old new : Broker) (request : Request) (reply : Reply) → setup.tasks ≡ old.group.tasks → IsAt setup s old → Moves old new request reply
     → old.group.tasks ≡ new.group.tasks
 moved_tasks setup s old new request reply same k m = sym same ∙ sym (m.step setup s k).1.group_is.tasks_is
 

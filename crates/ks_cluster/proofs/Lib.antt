@@ -6,4 +6,5 @@ pub mod Steps
 pub mod Groups
 pub mod Readings
 pub mod Entries
+pub mod Placed
 pub mod StatusParts

@@ -1,19 +1,17 @@
 -- What readers are given is what the state says.
-use Rattle.std.proofs.Common.{◌≡◌, ℕ, zero, suc, ◌+◌, cond, List, [], ◌∷◌, length, take, Option, Some, None, Result, Ok, Err, refl, sym, ap, ◌∙◌}
-use Rattle.std.specs.Prelude.{map, ◌==◌, ◌||◌, max}
-use Rattle.ks_row.specs.declared.record.Rec.{Rec}
+use Rattle.std.proofs.Common.{◌≡◌, ℕ, zero, suc, ◌+◌, cond, List, [], ◌∷◌, length, Option, Some, None, Result, Ok, Err, refl, sym, ap, ◌∙◌}
+use Rattle.std.specs.Prelude.{map, ◌||◌}
 use Rattle.ks_row.specs.declared.record.PartId.{PartId}
 use Rattle.ks_row.specs.declared.record.TaskId.{TaskId}
 use Rattle.ks_row.specs.declared.assignment.Refused.{Refused}
 use Rattle.ks_history.specs.declared.transaction.Producer.{Producer}
-use Rattle.ks_history.specs.Partition.{readable, read, read_next, past_last, stable}
 use Rattle.ks_history.specs.State.{State, Setup}
 use Rattle.ks_history.specs.Step.{or_else, old_generation, not_assigned, unstable, is_undecided}
 use Rattle.ks_history.specs.Faithful.{marker_among, waiting_at, markers_of}
 use Rattle.ks_history.specs.Reads.{committed_refusal, end_of, ends_of, decided_records, is_some_waiting, pending_from, waiting_from, pending_producers}
 use Rattle.ks_log.specs.Written.{slots_in}
-use Rattle.ks_log.specs.Reading.{waiting_in, readable_pairs, decided_pairs, at_or_past, end_at}
-use Rattle.ks_log.proofs.Pairs.{at_or_past-with, readable-is, decided-is}
+use Rattle.ks_log.specs.Reading.{waiting_in, decided_pairs, end_at}
+use Rattle.ks_log.proofs.Pairs.{decided-is}
 use Rattle.ks_group.specs.Pending.{unstable_in, counts_for}
 use Rattle.ks_group.specs.Group.{committed_fault}
 use Rattle.ks_group.specs.New.{Refuses as GroupRefuses}
@@ -23,16 +21,6 @@ use Rattle.ks_cluster.specs.Statuses.{with_producers}
 use Rattle.ks_cluster.specs.View.{Refuses}
 use Rattle.ks_cluster.proofs.Plain.{open_plain}
 use Rattle.ks_cluster.proofs.Steps.{speak_is, unstable_all}
-
--- ---- fetch
-pub read-is : (setup : Setup) (s : State) (b : Broker) (p : PartId) (from limit : ℕ) (made : List (ℕ × Rec)) → IsAt setup s b
-    → made ≡ take limit (at_or_past from (readable_pairs 0 (slots_in p b.log))) → made ≡ read from limit (s.partition p)
-read-is setup s b p from limit made k cut =
-    cut ∙ ap (λ l. take limit (at_or_past from l)) (ap (readable_pairs 0) (k.log_is p) ∙ readable-is 0 (s.partition p))
-    ∙ ap (take limit) (at_or_past-with from (readable (s.partition p)))
-
-pub stable-is : (setup : Setup) (s : State) (b : Broker) (p : PartId) (n : ℕ) → IsAt setup s b → n ≡ stable (slots_in p b.log) → n ≡ stable (s.partition p)
-stable-is setup s b p n k told = told ∙ ap stable (k.log_is p)
 
 -- ---- committed
 or_else-assoc : (a b c : Option Refused) → or_else (or_else a b) c ≡ or_else a (or_else b c)
@@ -81,9 +69,3 @@ waiting-same a s v (suc left) is =
 
 pub waiting-are : (setup : Setup) (s : State) (b : Broker) → IsAt setup s b → waiting_from (with_producers b.txns) 0 17 ≡ waiting_from s 0 17
 waiting-are setup s b k = waiting-same (with_producers b.txns) s 0 17 k.producers_are
-
-pub next-is : (setup : Setup) (s : State) (b : Broker) (p : PartId) (from limit at n : ℕ) (made : List (ℕ × Rec)) → IsAt setup s b → made ≡ read from limit (s.partition p)
-    → at ≡ stable (slots_in p b.log) → n ≡ cond (length made == limit) (past_last made) (max from at) → n ≡ read_next from limit (s.partition p)
-next-is setup s b p from limit at n made k is stands told =
-    told ∙ ap (λ (l : List (ℕ × Rec)). cond (length l == limit) (past_last l) (max from at)) is
-    ∙ ap (λ m. cond (length (read from limit (s.partition p)) == limit) (past_last (read from limit (s.partition p))) (max from m)) (stable-is setup s b p at k stands)

@@ -1,37 +1,39 @@
 -- What each request does to a broker: the lemma of each method.
-use Rattle.std.proofs.Common.{◌≡◌, ◌≢◌, ne_eqb, ℕ, suc, ◌+◌, ◌<◌, ◌≤◌, ◌^◌, Bool, true, false, cond, List, [], ◌∷◌, ◌++◌, length, set, get_or, drop, length-set, Option, Some, None, Result, Ok, Err, refl, sym, ap, ◌∙◌, subst, arith}
-use Rattle.std.specs.Prelude.{◌&&◌, ◌||◌, ◌==◌, if◌then◌else◌, not, map}
-use Rattle.std.proofs.lemmas.Bool.{eq-eqb}
+use Rattle.std.proofs.Common.{◌≡◌, ℕ, suc, ◌+◌, ◌<◌, ◌≤◌, ◌^◌, Bool, true, false, cond, List, [], ◌∷◌, length, set, get_or, length-set, Option, Some, None, Result, Ok, Err, refl, sym, ap, ◌∙◌, subst, arith}
+use Rattle.std.specs.Prelude.{◌&&◌, ◌==◌, if◌then◌else◌, map}
+use Rattle.std.proofs.lemmas.Bool.{eq-eqb, eqb-true}
 use Rattle.ks_row.specs.declared.record.Rec.{Rec}
 use Rattle.ks_row.specs.declared.record.PartId.{PartId}
 use Rattle.ks_row.specs.declared.record.TaskId.{TaskId}
 use Rattle.ks_row.specs.declared.assignment.Refused.{Refused}
 use Rattle.ks_row.specs.declared.assignment.Refused.TheVariants.{OutOfSequence, Unstable}
 use Rattle.ks_row.specs.declared.assignment.Assignment.{Assignment}
-use Rattle.ks_row.specs.declared.assignment.Marker.{Marker}
 use Rattle.ks_history.specs.declared.partition.Slot.{Slot}
-use Rattle.ks_history.specs.declared.partition.Slot.TheVariants.{Plain, Mark}
+use Rattle.ks_history.specs.declared.partition.Slot.TheVariants.{Plain}
 use Rattle.ks_history.specs.declared.journal.Request.{Request}
-use Rattle.ks_history.specs.declared.journal.Request.TheVariants.{Produce, Init, Add, Append, SendOffsets, Decide, MarkNext, Join, Expire, Hold, Probe, Assign, Park, Unpark}
+use Rattle.ks_history.specs.declared.journal.Request.TheVariants.{Produce, Init, Add, Append, SendOffsets, Decide}
 use Rattle.ks_history.specs.declared.journal.Reply.{Reply}
-use Rattle.ks_history.specs.declared.journal.Reply.TheVariants.{Done, Number, Truth, Mark as Marked, Refused as Refuse}
+use Rattle.ks_history.specs.declared.journal.Reply.TheVariants.{Done, Number, Refused as Refuse}
 use Rattle.ks_history.specs.declared.transaction.Pending.{Pending}
 use Rattle.ks_history.specs.declared.transaction.Producer.{Producer}
-use Rattle.ks_history.specs.Partition.{count_sent, sent_slots, is_none}
-use Rattle.ks_history.specs.State.{State, Setup, start, new_producer, with_number, grown, insert_number, without_number, has_number, with_pending, committed_with}
-use Rattle.ks_history.specs.Step.{or_else, fenced, markers_waiting, without_part, out_of_sequence, old_generation, not_assigned, unstable_beside, unstable_from, has_pending, is_undecided, can_expire, refusal, answer, effect, reply_by, state_by, closed, renewed, pending_at, with_late, bad_assignment}
+use Rattle.ks_history.specs.Partition.{count_sent, sent_slots}
+use Rattle.ks_history.specs.State.{State, Setup, new_producer, with_number, with_pending, committed_with}
+use Rattle.ks_history.specs.Step.{or_else, fenced, markers_waiting, without_part, out_of_sequence, old_generation, not_assigned, unstable_beside, unstable_from, has_pending, refusal, answer, effect, reply_by, state_by, closed, renewed, pending_at, with_late}
 use Rattle.ks_history.specs.Count.{records_by}
 use Rattle.ks_log.specs.declared.log.Written.{Written}
 use Rattle.ks_log.specs.Written.{slots_in, total, with_slots}
-use Rattle.ks_log.proofs.Logs.{all_grown, total-with, length-sent}
-use Rattle.ks_txn.specs.Outcomes.{producer_at, done_by, changed_by, start_fault, has_fault, decide_fault, started, added, first_marker}
+use Rattle.ks_log.specs.declared.part.OutOfSequence.{OutOfSequence as Missed}
+use Rattle.ks_log.specs.Appending.{append_answer}
+use Rattle.ks_log.proofs.Logs.{all_grown, total-with}
+use Rattle.ks_log.proofs.Counting.{length-sent}
+use Rattle.ks_txn.specs.Outcomes.{producer_at, done_by, changed_by, start_fault, has_fault, decide_fault, started, added}
 use Rattle.ks_group.specs.Committed.{row_with}
 use Rattle.ks_group.specs.Pending.{is_pending, unstable_in, counts_for}
-use Rattle.ks_group.specs.Group.{GroupView, generation_fault, owner_at, owner_fault, speak_fault, assign_fault, next_generation, expired, assigned, pended, resolved}
+use Rattle.ks_group.specs.Group.{GroupView, generation_fault, owner_at, owner_fault, speak_fault, pended, resolved}
 use Rattle.ks_cluster.specs.declared.broker.Broker.{Broker}
 use Rattle.ks_cluster.specs.Replies.{done_or}
 use Rattle.ks_cluster.specs.Moves.{IsGroupAt, IsAt, Moves, plain, rows_at, sending_fault}
-use Rattle.ks_cluster.proofs.Plain.{start_plain, has_plain, decide_plain, open_plain, pending_plain, markers_plain, closed_plain, renewed_plain, added_plain, appended_plain, started_plain, closed_pending, renewed_pending, added_pending, appended_pending, offset_pending, appended, offset, changed, unchanged}
+use Rattle.ks_cluster.proofs.Plain.{start_plain, has_plain, decide_plain, pending_plain, markers_plain, closed_plain, renewed_plain, added_plain, appended_plain, started_plain, closed_pending, renewed_pending, added_pending, appended_pending, offset_pending, appended, offset, changed, unchanged}
 use Rattle.ks_cluster.proofs.Rows.{rows_with}
 
 -- ---- refused and accepted requests
@@ -355,20 +357,49 @@ has_some : (o : Option Refused) (r : Refused) → Err r ≡ done_by o → o ≡ 
 has_some None r is = absurd (cc)
 has_some (Some q) r is = cc
 
--- an append whose producer may not write, whose number is wrong, and one that is taken
-pub append_barred : (b : Broker) (w e number : ℕ) (t : TaskId) (part : PartId) (recs : List Rec) (n : ℕ) (r : Refused) → n ≡ count_sent w e (slots_in part b.log)
+-- an append whose producer may not write, one whose number is wrong, and one that is taken
+pub append_barred : (b : Broker) (w e number : ℕ) (t : TaskId) (part : PartId) (recs : List Rec) (r : Refused)
     → Err r ≡ done_by (has_fault (producer_at b.txns w) e part) → Moves b b (Append w e number t part recs) (Refuse r)
-append_barred b w e number t part recs n r count told = append_refused b w e number t part recs n r count
+append_barred b w e number t part recs r told = append_refused b w e number t part recs n r refl
     (ap (λ o. or_else o (if number == n then None else Some (OutOfSequence n))) (has_some (has_fault (producer_at b.txns w) e part) r told))
+  where
+    n : ℕ
+    n = count_sent w e (slots_in part b.log)
 
-pub append_late : (b : Broker) (w e number : ℕ) (t : TaskId) (part : PartId) (recs : List Rec) (n : ℕ) → n ≡ count_sent w e (slots_in part b.log)
-    → Ok tt ≡ done_by (has_fault (producer_at b.txns w) e part) → number ≢ n → Moves b b (Append w e number t part recs) (Refuse (OutOfSequence n))
-append_late b w e number t part recs n count told apart = append_refused b w e number t part recs n (OutOfSequence n) count
-    (ap (λ o. or_else o (if number == n then None else Some (OutOfSequence n))) (has_none (has_fault (producer_at b.txns w) e part) told) ∙ ap (λ c. cond c None (Some (OutOfSequence n))) (ne_eqb number n apart))
+-- with so many slots more where the number is the count
+abbrev grown_if : Broker → ℕ → ℕ → ℕ → TaskId → PartId → List Rec → List Written
+grown_if b w e number t part recs =
+    if number == count_sent w e (slots_in part b.log) then with_slots part (sent_slots w e number t recs) b.log else b.log
 
-pub append_done : (old new : Broker) (w e number : ℕ) (t : TaskId) (part : PartId) (recs : List Rec) (n first : ℕ) → w ≤ 16
-    → n ≡ count_sent w e (slots_in part old.log) → Ok tt ≡ done_by (has_fault (producer_at old.txns w) e part) → number ≡ n → first ≡ length (slots_in part old.log)
-    → new.log ≡ with_slots part (sent_slots w e number t recs) old.log → total new.log < 2 ^ 48
-    → new ≡ record old { log = new.log } → Moves old new (Append w e number t part recs) (Number first)
-append_done old new w e number t part recs n first h count told next first_is log few same =
-    appended_moves old new w e number t part recs n first h count (has_none (has_fault (producer_at old.txns w) e part) told) next first_is log few same
+pub append_missed : (old new : Broker) (w e number : ℕ) (t : TaskId) (part : PartId) (recs : List Rec) (missed : Missed)
+    → Ok tt ≡ done_by (has_fault (producer_at old.txns w) e part) → Err missed ≡ append_answer w e number (slots_in part old.log)
+    → new.log ≡ grown_if old w e number t part recs → new ≡ record old { log = new.log } → Moves old new (Append w e number t part recs) (Refuse (OutOfSequence missed.expected))
+append_missed old new w e number t part recs missed told answer log same = by (number == n) refl answer log
+  where
+    n : ℕ
+    n = count_sent w e (slots_in part old.log)
+
+    by : (b : Bool) → (number == n) ≡ b → Err missed ≡ cond b (Ok (length (slots_in part old.log))) (Err (record { expected = n })) → new.log ≡ cond b (with_slots part (sent_slots w e number t recs) old.log) old.log
+        → Moves old new (Append w e number t part recs) (Refuse (OutOfSequence missed.expected))
+    by true is so log = absurd (cc)
+    by false is so log =
+        let it : n ≡ missed.expected = cc in
+        subst (λ (b : Broker). Moves old b (Append w e number t part recs) (Refuse (OutOfSequence missed.expected))) (sym (same ∙ ap (λ l. record old { log = l }) log))
+        (subst (λ m. Moves old old (Append w e number t part recs) (Refuse (OutOfSequence m))) it
+        (append_refused old w e number t part recs n (OutOfSequence n) refl
+        (ap (λ o. or_else o (if number == n then None else Some (OutOfSequence n))) (has_none (has_fault (producer_at old.txns w) e part) told) ∙ ap (λ c. cond c None (Some (OutOfSequence n))) is)))
+
+pub append_done : (old new : Broker) (w e number : ℕ) (t : TaskId) (part : PartId) (recs : List Rec) (first : ℕ) → w ≤ 16
+    → Ok tt ≡ done_by (has_fault (producer_at old.txns w) e part) → Ok first ≡ append_answer w e number (slots_in part old.log)
+    → new.log ≡ grown_if old w e number t part recs → total new.log < 2 ^ 48 → new ≡ record old { log = new.log } → Moves old new (Append w e number t part recs) (Number first)
+append_done old new w e number t part recs first h told answer log few same = by (number == n) refl answer log
+  where
+    n : ℕ
+    n = count_sent w e (slots_in part old.log)
+
+    by : (b : Bool) → (number == n) ≡ b → ◌≡◌ {A = Result ℕ Missed} (Ok first) (cond b (Ok (length (slots_in part old.log))) (Err (record { expected = n }))) → new.log ≡ cond b (with_slots part (sent_slots w e number t recs) old.log) old.log
+        → Moves old new (Append w e number t part recs) (Number first)
+    by true is so log =
+        let first_is : first ≡ length (slots_in part old.log) = cc in
+        appended_moves old new w e number t part recs n first h refl (has_none (has_fault (producer_at old.txns w) e part) told) (eqb-true number n is) first_is log few same
+    by false is so log = absurd (cc)

@@ -1,5 +1,6 @@
 pub mod ParkedPairs
 pub mod Replies
 pub mod Moves
+pub mod Placed
 pub mod View
 pub mod Statuses

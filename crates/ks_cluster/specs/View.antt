@@ -13,6 +13,7 @@ use Rattle.ks_cluster.specs.declared.broker.Broker.{Broker}
 use Rattle.ks_history.specs.Count.{records_in}
 use Rattle.ks_log.specs.Written.{total}
 use Rattle.ks_cluster.specs.Moves.{IsAt}
+use Rattle.ks_cluster.specs.Placed.{PlacementTest, ArePlaced}
 
 -- what contracts see of a cluster
 pub record ClusterView (W : Type 0) : Type 0 where
@@ -44,6 +45,11 @@ pub record BrokerFollows (plan : TaskPlan) (counts : List ℕ) (journal : List E
   pub history : IsHistory (setup_at plan counts b) journal
   pub stands : IsAt (setup_at plan counts b) (at (setup_at plan counts b) journal) b
   pub wrote : records_in (setup_at plan counts b) journal ≤ total b.log
+
+-- the broker follows the journal, and each assignment that was taken is good by the work
+pub record IsCluster (plan : TaskPlan) (test : PlacementTest) (counts : List ℕ) (journal : List Entry) (b : Broker) : Type 0 where
+  pub follows : BrokerFollows plan counts journal b
+  pub placed : ArePlaced test (setup_at plan counts b) journal
 
 -- a read is refused so, or not at all
 abbrev pub Refuses : {A : Type 0} → Option Refused → Result A Refused → Type 0

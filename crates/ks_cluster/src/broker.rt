@@ -12,8 +12,8 @@ use crate::inputs::task_inputs;
 use crate::parked::{is_parked, without_parked};
 use crate::work::Work;
 use ks_group::Group;
-use ks_history::{Pending, Slot};
-use ks_log::{Log, one_slot, sent};
+use ks_history::Pending;
+use ks_log::{Batch, Log};
 use ks_row::{Assignment, PartId, Rec, Refused, Seq, TaskId};
 use ks_txn::Txns;
 use std::alloc::{AllocError, Global};
@@ -49,7 +49,7 @@ impl Broker {
         Ok(Broker {
             log: Log::new(alloc),
             txns: Txns::new(alloc)?,
-            group: Group::new(alloc, inputs.as_slice())?,
+            group: Group::new(alloc, inputs)?,
             parked: Seq::new(alloc),
         })
     }
@@ -103,18 +103,23 @@ impl Broker {
         ensures ok { IfOk result (λ r. Moves self.old self.new (Append w epoch number task part recs.items) (number_or r)) }
         ensures err { OnErr result (self.new ≡ self.old) }
     {
-        let slots = self.log.part(part);
-        let count = slots.count(w, epoch);
-        let first = slots.end();
         if let Err(refused) = self.txns.has(w, epoch, part) {
             return Ok(Err(refused));
         }
-        if number != count {
-            return Ok(Err(Refused::OutOfSequence { expected: count }));
+        let batch = Batch {
+            producer: w,
+            epoch,
+            number,
+            task,
+            recs,
+        };
+        let answer = self.log.append(alloc, part, batch)?;
+        match answer {
+            Ok(first) => Ok(Ok(first)),
+            Err(missed) => Ok(Err(Refused::OutOfSequence {
+                expected: missed.expected,
+            })),
         }
-        let more = sent(alloc, w, epoch, number, task, recs)?;
-        self.log.append(alloc, part, more)?;
-        Ok(Ok(first))
     }
 
     /// Why a worker may not send offsets for a task.
@@ -173,13 +178,8 @@ impl Broker {
         let Some(marker) = self.txns.next_marker(w) else {
             return Ok(None);
         };
-        let slot = Slot::Mark {
-            producer: w,
-            epoch: marker.epoch,
-            commit: marker.commit,
-        };
-        let more = one_slot(alloc, slot)?;
-        self.log.append(alloc, marker.part, more)?;
+        let part = marker.part;
+        self.log.mark(alloc, part, w, marker.epoch, marker.commit)?;
         self.txns.marked(w);
         Ok(Some((marker.part, marker.commit)))
     }
@@ -232,7 +232,7 @@ impl Broker {
         if self.group.generation() == u64::MAX {
             return Err(AllocError);
         }
-        self.group.expire(alloc, w)?;
+        self.group.expire(alloc, w);
         self.group.resolve(alloc, w, false);
         self.txns.fence(w);
         Ok(true)

@@ -1,5 +1,5 @@
 //! The cluster: a broker under a journal that is legal and faithful.
-ghost use Rattle.std.specs.Prelude.{◌≡◌, ℕ, ◌≤◌, ◌<◌, ◌^◌, [], true, IfOk, OnOk, OnErr, length};
+ghost use Rattle.std.specs.Prelude.{◌≡◌, ℕ, ◌≤◌, ◌<◌, ◌^◌, [], true, None, IfOk, OnOk, OnErr, length};
 ghost use Rattle.std.specs.List.{All};
 ghost use Rattle.ks_history.specs.declared.journal.Request.TheVariants.{Produce, Init, Add, Append, SendOffsets, Decide, MarkNext, Join, Expire, Hold, Probe, Assign, Park, Unpark};
 ghost use Rattle.ks_history.specs.declared.journal.Reply.TheVariants.{Done, Number, Truth, Mark as Marked};
@@ -9,6 +9,7 @@ ghost use Rattle.ks_history.specs.History.{Meets, CommitsFaithfully, IsHistory};
 ghost use Rattle.ks_history.specs.Reads.{MayFetch, fetched, committed_refusal, committed_offsets, ends_of, decided_records, pending_producers, status};
 ghost use Rattle.ks_cluster.specs.Replies.{done_or, number_or, truth_or};
 ghost use Rattle.ks_history.specs.Count.{records_in};
+ghost use Rattle.ks_cluster.specs.Placed.{IsGoodAt, ArePlaced};
 ghost use Rattle.ks_cluster.specs.View.{ClusterView, setup_of, setup_from, state_of, AddsEntry, Refuses};
 
 use crate::broker::Broker;
@@ -18,7 +19,7 @@ use crate::waiting::{marker_count, pending_count};
 use crate::work::Work;
 use ks_group::{copy_assignment, copy_held, new_pending};
 use ks_history::{Entry, Journal, Reply, Request, Status};
-use ks_log::{copies, copy, ends_in, next_in};
+use ks_log::{copies, copy, ends_in};
 use ks_row::{Assignment, PartId, Rec, Refused, Seq, TaskId};
 use std::alloc::{AllocError, Global};
 use std::marker::Model;
@@ -40,13 +41,13 @@ pub struct Cluster<W: Work> {
 }
 
 impl<W: Work> Model for Cluster<W> {
-    ghost use Rattle.ks_cluster.specs.View.{ClusterView, BrokerFollows};
+    ghost use Rattle.ks_cluster.specs.View.{ClusterView, IsCluster};
 
     ghost Value = { ClusterView W };
 
     ghost view = { λ c. record { work = c.work; counts = c.counts.items; tasks = c.broker.group.tasks; journal = c.journal.items } };
 
-    ghost invariant = { λ c. BrokerFollows (W.plan c.work) c.counts.items c.journal.items c.broker };
+    ghost invariant = { λ c. IsCluster (W.plan c.work) (W.good c.work) c.counts.items c.journal.items c.broker };
 }
 
 impl<W: Work> Cluster<W> {
@@ -250,7 +251,8 @@ impl<W: Work> Cluster<W> {
     }
 
     /// Gives the generation an assignment: false where it has one already. `w` is the worker that asks, which the journal
-    /// keeps. Refused: OldGeneration, BadAssignment.
+    /// keeps. An assignment that is to be taken is good for the group by what some prefix of the journal, in which the
+    /// generation stood already, tells of it. Refused: OldGeneration, BadAssignment.
     pub fn assign(
         &mut self,
         alloc: Global,
@@ -258,7 +260,9 @@ impl<W: Work> Cluster<W> {
         generation: u64,
         a: &Assignment,
     ) -> Result<Result<bool, Refused>, AllocError>
-        requires { Meets (setup_of W.plan self.old) (state_of W.plan self.old) (Assign w generation a.now) }
+        requires meets { Meets (setup_of W.plan self.old) (state_of W.plan self.old) (Assign w generation a.now) }
+        requires good { (state_of W.plan self.old).generation ≡ generation → (state_of W.plan self.old).assignment ≡ None
+            → IsGoodAt (W.good self.old.work) (setup_of W.plan self.old) self.old.journal generation a.now }
         ensures ok { IfOk result (λ r. AddsEntry W.plan self.old self.new (Assign w generation a.now) (truth_or r)) }
         ensures err { OnErr result (self.new ≡ self.old) }
     {
@@ -378,9 +382,8 @@ impl<W: Work> Cluster<W> {
         ensures next { IfOk result (λ r. r.1 ≡ (fetched (state_of W.plan self.now) part from max).1) }
     {
         let slots = self.broker.log.part(part);
-        let made = slots.readable(alloc, from, max as usize)?;
-        let next = next_in(made.as_slice(), slots.stable(), from, max as usize)?;
-        Ok((made, next))
+        let read = slots.read_committed(alloc, from, max)?;
+        Ok(read)
     }
 
     /// The committed offset of each input of a task, in the order of its inputs. Refused: OldGeneration, NotAssigned,
@@ -432,19 +435,22 @@ impl<W: Work> Cluster<W> {
         })
     }
 
-    /// The journal. It is legal and faithful, and has fewer than 2^48 records.
+    /// The journal. It is legal and faithful, each assignment in it that was taken is good by the work, and it has fewer
+    /// than 2^48 records.
     pub fn journal(&self) -> &[Entry]
         ensures entries { result.now ≡ self.now.journal }
         ensures history { IsHistory (setup_of W.plan self.now) self.now.journal }
+        ensures placed { ArePlaced (W.good self.now.work) (setup_of W.plan self.now) self.now.journal }
         ensures few { records_in (setup_of W.plan self.now) self.now.journal < 2 ^ 48 }
     {
         self.journal.as_slice()
     }
 
-    /// The journal alone: legal, faithful and with fewer than 2^48 records.
+    /// The journal alone: legal, faithful, with good assignments and fewer than 2^48 records.
     pub fn into_journal(self) -> Journal
         ensures entries { result ≡ self.journal }
         ensures history { IsHistory (setup_of W.plan self) self.journal }
+        ensures placed { ArePlaced (W.good self.work) (setup_of W.plan self) self.journal }
         ensures few { records_in (setup_of W.plan self) self.journal < 2 ^ 48 }
     {
         let Cluster {
@@ -460,6 +466,7 @@ impl<W: Work> Cluster<W> {
     pub fn into_journal_wide<R: Threads + Sync>(self, rt: &R) -> Journal
         ensures entries { result ≡ self.journal }
         ensures history { IsHistory (setup_of W.plan self) self.journal }
+        ensures placed { ArePlaced (W.good self.work) (setup_of W.plan self) self.journal }
         ensures few { records_in (setup_of W.plan self) self.journal < 2 ^ 48 }
     {
         let Cluster {

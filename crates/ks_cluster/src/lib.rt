@@ -11,4 +11,6 @@ mod waiting;
 mod work;
 
 pub use cluster::Cluster;
+pub use ks_history::{Entry, Journal, Reply, Request, Status};
+pub use ks_row::Refused;
 pub use work::Work;

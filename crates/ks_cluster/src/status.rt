@@ -1,5 +1,5 @@
 //! What a cluster tells of its group, its waiting markers and the ends of its changelogs.
-ghost use Rattle.std.specs.Prelude.{◌≡◌, ◌≤◌, ◌++◌, [], IfOk, OnOk, length, map, option_copied};
+ghost use Rattle.std.specs.Prelude.{◌≡◌, ℕ, ◌≤◌, ◌++◌, [], false, Some, IfOk, OnOk, length, map, option_copied};
 ghost use Rattle.ks_history.specs.Machine.{has_topic};
 ghost use Rattle.ks_history.specs.Reads.{is_changelog};
 ghost use Rattle.ks_cluster.specs.View.{setup_from};
@@ -75,14 +75,27 @@ fn has_number(numbers: &[u16], number: u16) -> bool
     false
 }
 
-// Whether a topic is a changelog of one of these tasks.
+// Whether a topic is a changelog of a subtopology, where it is none of the one that was asked last.
+fn keeps<W: Work>(work: &W, last: Option<u8>, sub: u8, topic: u16) -> bool
+    requires { (s : ℕ) → last ≡ Some s → has_topic topic ((W.plan work.now).changelogs s) ≡ false }
+    ensures { result ≡ has_topic topic ((W.plan work.now).changelogs sub) }
+{
+    if last == Some(sub) {
+        return false;
+    }
+    has_number(work.changelogs(sub), topic)
+}
+
+// Whether a topic is a changelog of one of these tasks. Where tasks of a subtopology stand together, it is asked once.
 fn is_kept<W: Work>(work: &W, tasks: &[TaskId], topic: u16) -> bool
     ensures { result ≡ is_changelog (setup_from (W.plan work.now) [] []) tasks.now topic }
 {
+    let mut last: Option<u8> = None;
     for task in tasks {
-        if has_number(work.changelogs(task.sub), topic) {
+        if keeps(work, last, task.sub, topic) {
             return true;
         }
+        last = Some(task.sub);
     }
     false
 }

@@ -1,11 +1,16 @@
 //! What the tasks of a cluster do.
 ghost use Rattle.std.specs.Prelude.{◌≡◌, ℕ};
 ghost use Rattle.ks_history.specs.Machine.{TaskPlan, IsNetwork};
+ghost use Rattle.ks_cluster.specs.Placed.{PlacementTest};
 
-/// The work of a cluster's tasks: which topics they read and write, and, as a meaning alone, what they make of a record.
+/// The work of a cluster's tasks: which topics they read and write, and, as meanings alone, what they make of a record and how they are
+/// to be placed.
 pub trait Work: Drop {
     /// The topics of each subtopology, and what its tasks make of a record.
     ghost plan: { Self → TaskPlan };
+
+    /// Which assignments are good for a generation's members, the positions that they hold and the ends of the changelogs.
+    ghost good: { Self → PlacementTest };
 
     /// The number of input topics, which have the first numbers.
     fn sources(&self) -> u16

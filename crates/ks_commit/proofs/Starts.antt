@@ -1,5 +1,5 @@
 -- A worker begins an epoch, joins the group and is given every task.
-use Rattle.std.proofs.Common.{◌≡◌, ℕ, suc, ◌+◌, ◌≤◌, Bool, true, false, cond, ◌&&◌, ◌||◌, List, [], ◌∷◌, ◌++◌, Option, Some, None, refl, sym, ap, ap₂, subst, ◌∙◌, arith}
+use Rattle.std.proofs.Common.{◌≡◌, ℕ, suc, ◌+◌, ◌≤◌, Bool, true, false, cond, ◌&&◌, ◌||◌, List, [], ◌∷◌, ◌++◌, Option, Some, None, refl, sym, ap, ap₂, subst, ◌∙◌, append-nil, arith}
 use Rattle.std.specs.Prelude.{◌==◌, nat_le, nat_lt}
 use Rattle.std.proofs.lemmas.Bool.{and_from, eq-eqb, le-leb, true≢false, or_left, or_right}
 use Rattle.ks_row.specs.declared.record.TaskId.{TaskId}
@@ -20,9 +20,11 @@ use Rattle.ks_history.specs.History.{are_places, IsHistory}
 use Rattle.ks_history.proofs.Names.{same_task-is, same_task-refl}
 use Rattle.ks_law_exactly_once.proofs.Refusals.{closed_undecided, closed_waiting}
 use Rattle.ks_law_exactly_once.proofs.Quiet.{aborted_waiting}
+use Rattle.ks_history.specs.Reads.{status}
+use Rattle.ks_cluster.specs.Placed.{PlacementTest, IsGoodAt}
 use Rattle.ks_cluster.specs.View.{ClusterView, setup_of, state_of, AddsEntry}
 use Rattle.ks_commit.specs.Alone.{IsIdle, IsAlone}
-use Rattle.ks_commit.specs.Everything.{at_worker, everything}
+use Rattle.ks_commit.specs.Everything.{at_worker, everything, IsGoodForAll}
 use Rattle.ks_commit.specs.Sending.{IsLonger}
 use Rattle.ks_commit.specs.Committed.{Started}
 use Rattle.ks_commit.proofs.Gaining.{at_it}
@@ -193,3 +195,25 @@ assign_free plan old first second w epoch generation a once all init join =
     (ap₂ (λ (ts : List TaskId) (b : Assignment). bad_assignment ts (state_of plan second).members b.active) same all
     ∙ ap (λ (s : State). bad_assignment old.tasks s.members (at_worker w old.tasks)) two
     ∙ good_assignment w (insert_number w (state_of plan old).members) (has_inserted w (state_of plan old).members) old.tasks once)
+
+-- and the assignment is good
+pub assign_good : {W : Type 0} (plan : W → TaskPlan) (good : W → PlacementTest) (old first second : ClusterView W) (w epoch generation : ℕ) (a : Assignment)
+    → IsGoodForAll (good old.work) (insert_number w (state_of plan old).members) (everything w old.tasks) → a ≡ everything w old.tasks
+    → AddsEntry plan old first (Init w) (Number epoch) → AddsEntry plan first second (Join w) (Number generation)
+    → IsGoodAt (good second.work) (setup_of plan second) second.journal generation a
+assign_good {W} plan good old first second w epoch generation a any all init join =
+    let s : State = state_of plan second in
+    let held = (status (setup_of plan second) s).held in
+    let ends = (status (setup_of plan second) s).ends in
+    let one : state_of plan first ≡ effect (state_of plan old) (Init w) = new_state plan old first (Init w) (Number epoch) init refl in
+    let two : s ≡ effect (state_of plan first) (Join w) = new_state plan first second (Join w) (Number generation) join refl in
+    let e : Number generation ≡ Number ((state_of plan first).generation + 1) = join.step in
+    let its : generation ≡ (state_of plan first).generation + 1 = cc in
+    let work : second.work ≡ old.work = ap (λ (c : ClusterView W). c.work) join.journal ∙ ap (λ (c : ClusterView W). c.work) init.journal in
+    let members : s.members ≡ insert_number w (state_of plan old).members = ap (λ (t : State). t.members) two ∙ ap (λ (t : State). insert_number w t.members) one in
+    record {
+      seen = second.journal;
+      begins = ([], append-nil second.journal);
+      generation = ap (λ (t : State). t.generation) two ∙ sym its;
+      good = ap (λ (x : W). good x s.members held ends a) work ∙ ap₂ (λ (ms : List ℕ) (b : Assignment). good old.work ms held ends b) members all ∙ any held ends;
+    }

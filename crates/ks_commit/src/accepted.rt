@@ -6,6 +6,7 @@ ghost use Rattle.ks_history.specs.declared.journal.Request.TheVariants.{Add, App
 ghost use Rattle.ks_history.specs.declared.journal.Reply.TheVariants.{Done, Number, Truth};
 ghost use Rattle.ks_history.specs.Step.{refusal};
 ghost use Rattle.ks_history.specs.History.{Meets, CommitsFaithfully};
+ghost use Rattle.ks_cluster.specs.Placed.{IsGoodAt};
 ghost use Rattle.ks_cluster.specs.View.{setup_of, state_of, AddsEntry};
 
 use ks_cluster::{Cluster, Work};
@@ -95,7 +96,7 @@ pub fn decide<W: Work>(
     }
 }
 
-/// Gives the generation an assignment.
+/// Gives the generation an assignment, which is good.
 pub fn assign<W: Work>(
     alloc: Global,
     cluster: &mut Cluster<W>,
@@ -105,6 +106,7 @@ pub fn assign<W: Work>(
 ) -> Result<bool, AllocError>
     requires meets { Meets (setup_of W.plan cluster.old) (state_of W.plan cluster.old) (Assign w generation a.now) }
     requires free { refusal (setup_of W.plan cluster.old) (state_of W.plan cluster.old) (Assign w generation a.now) ≡ None }
+    requires good { IsGoodAt (W.good cluster.old.work) (setup_of W.plan cluster.old) cluster.old.journal generation a.now }
     ensures ok { IfOk result (λ b. AddsEntry W.plan cluster.old cluster.new (Assign w generation a.now) (Truth b)) }
     ensures err { OnErr result (cluster.new ≡ cluster.old) }
 {

@@ -1,13 +1,13 @@
 //! A worker that publishes.
 ghost use Rattle.std.specs.Prelude.{◌≡◌, ℕ, ◌≤◌, true, IfOk, OnErr};
 ghost use Rattle.ks_history.specs.Machine.{IsNetwork};
-ghost use Rattle.ks_history.specs.State.{are_once, has_task};
+ghost use Rattle.ks_history.specs.State.{are_once, has_task, insert_number};
 ghost use Rattle.ks_history.specs.Reads.{committed_offsets};
 ghost use Rattle.ks_cluster.specs.View.{setup_of, state_of};
 ghost use Rattle.ks_commit.specs.Alone.{IsIdle};
 ghost use Rattle.ks_commit.specs.Committed.{IsReady, Started};
 ghost use Rattle.ks_commit.specs.Sending.{Longer};
-ghost use Rattle.ks_commit.specs.Everything.{everything};
+ghost use Rattle.ks_commit.specs.Everything.{everything, IsGoodForAll};
 
 use crate::accepted::{assign, committed};
 use ks_cluster::{Cluster, Work};
@@ -39,7 +39,8 @@ fn all_active(alloc: Global, worker: u8, tasks: &[TaskId]) -> Result<Assignment,
 }
 
 impl Publisher {
-    /// A worker begins an epoch, joins the group and is given every task, at a cluster between two transactions.
+    /// A worker begins an epoch, joins the group and is given every task, which is good for the members that there are then, at a
+    /// cluster between two transactions.
     pub fn start<W: Work>(
         alloc: Global,
         cluster: &mut Cluster<W>,
@@ -51,6 +52,8 @@ impl Publisher {
         requires idle { IsIdle (state_of W.plan cluster.old) }
         requires tasks { tasks.now ≡ cluster.old.tasks }
         requires once { are_once cluster.old.tasks ≡ true }
+        requires good { IsGoodForAll (W.good cluster.old.work)
+            (insert_number worker (state_of W.plan cluster.old).members) (everything worker cluster.old.tasks) }
         ensures ready { IfOk result (λ p. IsReady (setup_of W.plan cluster.new) (state_of W.plan cluster.new) p) }
         ensures worker { IfOk result (λ p. p.worker ≡ worker) }
         ensures started { IfOk result (λ p. Started W.plan cluster.old cluster.new worker) }

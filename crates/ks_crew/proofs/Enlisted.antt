@@ -1,6 +1,6 @@
 -- Workers before their first turn: their passes are those of a new lock, and they may run.
 use Rattle.std.proofs.Common.{◌≡◌, ℕ, zero, suc, ◌+◌, ◌*◌, ◌<◌, ◌≤◌, List, [], ◌∷◌, ◌++◌, map, length, append-nil, append_assoc, length-append, refl, sym, ap, subst, ◌∙◌, arith, Result, Ok, Err, IfOk}
-use Rattle.std.specs.Prelude.{None, slice_index_or}
+use Rattle.std.specs.Prelude.{Some, None, true, slice_index_or}
 use Rattle.std.specs.List.{All}
 use Rattle.std.proofs.Math.Nat.{mul-le-mul, mul-le-mul_right, one-le-mul}
 use Rattle.std.proofs.lemmas.List.{length-map, map-append}
@@ -10,6 +10,12 @@ use lib.ListN.{get_elem?}
 use Rattle.atomic_table.specs.Seated.{TableId}
 use Rattle.ks_plan.specs.Drafts.{DraftView}
 use Rattle.ks_plan.specs.Plan.{plan_of}
+use Rattle.ks_plan.specs.Layout.{tasks}
+use Rattle.ks_plan.specs.Infos.{changelog_numbers}
+use Rattle.ks_assign.specs.declared.clients.Placing.{Placing}
+use Rattle.ks_placement.specs.Groups.{good_by}
+use Rattle.ks_cluster.specs.Placed.{PlacementTest}
+use Rattle.ks_worker_turn.specs.Placing.{PlacesBy}
 use Rattle.ks_plan.specs.Faults.{fault_of}
 use Rattle.ks_history.specs.declared.journal.Entry.{Entry}
 use Rattle.ks_history.specs.Machine.{TaskPlan, IsNetwork}
@@ -22,7 +28,7 @@ use Rattle.ks_law_topology.proofs.Setups.{setups_are_made}
 use Rattle.ks_nodes.specs.Rules.{HaveParts, rules_of}
 use Rattle.ks_growing.specs.Passes.{PassView, IsPass, IsFresh, Each}
 use Rattle.ks_shared.specs.declared.state.Frame.{Frame}
-use Rattle.ks_shared.specs.Calls.{frame_of, setup_in}
+use Rattle.ks_shared.specs.Calls.{frame_of, setup_in, good_in}
 use Rattle.ks_client.specs.Turns.{GateCounts, HasRoomFor}
 use Rattle.ks_words.specs.Ranges.{IsBetween}
 use Rattle.ks_feed.proofs.Fresh.{fresh_setup, fresh_seen}
@@ -61,31 +67,37 @@ at_mapped f (x ∷ xs) (suc k) d l = at_mapped f xs k d (omega arith)
 empty_history : (setup : Setup) → IsHistory setup []
 empty_history setup = record { legal = tt; faithful = tt }
 
-module _ {W : Type 0} (plan : W → TaskPlan) (hash : List ℕ → ℕ) (d : DraftView) (c : ClusterView W) (lock : TableId) (turns : ℕ) (empty : c.journal ≡ [])
-    (topology : setup_of plan c ≡ topology_setup (rules_of hash) (plan_of d)) (fine : fault_of d ≡ None) (parts : HaveParts (plan_of d)) (few : turns ≤ 1000000) where
-  may_run : {G : Type 0} (k : ℕ) (s : WorkerState W G) → IsFresh lock c.journal (frame_of c) k s.session.client.pass → IsEnlisted s → MayRun plan hash lock d turns s
-  may_run k s fresh enlisted =
+module _ {W : Type 0} (plan : W → TaskPlan) (good : W → PlacementTest) (hash : List ℕ → ℕ) (d : DraftView) (c : ClusterView W) (lock : TableId) (placing : Placing) (turns : ℕ) (empty : c.journal ≡ [])
+    (topology : setup_of plan c ≡ topology_setup (rules_of hash) (plan_of d)) (wanted : good c.work ≡ good_by (changelog_numbers (plan_of d)) (tasks (plan_of d)) placing) (threads : 1 ≤ placing.threads)
+    (fine : fault_of d ≡ None) (parts : HaveParts (plan_of d)) (few : turns ≤ 1000000) where
+  may_run : {G : Type 0} (k : ℕ) (s : WorkerState W G) (p : Placing) → IsFresh lock c.journal (frame_of c) k s.session.client.pass → IsEnlisted s → p ≡ placing → MayRun plan good hash lock d p turns s
+  may_run k s p fresh enlisted placed =
       let pass = s.session.client.pass in
       let same : setup_in plan pass.frame ≡ topology_setup (rules_of hash) (plan_of d) = fresh_setup plan lock c k pass fresh ∙ topology in
+      let frame : pass.frame ≡ Some (frame_of c) = ap (λ (q : PassView Entry (Frame W)). q.frame) fresh in
       record {
         act = new_may_act plan d enlisted.number enlisted.instance s enlisted.few enlisted.small enlisted.new hash lock
             (record {
-              lock_is = ap (λ (p : PassView Entry (Frame W)). p.lock) fresh;
-              free = ap (λ (p : PassView Entry (Frame W)). p.holds) fresh;
+              lock_is = ap (λ (q : PassView Entry (Frame W)). q.lock) fresh;
+              free = ap (λ (q : PassView Entry (Frame W)). q.holds) fresh;
               history = subst (IsHistory (setup_in plan pass.frame)) (sym (fresh_seen plan lock c k pass fresh ∙ empty)) (empty_history (setup_in plan pass.frame));
               network = subst (λ (x : Setup). IsNetwork x.plan) (sym same) (works_are_networks (rules_of hash) (plan_of d));
               setup = subst IsSetup (sym same) (setups_are_made (rules_of hash) d fine);
               room = subst HasRoomFor (sym enlisted.uncounted) (record { asked_fits = omega arith; stops_fit = omega arith; calls_fit = omega arith; cuts_fit = omega arith });
             })
             (record { parts = parts; setup_is = same });
+        serves = subst (λ q. PlacesBy good q d pass.frame) (sym placed) (record {
+          threads = threads;
+          serves = λ members held ends a h. subst (λ f. good_in good f members held ends a ≡ true) (sym frame) (ap (λ t. t members held ends a) wanted ∙ h);
+        });
         room = subst (λ g. HasRoomForTurns g turns) (sym enlisted.uncounted) (record { asked = omega (arith, few); stops = omega (arith, few); calls = omega (arith, few); cuts = omega (arith, few) });
       }
 
-  pub all_may_run : {A G : Type 0} (state : A → WorkerState W G) (members : List A) (others : List (PassView Entry (Frame W))) → map (λ m. (state m).session.client.pass) members ≡ others →
-      Each (λ k p. IsFresh lock c.journal (frame_of c) (k + 1) p) others → All (λ m. IsEnlisted (state m)) members → All (λ m. MayRun plan hash lock d turns (state m)) members
-  all_may_run state members others is fresh enlisted k e l =
+  pub all_may_run : {A G : Type 0} (state : A → WorkerState W G) (placed : A → Placing) (members : List A) (others : List (PassView Entry (Frame W))) → map (λ m. (state m).session.client.pass) members ≡ others →
+      Each (λ k p. IsFresh lock c.journal (frame_of c) (k + 1) p) others → All (λ m. IsEnlisted (state m)) members → All (λ m. placed m ≡ placing) members → All (λ m. MayRun plan good hash lock d (placed m) turns (state m)) members
+  all_may_run state placed members others is fresh enlisted places k e l =
       let m = slice_index_or members k e in
-      may_run (k + 1) (state m) (fresh k (state m).session.client.pass (ap (λ xs. get_elem? xs k) (sym is) ∙ at_mapped (λ x. (state x).session.client.pass) members k e l)) (enlisted k e l)
+      may_run (k + 1) (state m) (placed m) (fresh k (state m).session.client.pass (ap (λ xs. get_elem? xs k) (sym is) ∙ at_mapped (λ x. (state x).session.client.pass) members k e l)) (enlisted k e l) (places k e l)
 
 -- ---- what is told of one answer
 pub both_ok : {A E : Type 0} (P Q S : A → Type 0) (r : Result A E) → ((a : A) → P a → Q a → S a) → IfOk r P → IfOk r Q → IfOk r S

@@ -2,6 +2,11 @@
 use Rattle.std.specs.Prelude.{◌≡◌, ◌<◌, ℕ, List, []}
 use Rattle.ks_plan.specs.Drafts.{DraftView}
 use Rattle.ks_plan.specs.Plan.{plan_of}
+use Rattle.ks_plan.specs.Layout.{tasks}
+use Rattle.ks_plan.specs.Infos.{changelog_numbers}
+use Rattle.ks_assign.specs.declared.clients.Placing.{Placing}
+use Rattle.ks_placement.specs.Groups.{good_by}
+use Rattle.ks_cluster.specs.Placed.{PlacementTest}
 use Rattle.ks_history.specs.Machine.{TaskPlan}
 use Rattle.ks_cluster.specs.View.{ClusterView, setup_of}
 use Rattle.ks_law_topology.specs.Work.{setup_of as topology_setup}
@@ -10,10 +15,12 @@ use Rattle.ks_job.specs.Items.{ItemView}
 use Rattle.ks_law_inputs.specs.Records.{AreRecords}
 use Rattle.ks_feed.specs.Placing.{IsParted}
 
--- a new cluster of the tasks of this topology, with this hash; these are its partition counts, and the items are records for its topics
-pub record IsReady {W : Type 0} (plan : W → TaskPlan) (hash : List ℕ → ℕ) (d : DraftView) (c : ClusterView W) (counts : List ℕ) (is : List ItemView) : Type 0 where
+-- a new cluster of the tasks of this topology, with this hash, whose assignments are good by this placing; these are its partition counts,
+-- and the items are records for its topics
+pub record IsReady {W : Type 0} (plan : W → TaskPlan) (good : W → PlacementTest) (hash : List ℕ → ℕ) (d : DraftView) (c : ClusterView W) (counts : List ℕ) (is : List ItemView) (placing : Placing) : Type 0 where
   pub new : c.journal ≡ []
   pub topology : setup_of plan c ≡ topology_setup (rules_of hash) (plan_of d)
+  pub wanted : good c.work ≡ good_by (changelog_numbers (plan_of d)) (tasks (plan_of d)) placing
   pub nodes : HaveParts (plan_of d)
   pub counts_are : counts ≡ c.counts
   pub parts : (topic : ℕ) → topic < (plan c.work).sources → IsParted counts topic

@@ -1,7 +1,7 @@
 //! A crew that works, and then closes the lock.
 ghost use Rattle.std.specs.Prelude.{◌≡◌, ◌+◌, ◌<◌, ◌∷◌, length, map, filter, IfOk};
 ghost use Rattle.std.specs.List.{All};
-ghost use Rattle.ks_history.specs.Touched.{is_reserved};
+ghost use Rattle.ks_shared.specs.Reserved.{is_callers};
 ghost use Rattle.ks_growing.specs.Passes.{IsPass};
 ghost use Rattle.ks_shared.specs.Calls.{frame_of};
 ghost use Rattle.ks_topo.specs.Topologies.{draft_of};
@@ -17,6 +17,7 @@ use ks_shared::{Shared, SharedState};
 use ks_topo::Topology;
 use std::alloc::{AllocError, Global};
 use std::sync::Wait;
+use std::sync::atomic::AtomicBool;
 use std::thread::Threads;
 
 // Whether one of them ran out of memory.
@@ -64,15 +65,25 @@ pub fn work_and_close<
     turns: u64,
 ) -> Result<Cluster<W>, AllocError>
     requires some { 0 < length members.items }
-    requires may { All (λ m. MayRun W.plan H.hash_of shared.growing.id (draft_of topology.now) turns
-        m.worker.state) members.items }
+    requires may { All (λ m. MayRun W.plan W.good H.hash_of shared.growing.id (draft_of topology.now)
+        m.worker.placing turns m.worker.state) members.items }
     requires first { IsPass shared.growing.id 0 first }
     requires passes { ArePasses shared.growing.id (map (λ m. m.worker.state.session.client.pass) members.items) }
     requires all { length members.items + 1 ≡ shared.growing.passes }
     ensures frame { IfOk result (λ c. frame_of c ≡ frame_of shared.growing.first) }
-    ensures reserved { IfOk result (λ c. filter is_reserved c.journal ≡ filter is_reserved first.seen) }
+    ensures reserved { IfOk result (λ c. filter is_callers c.journal ≡ filter is_callers first.seen) }
 {
-    work_together::<H, R, W, G>(rt, alloc, topology, &shared, members.as_mut_slice(), turns);
+    // All records are there before the first turn.
+    let feeding = AtomicBool::new(false);
+    work_together::<H, R, W, G>(
+        rt,
+        alloc,
+        topology,
+        &shared,
+        members.as_mut_slice(),
+        turns,
+        &feeding,
+    );
     if is_one_starved(members.as_slice()) {
         return Err(AllocError);
     }

@@ -5,6 +5,7 @@ ghost use Rattle.ks_job.specs.Items.{item_views};
 ghost use Rattle.ks_words.specs.Ranges.{HasRanges};
 ghost use Rattle.ks_feed.specs.Placing.{placed_all};
 ghost use Rattle.ks_feed.specs.Producing.{IsFilled};
+ghost use Rattle.ks_crew.specs.Members.{placing_of};
 ghost use Rattle.ks_crew.specs.Ready.{IsReady};
 
 use crate::boxed_gate::{BoxedGate, box_gates};
@@ -64,8 +65,8 @@ fn run_gated<H: Hash128 + Sync, R: Threads + Wait + Sync, W: Work + Send + Sync,
     items: Vec<JobItem>,
     crew: Crew<G>,
 ) -> Result<Cluster<W>, AllocError>
-    requires ready { IsReady W.plan H.hash_of (draft_of topology.now) cluster counts.now
-        (item_views items.items) }
+    requires ready { IsReady W.plan W.good H.hash_of (draft_of topology.now) cluster
+        counts.now (item_views items.items) (placing_of crew.settings) }
     requires settings { HasRanges crew.settings }
     requires gates { length crew.gates.items ≡ 16 }
     ensures { IfOk result (λ c. IsFilled cluster c (placed_all counts.now (item_views items.items))) }
@@ -95,8 +96,8 @@ pub fn run_crew<H: Hash128 + Sync, R: Threads + Wait + Sync, W: Work + Send + Sy
     items: Vec<JobItem>,
     crew: Crew<Box<dyn Gate + Send>>,
 ) -> Result<Cluster<W>, AllocError>
-    requires ready { IsReady W.plan H.hash_of (draft_of topology.now) cluster counts.now
-        (item_views items.items) }
+    requires ready { IsReady W.plan W.good H.hash_of (draft_of topology.now) cluster
+        counts.now (item_views items.items) (placing_of crew.settings) }
     requires settings { HasRanges crew.settings }
     requires gates { length crew.gates.items ≡ 16 }
     ensures { IfOk result (λ c. IsFilled cluster c (placed_all counts.now (item_views items.items))) }

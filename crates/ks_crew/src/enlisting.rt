@@ -2,8 +2,9 @@
 ghost use Rattle.std.specs.Prelude.{◌≡◌, ◌<◌, ◌≤◌, ◌*◌, ℕ, length, map, IfOk};
 ghost use Rattle.std.specs.List.{All};
 ghost use Rattle.ks_words.specs.Ranges.{HasRanges};
-ghost use Rattle.ks_crew.specs.Members.{IsEnlisted};
+ghost use Rattle.ks_crew.specs.Members.{IsEnlisted, placing_of};
 
+use crate::placing::placing_of;
 use crate::working::CrewMember;
 use ks_cluster::Work;
 use ks_edge::Gate;
@@ -35,10 +36,12 @@ fn enlist_one<W: Work, G: Gate>(
     requires instance { number < 4 * settings.now.threads }
     ensures pass { result.worker.state.session.client.pass ≡ pass }
     ensures enlisted { IsEnlisted result.worker.state }
+    ensures placing { result.worker.placing ≡ placing_of settings.now }
 {
     gate.reset(number, settings.chaos, settings.interval);
     let instance = instance_of(number, settings.threads);
-    let worker = Worker::new(alloc, number, instance, gate, pass);
+    let placing = placing_of(settings);
+    let worker = Worker::new(alloc, number, instance, placing, gate, pass);
     CrewMember {
         worker,
         is_starved: false,
@@ -59,6 +62,7 @@ pub fn enlist<W: Work, G: Gate>(
     requires instances { length passes.items ≤ 4 * settings.now.threads }
     ensures passes { IfOk result (λ v. map (λ m. m.worker.state.session.client.pass) v.items ≡ passes.items) }
     ensures enlisted { IfOk result (λ v. All (λ m. IsEnlisted m.worker.state) v.items) }
+    ensures placing { IfOk result (λ v. All (λ m. m.worker.placing ≡ placing_of settings.now) v.items) }
 {
     let mut members = Vec::new(alloc);
     let mut gates = gates.into_iter();

@@ -5,6 +5,8 @@ mod boxed_gate;
 mod closing;
 mod crew;
 mod enlisting;
+mod placing;
 mod working;
 
 pub use crew::{Crew, run_crew};
+pub use placing::placing_of;

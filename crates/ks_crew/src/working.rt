@@ -13,6 +13,7 @@ use ks_topo::{Topology, share_topology};
 use ks_worker::Worker;
 use std::alloc::Global;
 use std::sync::Wait;
+use std::sync::atomic::AtomicBool;
 use std::thread;
 use std::thread::Threads;
 
@@ -31,14 +32,15 @@ fn take_turns<H: Hash128, R: Wait, W: Work, G: Gate>(
     shared: &Shared<W>,
     member: &mut CrewMember<W, G>,
     turns: u64,
+    feeding: &AtomicBool,
 )
-    requires may { MayRun W.plan H.hash_of shared.now.growing.id (draft_of topology.now) turns
-        member.old.worker.state }
+    requires may { MayRun W.plan W.good H.hash_of shared.now.growing.id (draft_of topology.now)
+        member.old.worker.placing turns member.old.worker.state }
     ensures { pass_key member.new.worker.state.session.client.pass ≡ pass_key member.old.worker.state.session.client.pass }
 {
     let answer = member
         .worker
-        .run::<H, R>(rt, alloc, topology, shared, turns);
+        .run::<H, R>(rt, alloc, topology, shared, turns, feeding);
     member.is_starved = answer.is_err();
 }
 
@@ -56,20 +58,21 @@ pub fn work_together<
     shared: &Shared<W>,
     members: &mut [CrewMember<W, G>],
     turns: u64,
+    feeding: &AtomicBool,
 )
     requires some { 0 < length members.old }
-    requires may { All (λ m. MayRun W.plan H.hash_of shared.now.growing.id (draft_of topology.now) turns
-        m.worker.state) members.old }
+    requires may { All (λ m. MayRun W.plan W.good H.hash_of shared.now.growing.id (draft_of topology.now)
+        m.worker.placing turns m.worker.state) members.old }
     ensures { (i : ℕ) → option_map (λ m. pass_key m.worker.state.session.client.pass) (slice_get members.new i)
         ≡ option_map (λ m. pass_key m.worker.state.session.client.pass) (slice_get members.old i) }
 {
     share_topology();
     let count = members.len();
     let each = |_: usize, member: &mut CrewMember<W, G>|
-        requires { MayRun W.plan H.hash_of shared.now.growing.id (draft_of topology.now) turns
-            member.now.worker.state }
+        requires { MayRun W.plan W.good H.hash_of shared.now.growing.id (draft_of topology.now)
+            member.now.worker.placing turns member.now.worker.state }
         ensures { pass_key member.exit.now.worker.state.session.client.pass
             ≡ pass_key member.entry.now.worker.state.session.client.pass }
-    { take_turns::<H, R, W, G>(rt, alloc, topology, shared, member, turns) };
+    { take_turns::<H, R, W, G>(rt, alloc, topology, shared, member, turns, feeding) };
     thread::for_each_mut(rt, members, count, &each);
 }

@@ -1,5 +1,5 @@
 -- A source and a sink in memory, as plain values.
-use Rattle.std.specs.Prelude.{ℕ, ◌==◌, ◌++◌, Bool, List, [], ◌∷◌, length, take, drop, min, max, if◌then◌else◌}
+use Rattle.std.specs.Prelude.{ℕ, ◌==◌, ◌++◌, Bool, List, [], ◌∷◌, Option, Some, None, length, take, drop, min, max, if◌then◌else◌}
 use Rattle.std.specs.List.{list_any}
 use Rattle.ks_edge.specs.Causes.{counted}
 
@@ -35,16 +35,23 @@ after_take f room = if is_listed f.failing f.calls
     then record f { calls = counted f.calls; faults = counted f.faults }
     else record f { left = drop (length (given f room)) f.left; sizes = drop 1 f.sizes; calls = counted f.calls }
 
--- a sink: the bytes held, the numbers of the calls that fail, and how many calls and faults there were
+-- a sink: the bytes held, the most bytes that it takes of a piece, where there is a limit, the numbers of the calls that fail,
+-- and how many calls and faults there were
 pub record Tray : Type 0 where
   pub held : List ℕ
+  pub width : Option ℕ
   pub failing : List ℕ
   pub calls : ℕ
   pub faults : ℕ
 
--- the sink after a call that took the whole piece
+-- the bytes that a sink of this width takes of a piece
+abbrev pub within : Option ℕ → List ℕ → List ℕ
+within None piece = piece
+within (Some width) piece = take width piece
+
+-- the sink after a call that took the front of the piece for which it is wide enough
 abbrev pub after_put : Tray → List ℕ → Tray
-after_put t piece = record t { held = t.held ++ piece; calls = counted t.calls }
+after_put t piece = record t { held = t.held ++ within t.width piece; calls = counted t.calls }
 
 -- the sink after a call that failed: no byte more
 abbrev pub after_failed_put : Tray → Tray

@@ -1,9 +1,9 @@
 //! A source and a sink in memory, which tell their bytes and fail at the calls that they are told.
-ghost use Rattle.std.specs.Prelude.{◌≡◌, ◌<◌, ◌≤◌, ◌++◌, Some, false, [], drop, take, length, is_err, is_ok, IfOk, OnOk, if◌then◌else◌};
+ghost use Rattle.std.specs.Prelude.{◌≡◌, ◌<◌, ◌≤◌, ◌++◌, Some, None, IfSome, false, [], drop, take, length, is_err, is_ok, IfOk, OnOk, if◌then◌else◌};
 ghost use Rattle.std.specs.Io.{ReadsAtMost, WritesAtMost};
 ghost use Rattle.std.specs.Io.KnownBytes.{ReadConsumes, WriteAppends};
 ghost use Rattle.ks_edge.specs.Causes.{HasCause};
-ghost use Rattle.ks_edge.specs.Memory.{is_listed, next_size, given, filled, after_take, after_put, after_failed_put};
+ghost use Rattle.ks_edge.specs.Memory.{is_listed, next_size, given, filled, after_take, within, after_put, after_failed_put};
 
 use crate::sink::Sink;
 use crate::source::{Failed, Source};
@@ -123,30 +123,56 @@ fn copy_front(bytes: &[u8], size: usize, buf: &mut [u8]) -> usize
     count
 }
 
-/// Holds all that it is given.
+/// Holds all that it takes.
 #[derive(Drop)]
 pub struct MemSink {
     bytes: Vec<u8>,
+    // the most bytes of a piece that it takes, where there is a limit
+    width: Option<u32>,
     failing: Vec<u64>,
     calls: u64,
     faults: u64,
 }
 
 impl Model for MemSink {
+    ghost use Rattle.std.specs.Prelude.{◌≤◌, IfSome};
     ghost use Rattle.ks_edge.specs.Memory.{Tray};
 
     ghost Value = { Tray };
 
-    ghost view = { λ s. record { held = s.bytes.items; failing = s.failing.items; calls = s.calls; faults = s.faults } };
+    ghost view = { λ s. record {
+      held = s.bytes.items;
+      width = s.width;
+      failing = s.failing.items;
+      calls = s.calls;
+      faults = s.faults;
+    } };
+
+    ghost invariant = { λ s. IfSome s.width (λ w. 1 ≤ w) };
 }
 
 impl MemSink {
-    /// An empty sink, which fails at the calls whose numbers, from 0, are listed in `failing`.
+    /// An empty sink, which fails at the calls whose numbers, from 0, are listed in `failing`, and takes each other piece whole.
     pub fn new(alloc: Global, failing: Vec<u64>) -> Self
-        ensures { result ≡ record { held = []; failing = failing.items; calls = 0; faults = 0 } }
+        ensures { result ≡ record { held = []; width = None; failing = failing.items; calls = 0; faults = 0 } }
     {
         MemSink {
             bytes: Vec::new(alloc),
+            width: None,
+            failing,
+            calls: 0,
+            faults: 0,
+        }
+    }
+
+    /// An empty sink that takes at most `width` bytes a call, and fails at the calls whose numbers, from 0, are listed in `failing`.
+    pub fn narrow(alloc: Global, width: u32, failing: Vec<u64>) -> Self
+        requires { 1 ≤ width }
+        ensures { result ≡ record { held = []; width = Some width; failing = failing.items; calls = 0; faults = 0 } }
+    {
+        MemSink {
+            bytes: Vec::new(alloc),
+            width: Some(width),
             failing,
             calls: 0,
             faults: 0,
@@ -158,6 +184,20 @@ impl MemSink {
         ensures { result.now ≡ self.now.held }
     {
         self.bytes.as_slice()
+    }
+}
+
+// How many bytes a sink of this width takes of a piece.
+fn front_length(width: Option<u32>, piece: &[u8]) -> usize
+    requires { IfSome width (λ w. 1 ≤ w) }
+    ensures within { result ≤ length piece.now }
+    ensures some { 0 < length piece.now → 0 < result }
+    ensures front { take result piece.now ≡ within width piece.now }
+    ensures count { result ≡ length (within width piece.now) }
+{
+    match width {
+        None => piece.len(),
+        Some(width) => piece.len().min(width as usize),
     }
 }
 
@@ -175,15 +215,18 @@ impl Sink for MemSink {
         ensures progress { 0 < length piece.now → IfOk result (λ count. 0 < count) }
         ensures cause { HasCause self.old.faults self.new.faults result }
         ensures unlisted { OnOk result (is_listed self.old.failing self.old.calls ≡ false) }
-        ensures count { IfOk result (λ count. count ≡ length piece.now) }
+        ensures count { IfOk result (λ count. count ≡ length (within self.old.width piece.now)) }
         ensures after { self.new ≡ (if is_ok result then after_put self.old piece.now else after_failed_put self.old) }
     {
         let call = self.calls;
         self.calls = call.saturating_add(1);
-        if is_one_of(&self.failing, call) || self.bytes.extend_from_slice(piece).is_err() {
+        let count = front_length(self.width, piece);
+        if is_one_of(&self.failing, call)
+            || self.bytes.extend_from_slice(&piece[..count]).is_err()
+        {
             self.faults = self.faults.saturating_add(1);
             return Err(Failed);
         }
-        Ok(piece.len())
+        Ok(count)
     }
 }

@@ -1,5 +1,5 @@
 -- Records that are produced one after another through the first pass, among entries of others.
-use Rattle.std.proofs.Common.{◌≡◌, ℕ, false, List, [], ◌∷◌, ◌++◌, filter, refl, sym, ap, subst, ◌∙◌, append_assoc, append-nil, Result, Ok, Err, OnErr}
+use Rattle.std.proofs.Common.{◌≡◌, ℕ, ◌==◌, Bool, true, false, cond, List, [], ◌∷◌, ◌++◌, filter, refl, sym, ap, subst, ◌∙◌, append_assoc, append-nil, Result, Ok, Err, OnErr}
 use Rattle.std.proofs.lemmas.List.Elements.{filter-append}
 use Rattle.ks_row.specs.declared.record.Rec.{Rec}
 use Rattle.ks_row.specs.declared.record.PartId.{PartId}
@@ -9,7 +9,7 @@ use Rattle.ks_history.specs.declared.journal.Request.TheVariants.{Produce, Init,
 use Rattle.ks_history.specs.declared.journal.Reply.{Reply}
 use Rattle.ks_history.specs.declared.journal.Entry.{Entry}
 use Rattle.ks_history.specs.Machine.{TaskPlan}
-use Rattle.ks_history.specs.Touched.{is_reserved}
+use Rattle.ks_shared.specs.Reserved.{is_callers}
 use Rattle.ks_cluster.specs.View.{ClusterView, AddsEntry, state_of}
 use Rattle.atomic_table.specs.Seated.{TableId}
 use Rattle.ks_growing.specs.Passes.{PassView, IsPass}
@@ -20,34 +20,42 @@ use Rattle.ks_law_settled.specs.Jobs.{produces_by, produces}
 use Rattle.ks_feed.specs.Placing.{placed, placed_all}
 use Rattle.ks_feed.specs.Producing.{HasProduced, HasProducedFront, IsFilled}
 
--- ---- what a journal has produced is read off its reserved entries
-from_reserved : (request : Request) (reply : Reply) (rest : List Entry) → produces rest ≡ produces (filter is_reserved rest) →
-    produces_by request (produces rest) ≡ produces (filter is_reserved (record { request = request; reply = reply } ∷ rest))
-from_reserved (Produce p rec) reply rest e = ap (λ l. (p, rec) ∷ l) e
-from_reserved (Init w) reply rest e = e
-from_reserved (Add w epoch p) reply rest e = e
-from_reserved (Append w epoch number t p recs) reply rest e = e
-from_reserved (SendOffsets w epoch g t offsets order late) reply rest e = e
-from_reserved (Decide w epoch commit) reply rest e = e
-from_reserved (MarkNext w) reply rest e = e
-from_reserved (Join w) reply rest e = e
-from_reserved (Expire w) reply rest e = e
-from_reserved (Hold w held) reply rest e = e
-from_reserved (Probe w g) reply rest e = e
-from_reserved (Assign w g a) reply rest e = e
-from_reserved (Park instance t) reply rest e = e
-from_reserved (Unpark instance t) reply rest e = e
+-- ---- what a journal has produced is read off the caller's entries
+from_callers : (request : Request) (reply : Reply) (rest : List Entry) → produces rest ≡ produces (filter is_callers rest) →
+    produces_by request (produces rest) ≡ produces (filter is_callers (record { request = request; reply = reply } ∷ rest))
+from_callers (Produce p rec) reply rest e = ap (λ l. (p, rec) ∷ l) e
+from_callers (Init w) reply rest e = by (w == 16)
+  where
+    by : (b : Bool) → produces rest ≡ produces (cond b (record { request = Init w; reply = reply } ∷ filter is_callers rest) (filter is_callers rest))
+    by true = e
+    by false = e
+from_callers (Add w epoch p) reply rest e = e
+from_callers (Append w epoch number t p recs) reply rest e = e
+from_callers (SendOffsets w epoch g t offsets order late) reply rest e = e
+from_callers (Decide w epoch commit) reply rest e = e
+from_callers (MarkNext w) reply rest e = e
+from_callers (Join w) reply rest e = by (w == 16)
+  where
+    by : (b : Bool) → produces rest ≡ produces (cond b (record { request = Join w; reply = reply } ∷ filter is_callers rest) (filter is_callers rest))
+    by true = e
+    by false = e
+from_callers (Expire w) reply rest e = e
+from_callers (Hold w held) reply rest e = e
+from_callers (Probe w g) reply rest e = e
+from_callers (Assign w g a) reply rest e = e
+from_callers (Park instance t) reply rest e = e
+from_callers (Unpark instance t) reply rest e = e
 
-produces_reserved : (journal : List Entry) → produces journal ≡ produces (filter is_reserved journal)
-produces_reserved [] = refl
-produces_reserved (entry ∷ entries) = from_reserved entry.request entry.reply entries (produces_reserved entries)
+produces_callers : (journal : List Entry) → produces journal ≡ produces (filter is_callers journal)
+produces_callers [] = refl
+produces_callers (entry ∷ entries) = from_callers entry.request entry.reply entries (produces_callers entries)
 
-pub same_produces : (xs ys : List Entry) → filter is_reserved xs ≡ filter is_reserved ys → produces xs ≡ produces ys
-same_produces xs ys e = produces_reserved xs ∙ ap produces e ∙ sym (produces_reserved ys)
+pub same_produces : (xs ys : List Entry) → filter is_callers xs ≡ filter is_callers ys → produces xs ≡ produces ys
+same_produces xs ys e = produces_callers xs ∙ ap produces e ∙ sym (produces_callers ys)
 
-produces_no_more : (journal others : List Entry) → filter is_reserved others ≡ [] → produces (journal ++ others) ≡ produces journal
+produces_no_more : (journal others : List Entry) → filter is_callers others ≡ [] → produces (journal ++ others) ≡ produces journal
 produces_no_more journal others none =
-    same_produces (journal ++ others) journal (filter-append is_reserved journal others ∙ ap (λ l. filter is_reserved journal ++ l) none ∙ append-nil (filter is_reserved journal))
+    same_produces (journal ++ others) journal (filter-append is_callers journal others ∙ ap (λ l. filter is_callers journal ++ l) none ∙ append-nil (filter is_callers journal))
 
 by_append : (request : Request) (xs ys : List (PartId × Rec)) → produces_by request (xs ++ ys) ≡ produces_by request xs ++ ys
 by_append (Produce p rec) xs ys = refl
@@ -143,7 +151,7 @@ module _ {W : Type 0} where
 
   -- ---- the closed cluster
   pub filled : (old first new : ClusterView W) (fresh done : PassView Entry (Frame W)) (records : List (PartId × Rec)) → old.journal ≡ [] → first ≡ old → fresh.seen ≡ old.journal →
-      HasProduced fresh done records → frame_of new ≡ frame_of first → filter is_reserved new.journal ≡ filter is_reserved done.seen → IsFilled old new records
+      HasProduced fresh done records → frame_of new ≡ frame_of first → filter is_callers new.journal ≡ filter is_callers done.seen → IsFilled old new records
   filled old first new fresh done records empty is seen h frame reserved = record {
     frame = frame ∙ ap frame_of is;
     produced = same_produces new.journal done.seen reserved ∙ h.produced ∙ ap (λ l. produces l ++ records) (seen ∙ empty);

@@ -2,3 +2,4 @@ pub mod Committed
 pub mod Group
 pub mod Pending
 pub mod New
+pub mod Places

@@ -2,7 +2,9 @@
 ghost use Rattle.std.specs.Prelude.{◌≡◌, IfOk, map, option_copied};
 ghost use Rattle.ks_history.specs.State.{offset_in, pending_of};
 ghost use Rattle.ks_group.specs.Committed.{offsets_of, none_committed, pair_with, offsets_with, row_with};
+ghost use Rattle.ks_group.specs.Places.{row_place};
 
+use crate::places::{places_of, task_number};
 use ks_history::Pending;
 use ks_row::TaskId;
 use std::alloc::{AllocError, Global};
@@ -72,6 +74,13 @@ fn pending_for(pending: &[Pending], task: TaskId) -> Option<&Pending>
 }
 
 impl TaskOffsets {
+    /// The task of the row.
+    pub fn task(&self) -> TaskId
+        ensures { result ≡ self.now.0 }
+    {
+        self.task
+    }
+
     /// Nothing is committed of these inputs.
     fn new(alloc: Global, task: TaskId, inputs: &[u16]) -> Result<TaskOffsets, AllocError>
         ensures { IfOk result (λ t. t ≡ (task, none_committed inputs.now)) }
@@ -94,7 +103,7 @@ impl TaskOffsets {
 }
 
 /// A row for each task, of which nothing is committed.
-pub fn new_rows(alloc: Global, tasks: &[TaskInputs]) -> Result<Vec<TaskOffsets>, AllocError>
+fn new_rows(alloc: Global, tasks: &[TaskInputs]) -> Result<Vec<TaskOffsets>, AllocError>
     ensures { IfOk result (λ rows. rows.items ≡ map (λ t. (t.task, none_committed t.inputs.items)) tasks.now) }
 {
     let mut rows = Vec::new(alloc);
@@ -104,31 +113,78 @@ pub fn new_rows(alloc: Global, tasks: &[TaskInputs]) -> Result<Vec<TaskOffsets>,
     Ok(rows)
 }
 
-/// The committed offset of each input of a task, in the order of its inputs; nothing where there is no such task.
-pub fn offsets_in(rows: &[TaskOffsets], task: TaskId) -> &[(u16, u64)]
-    ensures { result.now ≡ offsets_of task rows.now }
-{
-    for row in rows {
-        if task.is(row.task) {
-            return row.offsets.as_slice();
-        }
-    }
-    &[]
-}
-
-/// The committed offset of a task's input; 0 where the task has no such input.
-pub fn offset_of(rows: &[TaskOffsets], task: TaskId, topic: u16) -> u64
-    ensures { result ≡ offset_in 0 topic (offsets_of task rows.now) }
-{
-    named_offset(0, topic, offsets_in(rows, task))
-}
-
 /// Commits what is pending.
-pub fn commit_rows(rows: &mut Vec<TaskOffsets>, pending: &[Pending])
+fn commit_rows(rows: &mut Vec<TaskOffsets>, pending: &[Pending])
     ensures { rows.new.items ≡ map (row_with pending.now) rows.old.items }
 {
     for i in 0..rows.len() {
         let row = &mut rows[i];
         row.commit(pending);
+    }
+}
+
+/// The committed offsets of all tasks, in the order of the tasks. It is seen as the list of these rows.
+#[derive(Drop)]
+pub struct Offsets {
+    rows: Vec<TaskOffsets>,
+    /// Where the row of each task stands.
+    places: Vec<usize>,
+}
+
+impl Model for Offsets {
+    ghost use Rattle.std.specs.Prelude.{ℕ, List};
+    ghost use Rattle.ks_row.specs.declared.record.TaskId.{TaskId};
+    ghost use Rattle.ks_group.specs.Places.{ArePlaces};
+
+    ghost Value = { List (TaskId × List (ℕ × ℕ)) };
+
+    ghost view = { λ o. o.rows.items };
+
+    ghost invariant = { λ o. ArePlaces o.places.items o.rows.items };
+}
+
+impl Offsets {
+    /// A row for each task, of which nothing is committed. Want of memory is the one error.
+    pub fn new(alloc: Global, tasks: &[TaskInputs]) -> Result<Offsets, AllocError>
+        ensures { IfOk result (λ o. o ≡ map (λ t. (t.task, none_committed t.inputs.items)) tasks.now) }
+    {
+        let rows = new_rows(alloc, tasks)?;
+        let places = places_of(alloc, rows.as_slice())?;
+        Ok(Offsets { rows, places })
+    }
+
+    /// Where the row of a task stands, or how many rows there are.
+    fn place(&self, task: TaskId) -> usize
+        ensures { result ≡ row_place task self.now }
+    {
+        match self.places.get(task_number(task)) {
+            Some(at) => *at,
+            None => self.rows.len(),
+        }
+    }
+
+    /// The committed offset of each input of a task, in the order of its inputs; nothing where there is no such task.
+    pub fn of(&self, task: TaskId) -> &[(u16, u64)]
+        ensures { result.now ≡ offsets_of task self.now }
+    {
+        let at = self.place(task);
+        if at < self.rows.len() {
+            return self.rows[at].offsets.as_slice();
+        }
+        &[]
+    }
+
+    /// The committed offset of a task's input; 0 where the task has no such input.
+    pub fn offset(&self, task: TaskId, topic: u16) -> u64
+        ensures { result ≡ offset_in 0 topic (offsets_of task self.now) }
+    {
+        named_offset(0, topic, self.of(task))
+    }
+
+    /// Commits what is pending. Takes no memory.
+    pub fn commit(&mut self, pending: &[Pending])
+        ensures { self.new ≡ map (row_with pending.now) self.old }
+    {
+        commit_rows(&mut self.rows, pending);
     }
 }

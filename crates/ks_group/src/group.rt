@@ -8,8 +8,8 @@ ghost use Rattle.ks_group.specs.Pending.{counts_for, unstable_in};
 ghost use Rattle.ks_group.specs.Group.{generation_fault, owner_at, owner_fault, speak_fault, committed_fault, assign_fault, next_generation, expired, assigned, pended, resolved};
 ghost use Rattle.ks_group.specs.New.{new_group, Refuses};
 
-use crate::committed::{TaskInputs, TaskOffsets, commit_rows, new_rows, offset_of, offsets_in};
-use crate::pending::{late_with, unstable_refusal, with_one_pending};
+use crate::committed::{Offsets, TaskInputs};
+use crate::pending::{late_with, pend_in, unstable_refusal};
 use ks_history::Pending;
 use ks_row::{Assignment, Refused, Seq, TaskId};
 use std::alloc::{AllocError, Global};
@@ -33,7 +33,7 @@ pub struct Group {
     /// Of each producer, 0 to 16, the offsets that are pending in its undecided transaction.
     pending: Vec<Seq<Pending>>,
     /// Of each task the committed offsets.
-    offsets: Vec<TaskOffsets>,
+    offsets: Offsets,
     /// The committed late total.
     late: u64,
 }
@@ -44,7 +44,7 @@ impl Model for Group {
 
     ghost Value = { GroupView };
 
-    ghost view = { λ g. record { tasks = g.tasks.items; generation = g.generation; members = g.members; assignment = g.assignment; held = g.held.items; pending = g.pending.items; offsets = g.offsets.items; late = g.late } };
+    ghost view = { λ g. record { tasks = g.tasks.items; generation = g.generation; members = g.members; assignment = g.assignment; held = g.held.items; pending = g.pending.items; offsets = g.offsets; late = g.late } };
 
     ghost invariant = { λ g. (length g.held.items ≡ 17) × (length g.pending.items ≡ 17) };
 }
@@ -82,17 +82,11 @@ fn with_member(alloc: Global, members: &[u8], w: u8) -> Result<Vec<u8>, AllocErr
     Ok(made)
 }
 
-/// Members without one, in their order.
-fn without_member(alloc: Global, members: &[u8], w: u8) -> Result<Vec<u8>, AllocError>
-    ensures { IfOk result (λ made. made.items ≡ without_number w members.now) }
+/// Takes a worker out of members, which stay in their order.
+fn remove_member(members: &mut Vec<u8>, w: u8)
+    ensures { members.new.items ≡ without_number w members.old.items }
 {
-    let mut made = Vec::new(alloc);
-    for m in members {
-        if w != *m {
-            made.push(*m)?;
-        }
-    }
-    Ok(made)
+    members.retain(|m| w != *m);
 }
 
 /// Seventeen workers that hold nothing.
@@ -210,17 +204,18 @@ fn tasks_of(alloc: Global, tasks: &[TaskInputs]) -> Result<Vec<TaskId>, AllocErr
 impl Group {
     /// A group of these tasks at generation 0, without members and assignment, of which nothing is committed, held or pending;
     /// it has the room for all committed offsets. Want of memory is the one error.
-    pub fn new(alloc: Global, tasks: &[TaskInputs]) -> Result<Group, AllocError>
-        ensures { IfOk result (λ g. g ≡ new_group tasks.now) }
+    pub fn new(alloc: Global, tasks: Vec<TaskInputs>) -> Result<Group, AllocError>
+        ensures { IfOk result (λ g. g ≡ new_group tasks.items) }
     {
+        let offsets = Offsets::new(alloc, tasks.as_slice())?;
         Ok(Group {
-            tasks: tasks_of(alloc, tasks)?,
+            tasks: tasks_of(alloc, tasks.as_slice())?,
             generation: 0,
             members: Seq::new(alloc),
             assignment: None,
             held: none_held(alloc)?,
             pending: none_pending(alloc)?,
-            offsets: new_rows(alloc, tasks)?,
+            offsets,
             late: 0,
         })
     }
@@ -272,7 +267,7 @@ impl Group {
     pub fn offset(&self, task: TaskId, topic: u16) -> u64
         ensures { result ≡ offset_in 0 topic (offsets_of task self.now.offsets) }
     {
-        offset_of(self.offsets.as_slice(), task, topic)
+        self.offsets.offset(task, topic)
     }
 
     /// Whether a worker is a member.
@@ -359,7 +354,7 @@ impl Group {
             return Ok(Err(refused));
         }
         let mut made = Vec::new(alloc);
-        made.extend_from_slice(offsets_in(self.offsets.as_slice(), task))?;
+        made.extend_from_slice(self.offsets.of(task))?;
         Ok(Ok(made))
     }
 
@@ -386,19 +381,17 @@ impl Group {
         Ok(self.generation)
     }
 
-    /// Takes a worker and its held positions out of the group, whose next generation has no assignment. Want of memory is the one
-    /// error; after it the group is as before.
-    pub fn expire(&mut self, alloc: Global, w: u8) -> Result<(), AllocError>
+    /// Takes a worker and its held positions out of the group, whose next generation has no assignment. Takes no memory.
+    pub fn expire(&mut self, alloc: Global, w: u8)
         requires worker { w ≤ 16 }
         requires below { self.old.generation < 2 ^ 64 - 1 }
-        ensures ok { OnOk result (self.new ≡ expired self.old w) }
-        ensures err { OnErr result (self.new ≡ self.old) }
+        ensures { self.new ≡ expired self.old w }
     {
-        let members = without_member(alloc, self.members.as_slice(), w)?;
+        let mut members = mem::replace(&mut self.members, Seq::new(alloc)).into_vec();
+        remove_member(&mut members, w);
         self.members = Seq::of(members);
         self.held[w as usize] = Seq::new(alloc);
         self.begin_generation();
-        Ok(())
     }
 
     /// Replaces the positions that a worker holds.
@@ -477,8 +470,7 @@ impl Group {
         ensures ok { OnOk result (self.new ≡ pended self.old w new) }
         ensures err { OnErr result (self.new ≡ self.old) }
     {
-        let pending = with_one_pending(alloc, self.pending[w as usize].as_slice(), new)?;
-        self.pending[w as usize] = Seq::of(pending);
+        pend_in(alloc, &mut self.pending[w as usize], new)?;
         Ok(())
     }
 
@@ -491,7 +483,7 @@ impl Group {
         let pending = mem::replace(&mut self.pending[w as usize], Seq::new(alloc));
         if commit {
             self.late = late_with(self.late, pending.as_slice());
-            commit_rows(&mut self.offsets, pending.as_slice());
+            self.offsets.commit(pending.as_slice());
         }
     }
 }

@@ -5,6 +5,7 @@
 mod committed;
 mod group;
 mod pending;
+mod places;
 
 pub use committed::TaskInputs;
 pub use group::{Group, copy_assignment, copy_held};

@@ -1,12 +1,13 @@
 //! The offsets that are pending at producers.
-ghost use Rattle.std.specs.Prelude.{◌≡◌, ◌≤◌, IfOk, length};
+ghost use Rattle.std.specs.Prelude.{◌≡◌, ◌≤◌, IfOk, OnOk, OnErr, length};
 ghost use Rattle.ks_history.specs.State.{with_pending};
 ghost use Rattle.ks_history.specs.Step.{with_late};
-ghost use Rattle.ks_group.specs.Pending.{counts_for, is_pending, unstable_in};
+ghost use Rattle.ks_group.specs.Pending.{counts_for, is_pending, unstable_in, pending_place, is_at};
 
 use ks_history::Pending;
 use ks_row::{Refused, Seq, TaskId};
 use std::alloc::{AllocError, Global};
+use std::mem;
 
 /// The late total with what is pending, at most 2^64 - 1.
 pub fn late_with(late: u64, pending: &[Pending]) -> u64
@@ -45,55 +46,55 @@ pub fn new_pending(
     })
 }
 
-fn copy_pending(alloc: Global, p: &Pending) -> Result<Pending, AllocError>
-    ensures { IfOk result (λ q. q ≡ p.now) }
+/// Where the offsets of a task stand among pending ones in order of tasks, or where they would stand.
+fn place_of(pending: &[Pending], task: TaskId) -> usize
+    ensures { result ≡ pending_place task pending.now }
 {
-    new_pending(
-        alloc,
-        p.task,
-        p.offsets.as_slice(),
-        p.order.as_slice(),
-        p.late,
-    )
-}
-
-/// The same pending offsets again.
-fn copies_of(alloc: Global, pending: &[Pending]) -> Result<Vec<Pending>, AllocError>
-    ensures { IfOk result (λ made. made.items ≡ pending.now) }
-{
-    let mut made = Vec::new(alloc);
+    let mut at: usize = 0;
     for p in pending {
-        made.push(copy_pending(alloc, p)?)?;
+        if task.is(p.task) || task.is_before(p.task) {
+            return at;
+        }
+        at += 1;
     }
-    Ok(made)
+    at
 }
 
-/// Pending offsets, in order of tasks, with new ones in place of earlier ones of the task.
-pub fn with_one_pending(
-    alloc: Global,
-    pending: &[Pending],
-    new: Pending,
-) -> Result<Vec<Pending>, AllocError>
-    ensures { IfOk result (λ made. made.items ≡ with_pending new pending.now) }
+/// Whether the offsets at a place are those of a task.
+fn is_at(pending: &[Pending], at: usize, task: TaskId) -> bool
+    ensures { result ≡ is_at task at pending.now }
 {
-    let mut made = Vec::new(alloc);
-    for (i, p) in pending.iter().enumerate() {
-        if new.task.is(p.task) {
-            let mut rest = copies_of(alloc, &pending[i + 1..])?;
-            made.push(new)?;
-            made.append(&mut rest)?;
-            return Ok(made);
-        }
-        if new.task.is_before(p.task) {
-            let mut rest = copies_of(alloc, &pending[i..])?;
-            made.push(new)?;
-            made.append(&mut rest)?;
-            return Ok(made);
-        }
-        made.push(copy_pending(alloc, p)?)?;
+    match pending.get(at) {
+        Some(p) => task.is(p.task),
+        None => false,
     }
-    made.push(new)?;
-    Ok(made)
+}
+
+/// Puts offsets among pending ones, in order of tasks, in place of earlier ones of the task. Want of memory is the one error;
+/// after it all is as before.
+fn put_pending(pending: &mut Vec<Pending>, new: Pending) -> Result<(), AllocError>
+    ensures ok { OnOk result (pending.new.items ≡ with_pending new pending.old.items) }
+    ensures err { OnErr result (pending.new.items ≡ pending.old.items) }
+{
+    let at = place_of(pending.as_slice(), new.task);
+    if is_at(pending.as_slice(), at, new.task) {
+        pending[at] = new;
+        return Ok(());
+    }
+    pending.insert(at, new)?;
+    Ok(())
+}
+
+/// Puts offsets among those of one producer, as `put_pending` does.
+pub fn pend_in(alloc: Global, own: &mut Seq<Pending>, new: Pending) -> Result<(), AllocError>
+    ensures ok { OnOk result (own.new ≡ with_pending new own.old) }
+    ensures err { OnErr result (own.new ≡ own.old) }
+{
+    let mut pending = mem::replace(own, Seq::new(alloc)).into_vec();
+    let put = put_pending(&mut pending, new);
+    *own = Seq::of(pending);
+    put?;
+    Ok(())
 }
 
 /// Whether offsets are pending for a task.

@@ -4,9 +4,11 @@ use Rattle.std.specs.Prelude.{◌==◌, ◌&&◌}
 use Rattle.std.proofs.lemmas.Bool.{and_parts, and_from, eqb-true, eq-eqb}
 use Rattle.ks_history.specs.declared.partition.Slot.{Slot}
 use Rattle.ks_history.specs.declared.partition.Slot.TheVariants.{Plain, Sent, Mark}
-use Rattle.ks_history.specs.Partition.{count_sent}
+use Rattle.ks_row.specs.declared.record.Rec.{Rec}
+use Rattle.ks_row.specs.declared.record.TaskId.{TaskId}
+use Rattle.ks_history.specs.Partition.{count_sent, sent_slots}
 use Rattle.ks_log.specs.declared.counts.Counted.{Counted}
-use Rattle.ks_log.specs.Index.{counted, count_place, counted_one}
+use Rattle.ks_log.specs.Index.{marks_in, counted, count_place, counted_put}
 
 pub count_sent-append : (w e : ℕ) (xs ys : List Slot) → count_sent w e (xs ++ ys) ≡ count_sent w e xs + count_sent w e ys
 count_sent-append w e [] ys = omega arith
@@ -34,42 +36,71 @@ apart w e v d k c other is true h =
     absurd (cc)
 apart w e v d k c other is false h = refl
 
-raised : (b : Bool) (n m : ℕ) → cond b (n + 1) m ≡ cond b n m + cond b 1 0
-raised true n m = refl
-raised false n m = omega arith
-
--- one more of a producer and epoch
-pub counted-one : (w e v d : ℕ) (counts : List Counted) → counted w e (counted_one v d counts) ≡ counted w e counts + cond (same w e v d) 1 0
-counted-one w e v d [] = omega arith
-counted-one w e v d (kept ∷ counts) =
+-- a count that is put
+counted-put : (w e v d n : ℕ) (counts : List Counted) → counted w e (counted_put v d n counts) ≡ cond (same w e v d) n (counted w e counts)
+counted-put w e v d n [] = refl
+counted-put w e v d n (kept ∷ counts) =
     elim (same v d kept.producer kept.epoch) as (λ b. same v d kept.producer kept.epoch ≡ b
-    → counted w e (cond b (record kept { count = kept.count + 1 } ∷ counts) (kept ∷ counted_one v d counts)) ≡ cond (same w e kept.producer kept.epoch) kept.count (counted w e counts) + cond (same w e v d) 1 0) [
+    → counted w e (cond b (record kept { count = n } ∷ counts) (kept ∷ counted_put v d n counts)) ≡ cond (same w e v d) n (cond (same w e kept.producer kept.epoch) kept.count (counted w e counts))) [
       | true ↦ λ is. let it = same-is v d kept.producer kept.epoch is in
-          raised (same w e kept.producer kept.epoch) kept.count (counted w e counts)
-          ∙ ap₂ (λ x y. cond (same w e kept.producer kept.epoch) kept.count (counted w e counts) + cond (same w e x y) 1 0) (sym it.0) (sym it.1)
-      | false ↦ λ is. elim (same w e kept.producer kept.epoch) as (λ b. same w e kept.producer kept.epoch ≡ b → cond b kept.count (counted w e (counted_one v d counts)) ≡ cond b kept.count (counted w e counts) + cond (same w e v d) 1 0) [
-        | true ↦ λ e'. let none = apart w e v d kept.producer kept.epoch is e' (same w e v d) refl in
-            let one : cond (same w e v d) 1 0 ≡ zero = ap (λ b. cond b 1 0) none in omega (arith, one)
-        | false ↦ λ e'. counted-one w e v d counts
+          twice (same w e kept.producer kept.epoch) n kept.count (counted w e counts)
+          ∙ ap₂ (λ x y. cond (same w e x y) n (cond (same w e kept.producer kept.epoch) kept.count (counted w e counts))) (sym it.0) (sym it.1)
+      | false ↦ λ is. elim (same w e kept.producer kept.epoch) as (λ b. same w e kept.producer kept.epoch ≡ b → cond b kept.count (counted w e (counted_put v d n counts)) ≡ cond (same w e v d) n (cond b kept.count (counted w e counts))) [
+        | true ↦ λ e'. sym (ap (λ b. cond b n kept.count) (apart w e v d kept.producer kept.epoch is e' (same w e v d) refl))
+        | false ↦ λ e'. counted-put w e v d n counts
       ] refl
     ] refl
+  where
+    twice : (b : Bool) (x y z : ℕ) → cond b x z ≡ cond b x (cond b y z)
+    twice true x y z = refl
+    twice false x y z = refl
 
--- a count that is kept already, and one that isn't
-pub counted_one-there : (w e : ℕ) (counts : List Counted) (x : Counted) → count_place w e counts < length counts
-    → counted_one w e counts ≡ set counts (count_place w e counts) (record (get_or counts (count_place w e counts) x) { count = (get_or counts (count_place w e counts) x).count + 1 })
-counted_one-there w e [] x h = absurd (omega arith)
-counted_one-there w e (kept ∷ counts) x h =
-    elim ((w == kept.producer) && (e == kept.epoch)) as (λ b. cond b 0 (suc (count_place w e counts)) < suc (length counts) → cond b (record kept { count = kept.count + 1 } ∷ counts) (kept ∷ counted_one w e counts)
-    ≡ set (kept ∷ counts) (cond b 0 (suc (count_place w e counts))) (record (get_or (kept ∷ counts) (cond b 0 (suc (count_place w e counts))) x) { count = (get_or (kept ∷ counts) (cond b 0 (suc (count_place w e counts))) x).count + 1 })) [
+-- the records of an append
+pub marks_in-sent : (w e number : ℕ) (t : TaskId) (recs : List Rec) → marks_in (sent_slots w e number t recs) ≡ []
+marks_in-sent w e number t [] = refl
+marks_in-sent w e number t (rec ∷ recs) = marks_in-sent w e (number + 1) t recs
+
+pub length-sent : (w e number : ℕ) (t : TaskId) (recs : List Rec) → length (sent_slots w e number t recs) ≡ length recs
+length-sent w e number t [] = refl
+length-sent w e number t (rec ∷ recs) = ap suc (length-sent w e (number + 1) t recs)
+
+count_sent-sent : (w e v d number : ℕ) (t : TaskId) (recs : List Rec) → count_sent w e (sent_slots v d number t recs) ≡ cond (same w e v d) (length recs) 0
+count_sent-sent w e v d number t [] = by (same w e v d)
+  where
+    by : (b : Bool) → ◌≡◌ {A = ℕ} 0 (cond b 0 0)
+    by true = refl
+    by false = refl
+count_sent-sent w e v d number t (rec ∷ recs) = by (same w e v d) _ (length recs) (count_sent-sent w e v d (number + 1) t recs)
+  where
+    by : (b : Bool) (x n : ℕ) → x ≡ cond b n 0 → cond b (suc x) x ≡ cond b (suc n) 0
+    by true x n h = ap suc h
+    by false x n h = h
+
+pub sums-sent : (w e v d number next : ℕ) (t : TaskId) (recs : List Rec) (counts counts' : List Counted) → counts' ≡ counted_put v d next counts → next ≡ counted v d counts + length recs
+    → counted w e counts' ≡ counted w e counts + count_sent w e (sent_slots v d number t recs)
+sums-sent w e v d number next t recs counts counts' put is =
+    ap (counted w e) put ∙ counted-put w e v d next counts ∙ by (same w e v d) refl ∙ ap (λ n. counted w e counts + n) (sym (count_sent-sent w e v d number t recs))
+  where
+    by : (b : Bool) → same w e v d ≡ b → cond b next (counted w e counts) ≡ counted w e counts + cond b (length recs) 0
+    by true so = let it = same-is w e v d so in is ∙ ap₂ (λ x y. counted x y counts + length recs) (sym it.0) (sym it.1)
+    by false so = omega arith
+
+-- where a count is kept already, and where it isn't
+pub counted_put-there : (w e n : ℕ) (counts : List Counted) (x : Counted) → count_place w e counts < length counts
+    → counted_put w e n counts ≡ set counts (count_place w e counts) (record (get_or counts (count_place w e counts) x) { count = n })
+counted_put-there w e n [] x h = absurd (omega arith)
+counted_put-there w e n (kept ∷ counts) x h =
+    elim ((w == kept.producer) && (e == kept.epoch)) as (λ b. cond b 0 (suc (count_place w e counts)) < suc (length counts) → cond b (record kept { count = n } ∷ counts) (kept ∷ counted_put w e n counts)
+    ≡ set (kept ∷ counts) (cond b 0 (suc (count_place w e counts))) (record (get_or (kept ∷ counts) (cond b 0 (suc (count_place w e counts))) x) { count = n })) [
       | true ↦ λ h. refl
-      | false ↦ λ h. ap (λ l. kept ∷ l) (counted_one-there w e counts x (omega (arith, h)))
+      | false ↦ λ h. ap (λ l. kept ∷ l) (counted_put-there w e n counts x (omega (arith, h)))
     ] h
 
-pub counted_one-new : (w e : ℕ) (counts : List Counted) → length counts ≤ count_place w e counts → counted_one w e counts ≡ counts ++ record { producer = w; epoch = e; count = 1 } ∷ []
-counted_one-new w e [] h = refl
-counted_one-new w e (kept ∷ counts) h =
-    elim ((w == kept.producer) && (e == kept.epoch)) as (λ b. suc (length counts) ≤ cond b 0 (suc (count_place w e counts)) → cond b (record kept { count = kept.count + 1 } ∷ counts) (kept ∷ counted_one w e counts)
-    ≡ kept ∷ counts ++ record { producer = w; epoch = e; count = 1 } ∷ []) [
+pub counted_put-new : (w e n : ℕ) (counts : List Counted) → length counts ≤ count_place w e counts → counted_put w e n counts ≡ counts ++ record { producer = w; epoch = e; count = n } ∷ []
+counted_put-new w e n [] h = refl
+counted_put-new w e n (kept ∷ counts) h =
+    elim ((w == kept.producer) && (e == kept.epoch)) as (λ b. suc (length counts) ≤ cond b 0 (suc (count_place w e counts)) → cond b (record kept { count = n } ∷ counts) (kept ∷ counted_put w e n counts)
+    ≡ kept ∷ counts ++ record { producer = w; epoch = e; count = n } ∷ []) [
       | true ↦ λ h. absurd (omega (arith, h))
-      | false ↦ λ h. ap (λ l. kept ∷ l) (counted_one-new w e counts (omega (arith, h)))
+      | false ↦ λ h. ap (λ l. kept ∷ l) (counted_put-new w e n counts (omega (arith, h)))
     ] h

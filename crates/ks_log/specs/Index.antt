@@ -41,10 +41,11 @@ abbrev pub count_place : ℕ → ℕ → List Counted → ℕ
 count_place w e [] = 0
 count_place w e (kept ∷ counts) = if (w == kept.producer) && (e == kept.epoch) then 0 else suc (count_place w e counts)
 
--- one more of a producer and epoch
-abbrev pub counted_one : ℕ → ℕ → List Counted → List Counted
-counted_one w e [] = record { producer = w; epoch = e; count = 1 } ∷ []
-counted_one w e (kept ∷ counts) = if (w == kept.producer) && (e == kept.epoch) then record kept { count = kept.count + 1 } ∷ counts else kept ∷ counted_one w e counts
+-- with this count of a producer and epoch
+abbrev pub counted_put : ℕ → ℕ → ℕ → List Counted → List Counted
+counted_put w e n [] = record { producer = w; epoch = e; count = n } ∷ []
+counted_put w e n (kept ∷ counts) =
+    if (w == kept.producer) && (e == kept.epoch) then record kept { count = n } ∷ counts else kept ∷ counted_put w e n counts
 
 -- what is kept is that of the slots; so many markers stand below the last stable offset
 pub record IsIndexed (slots : List Slot) (visible : List Bool) (marks : List Marked) (passed : ℕ) (counts : List Counted) : Type 0 where

@@ -1,3 +1,5 @@
 pub mod Written
 pub mod Index
 pub mod Reading
+pub mod Appending
+pub mod Places

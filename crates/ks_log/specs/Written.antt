@@ -1,8 +1,10 @@
 -- The partitions that were written to, each beside its name.
-use Rattle.std.specs.Prelude.{◌≡◌, ℕ, suc, ◌+◌, ◌<◌, ◌^◌, if◌then◌else◌, List, [], ◌∷◌, ◌++◌, length}
+use Rattle.std.specs.Prelude.{◌≡◌, ℕ, suc, ◌+◌, ◌==◌, ◌<◌, ◌^◌, if◌then◌else◌, List, [], ◌∷◌, ◌++◌, length}
 use Rattle.ks_row.specs.declared.record.PartId.{PartId}
 use Rattle.ks_row.specs.Parts.{same_part}
 use Rattle.ks_history.specs.declared.partition.Slot.{Slot}
+use Rattle.ks_history.specs.Partition.{count_sent, sent_slots}
+use Rattle.ks_log.specs.declared.append.Batch.{Batch}
 use Rattle.ks_log.specs.declared.log.Written.{Written}
 
 -- the slots of a partition
@@ -31,3 +33,8 @@ pub record IsCounted (log : List Written) (empty : List Slot) (count : ℕ) : Ty
   pub empty_is : empty ≡ []
   pub count_is : count ≡ total log
   pub few : count < 2 ^ 48
+
+-- with a batch at the end of one partition, where its number is the count of its producer's and epoch's records there
+abbrev pub log_appended : PartId → Batch → List Written → List Written
+log_appended p b log =
+    if b.number == count_sent b.producer b.epoch (slots_in p log) then with_slots p (sent_slots b.producer b.epoch b.number b.task b.recs.items) log else log

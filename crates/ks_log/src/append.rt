@@ -1,5 +1,5 @@
 //! The slots that an append adds.
-ghost use Rattle.std.specs.Prelude.{◌≡◌, ◌∷◌, [], IfOk};
+ghost use Rattle.std.specs.Prelude.{◌≡◌, ◌+◌, ◌<◌, ◌≤◌, ◌^◌, ◌++◌, length, vec_capacity, IfOk};
 ghost use Rattle.ks_history.specs.Partition.{sent_slots};
 
 use ks_history::Slot;
@@ -24,42 +24,39 @@ pub fn copies(alloc: Global, recs: &[Rec]) -> Result<Vec<Rec>, AllocError>
     Ok(made)
 }
 
-/// One slot alone, as a list. Want of memory for the list is the one error.
-pub fn one_slot(alloc: Global, slot: Slot) -> Result<Vec<Slot>, AllocError>
-    ensures { IfOk result (λ made. made.items ≡ slot ∷ []) }
-{
-    let mut made = Vec::new(alloc);
-    made.push(slot)?;
-    Ok(made)
+/// Records that a producer sends in an epoch for a task, numbered on from `number` (in Kafka: a record batch, with the
+/// producer's id, its epoch and the base sequence).
+#[derive(Drop)]
+pub struct Batch {
+    pub producer: u8,
+    pub epoch: u64,
+    pub number: u64,
+    pub task: TaskId,
+    pub recs: Vec<Rec>,
 }
 
-/// The slots of records that a producer appends in an epoch for a task: one for each record, in their order, numbered on
-/// from `number`. Want of memory is the one error, which comes also where a record would have the number 2^64 - 1; the records
-/// are then gone.
-pub fn sent(
-    alloc: Global,
-    w: u8,
-    epoch: u64,
-    number: u64,
-    task: TaskId,
-    recs: Vec<Rec>,
-) -> Result<Vec<Slot>, AllocError>
-    ensures { IfOk result (λ made. made.items ≡ sent_slots w epoch number task recs.items) }
+/// Puts the slots of a batch behind those that are there: one for each record, in their order. Takes no memory.
+pub fn put_sent(slots: &mut Vec<Slot>, batch: Batch)
+    requires room { length slots.old.items + length batch.recs.items ≤ vec_capacity slots.old }
+    requires below { batch.number + length batch.recs.items < 2 ^ 64 }
+    ensures { slots.new.items ≡ slots.old.items ++ sent_slots batch.producer batch.epoch batch.number batch.task batch.recs.items }
 {
-    let mut made = Vec::with_capacity(alloc, recs.len())?;
+    let Batch {
+        producer,
+        epoch,
+        number,
+        task,
+        recs,
+    } = batch;
     let mut next = number;
     for rec in recs {
-        made.push(Slot::Sent {
-            producer: w,
+        slots.push_reserved(Slot::Sent {
+            producer,
             epoch,
             number: next,
             task,
             rec,
-        })?;
-        if next == u64::MAX {
-            return Err(AllocError);
-        }
+        });
         next += 1;
     }
-    Ok(made)
 }

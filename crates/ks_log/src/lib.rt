@@ -8,8 +8,9 @@ mod log;
 mod marks;
 mod part;
 mod reading;
+mod seats;
 
-pub use append::{copies, copy, one_slot, sent};
+pub use append::{Batch, copies, copy};
 pub use log::{Log, Written};
-pub use part::Part;
-pub use reading::{ends_in, next_in};
+pub use part::{OutOfSequence, Part};
+pub use reading::ends_in;

@@ -1,9 +1,13 @@
 //! The log: the partitions that were written to, each beside its name.
-ghost use Rattle.std.specs.Prelude.{◌≡◌, ◌<◌, ◌^◌, ◌++◌, ◌∷◌, [], length, IfOk, OnOk, OnErr};
-ghost use Rattle.ks_history.specs.declared.partition.Slot.TheVariants.{Plain};
-ghost use Rattle.ks_log.specs.Written.{slots_in, total, place, with_slots};
+ghost use Rattle.std.specs.Prelude.{◌≡◌, ◌<◌, ◌+◌, ◌^◌, ◌++◌, ◌∷◌, [], ℕ, ◌==◌, if◌then◌else◌, length, IfOk, OnOk, OnErr};
+ghost use Rattle.ks_history.specs.declared.partition.Slot.TheVariants.{Plain, Mark};
+ghost use Rattle.ks_history.specs.Partition.{count_sent, sent_slots};
+ghost use Rattle.ks_log.specs.Appending.{append_answer};
+ghost use Rattle.ks_log.specs.Written.{slots_in, total, place, with_slots, log_appended};
 
-use crate::part::Part;
+use crate::append::Batch;
+use crate::part::{OutOfSequence, Part};
+use crate::seats::{put_seat, seat_of, widen};
 use ks_history::Slot;
 use ks_row::{PartId, Rec};
 use std::alloc::{AllocError, Global};
@@ -28,6 +32,8 @@ pub struct Written {
 #[derive(Drop)]
 pub struct Log {
     parts: Vec<Written>,
+    /// Where each partition stands.
+    seats: Vec<usize>,
     /// What stands for each partition that wasn't written to.
     empty: Part,
     /// How many slots there are in all.
@@ -38,69 +44,70 @@ impl Model for Log {
     ghost use Rattle.std.specs.Prelude.{List};
     ghost use Rattle.ks_log.specs.declared.log.Written.{Written};
     ghost use Rattle.ks_log.specs.Written.{IsCounted};
+    ghost use Rattle.ks_log.specs.Places.{AreSeats};
 
     ghost Value = { List Written };
 
     ghost view = { λ l. l.parts.items };
 
-    ghost invariant = { λ l. IsCounted l.parts.items l.empty l.count };
+    ghost invariant = { λ l. IsCounted l.parts.items l.empty l.count × AreSeats l.seats.items l.parts.items };
 }
 
-/// Where a partition stands, or how many there are.
-fn place_of(parts: &[Written], part: PartId) -> usize
-    ensures { result ≡ place part parts.now }
-{
-    let mut at: usize = 0;
-    for written in parts {
-        if part.is(written.part) {
-            return at;
-        }
-        at += 1;
-    }
-    at
-}
-
-/// More slots at the end of one partition.
+/// Records more at the end of a partition, which stands at this place, where their number is right.
 fn grow(
     parts: &mut Vec<Written>,
     alloc: Global,
+    at: usize,
     part: PartId,
-    more: Vec<Slot>,
-) -> Result<(), AllocError>
-    ensures ok { OnOk result (parts.new.items ≡ with_slots part more.items parts.old.items) }
+    batch: Batch,
+) -> Result<Result<u64, OutOfSequence>, AllocError>
+    requires { at ≡ place part parts.old.items }
+    ensures answer { IfOk result (λ r. r ≡ append_answer batch.producer batch.epoch batch.number (slots_in part parts.old.items)) }
+    ensures ok { OnOk result (parts.new.items ≡ log_appended part batch parts.old.items) }
     ensures err { OnErr result (parts.new.items ≡ parts.old.items) }
 {
-    let at = place_of(parts.as_slice(), part);
+    let Batch {
+        producer,
+        epoch,
+        number,
+        task,
+        recs,
+    } = batch;
     if at < parts.len() {
         let written = &mut parts[at];
-        written.slots.append(alloc, more)?;
-        return Ok(());
+        let answer = written.slots.append(producer, epoch, number, task, recs)?;
+        return Ok(answer);
     }
     let mut slots = Part::new(alloc);
-    slots.append(alloc, more)?;
+    let answer = slots.append(producer, epoch, number, task, recs)?;
+    if answer.is_err() {
+        return Ok(answer);
+    }
     parts.push(Written { part, slots })?;
-    Ok(())
+    Ok(answer)
 }
 
-/// One plain record more at the end of a partition; its offset.
-fn grow_plain(
+/// One slot more at the end of a partition, which stands at this place; its offset.
+fn grow_one(
     parts: &mut Vec<Written>,
     alloc: Global,
+    at: usize,
     part: PartId,
-    rec: Rec,
+    slot: Slot,
 ) -> Result<u64, AllocError>
-    ensures at { IfOk result (λ at. at ≡ length (slots_in part parts.old.items)) }
-    ensures ok { OnOk result (parts.new.items ≡ with_slots part (Plain rec ∷ []) parts.old.items) }
+    requires at { at ≡ place part parts.old.items }
+    requires one { (w e : ℕ) → count_sent w e (slot ∷ []) ≡ 0 }
+    ensures at { IfOk result (λ end. end ≡ length (slots_in part parts.old.items)) }
+    ensures ok { OnOk result (parts.new.items ≡ with_slots part (slot ∷ []) parts.old.items) }
     ensures err { OnErr result (parts.new.items ≡ parts.old.items) }
 {
-    let at = place_of(parts.as_slice(), part);
     if at < parts.len() {
         let written = &mut parts[at];
-        let end = written.slots.append_plain(rec)?;
+        let end = written.slots.put_slot(slot)?;
         return Ok(end);
     }
     let mut slots = Part::new(alloc);
-    let end = slots.append_plain(rec)?;
+    let end = slots.put_slot(slot)?;
     parts.push(Written { part, slots })?;
     Ok(end)
 }
@@ -112,6 +119,7 @@ impl Log {
     {
         Log {
             parts: Vec::new(alloc),
+            seats: Vec::new(alloc),
             empty: Part::new(alloc),
             count: 0,
         }
@@ -121,39 +129,91 @@ impl Log {
     pub fn let_go<R: Threads + Sync>(self, rt: &R) {
         let Log {
             parts,
+            seats: _,
             empty: _,
             count: _,
         } = self;
         drop(thread::map_vec(rt, parts, &|written: Written| drop(written)));
     }
 
+    /// Where a partition stands, or how many there are.
+    fn place(&self, part: PartId) -> usize
+        ensures { result ≡ place part self.now }
+    {
+        let seat = seat_of(self.seats.as_slice(), part);
+        if seat == 0 {
+            return self.parts.len();
+        }
+        seat - 1
+    }
+
+    /// The same, where the log has room for so many slots more.
+    fn place_for(&self, part: PartId, count: usize) -> Result<usize, AllocError>
+        ensures at { IfOk result (λ at. at ≡ place part self.now) }
+        ensures below { IfOk result (λ at. at < 2 ^ 48) }
+        ensures room { OnOk result (total self.now + count < 2 ^ 48) }
+    {
+        if self.count.saturating_add(count) >= LIMIT {
+            return Err(AllocError);
+        }
+        let at = self.place(part);
+        if at >= LIMIT {
+            return Err(AllocError);
+        }
+        Ok(at)
+    }
+
     /// The slots of a partition, which are none where nothing was appended to it.
     pub fn part(&self, part: PartId) -> &Part
         ensures { result.now ≡ slots_in part self.now }
     {
-        let parts = self.parts.as_slice();
-        for written in parts {
-            if part.is(written.part) {
-                return &written.slots;
-            }
+        let at = self.place(part);
+        if at < self.parts.len() {
+            return &self.parts[at].slots;
         }
         &self.empty
     }
 
-    /// Puts more slots at the end of one partition, in their order. Want of memory is the one error, after which the log is
-    /// as before; it comes also where the log would have 2^48 slots or more.
-    pub fn append(&mut self, alloc: Global, part: PartId, more: Vec<Slot>) -> Result<(), AllocError>
-        ensures ok { OnOk result (self.new ≡ with_slots part more.items self.old) }
+    /// Puts records at the end of one partition, and answers the offset of the first. OutOfSequence exactly where their number
+    /// isn't the count of their producer's and epoch's records there. Want of memory is the outer error, which comes also where the
+    /// log would have 2^48 slots or more. After both the log is as before, but the records are gone.
+    pub fn append(
+        &mut self,
+        alloc: Global,
+        part: PartId,
+        batch: Batch,
+    ) -> Result<Result<u64, OutOfSequence>, AllocError>
+        ensures answer { IfOk result (λ r. r ≡ append_answer batch.producer batch.epoch batch.number (slots_in part self.old)) }
+        ensures ok { OnOk result (self.new ≡ log_appended part batch self.old) }
         ensures few { OnOk result (total self.new < 2 ^ 48) }
         ensures err { OnErr result (self.new ≡ self.old) }
     {
-        let count = more.len();
-        if self.count.saturating_add(count) >= LIMIT {
-            return Err(AllocError);
+        let count = batch.recs.len();
+        let at = self.place_for(part, count)?;
+        widen(&mut self.seats, part)?;
+        let answer = grow(&mut self.parts, alloc, at, part, batch)?;
+        if answer.is_err() {
+            return Ok(answer);
         }
-        grow(&mut self.parts, alloc, part, more)?;
         self.count += count;
-        Ok(())
+        put_seat(&mut self.seats, part, at);
+        Ok(answer)
+    }
+
+    /// Puts one slot at the end of one partition, which is no record that was sent, and answers its offset.
+    fn put_slot(&mut self, alloc: Global, part: PartId, slot: Slot) -> Result<u64, AllocError>
+        requires { (w e : ℕ) → count_sent w e (slot ∷ []) ≡ 0 }
+        ensures at { IfOk result (λ at. at ≡ length (slots_in part self.old)) }
+        ensures ok { OnOk result (self.new ≡ with_slots part (slot ∷ []) self.old) }
+        ensures few { OnOk result (total self.new < 2 ^ 48) }
+        ensures err { OnErr result (self.new ≡ self.old) }
+    {
+        let at = self.place_for(part, 1)?;
+        widen(&mut self.seats, part)?;
+        let end = grow_one(&mut self.parts, alloc, at, part, slot)?;
+        self.count += 1;
+        put_seat(&mut self.seats, part, at);
+        Ok(end)
     }
 
     /// Puts a plain record at the end of one partition, and answers its offset. Want of memory is the one error, after which
@@ -164,11 +224,31 @@ impl Log {
         ensures few { OnOk result (total self.new < 2 ^ 48) }
         ensures err { OnErr result (self.new ≡ self.old) }
     {
-        if self.count >= LIMIT - 1 {
-            return Err(AllocError);
-        }
-        let at = grow_plain(&mut self.parts, alloc, part, rec)?;
-        self.count += 1;
+        let at = self.put_slot(alloc, part, Slot::Plain { rec })?;
+        Ok(at)
+    }
+
+    /// Puts a marker of a producer and epoch at the end of one partition, and answers its offset. Want of memory is the one error,
+    /// after which the log is as before; it comes also where the log would have 2^48 slots or more.
+    pub fn mark(
+        &mut self,
+        alloc: Global,
+        part: PartId,
+        producer: u8,
+        epoch: u64,
+        commit: bool,
+    ) -> Result<u64, AllocError>
+        ensures at { IfOk result (λ at. at ≡ length (slots_in part self.old)) }
+        ensures ok { OnOk result (self.new ≡ with_slots part (Mark producer epoch commit ∷ []) self.old) }
+        ensures few { OnOk result (total self.new < 2 ^ 48) }
+        ensures err { OnErr result (self.new ≡ self.old) }
+    {
+        let slot = Slot::Mark {
+            producer,
+            epoch,
+            commit,
+        };
+        let at = self.put_slot(alloc, part, slot)?;
         Ok(at)
     }
 }

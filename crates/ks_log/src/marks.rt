@@ -1,9 +1,8 @@
 //! The markers of a partition.
-ghost use Rattle.std.specs.Prelude.{◌≡◌, ◌∷◌, [], length, IfOk};
+ghost use Rattle.std.specs.Prelude.{◌≡◌, ◌+◌, ◌≤◌, ◌∷◌, ◌++◌, [], length, vec_capacity};
 ghost use Rattle.ks_log.specs.Index.{marks_in, mark_among, visible_one};
 
 use ks_history::Slot;
-use std::alloc::{AllocError, Global};
 
 /// A marker of a partition.
 #[derive(Clone, Copy, Drop)]
@@ -56,24 +55,21 @@ pub fn mark_count(slot: &Slot) -> usize
     }
 }
 
-/// The markers among slots, in their order.
-pub fn marks_of(alloc: Global, slots: &[Slot]) -> Result<Vec<Marked>, AllocError>
-    ensures { IfOk result (λ made. made.items ≡ marks_in slots.now) }
+/// Puts the marker of a slot behind the others, where it is one. Takes no memory.
+pub fn put_mark(marks: &mut Vec<Marked>, slot: &Slot)
+    requires { length marks.old.items + length (marks_in (slot.now ∷ [])) ≤ vec_capacity marks.old }
+    ensures { marks.new.items ≡ marks.old.items ++ marks_in (slot.now ∷ []) }
 {
-    let mut made = Vec::new(alloc);
-    for slot in slots {
-        match slot {
-            Slot::Mark {
-                producer,
-                epoch,
-                commit,
-            } => made.push(Marked {
-                producer: *producer,
-                epoch: *epoch,
-                commit: *commit,
-            })?,
-            _ => {}
-        }
+    match slot {
+        Slot::Mark {
+            producer,
+            epoch,
+            commit,
+        } => marks.push_reserved(Marked {
+            producer: *producer,
+            epoch: *epoch,
+            commit: *commit,
+        }),
+        _ => {}
     }
-    Ok(made)
 }

@@ -1,17 +1,26 @@
 //! One partition: its slots, and beside them what readers and appends need of them.
-ghost use Rattle.std.specs.Prelude.{◌≡◌, ◌≤◌, ◌++◌, ◌∷◌, [], length, drop, take, vec_capacity, IfOk, OnOk, OnErr};
-ghost use Rattle.ks_history.specs.declared.partition.Slot.TheVariants.{Plain};
-ghost use Rattle.ks_history.specs.Partition.{stable, count_sent};
+ghost use Rattle.std.specs.Prelude.{◌≡◌, ℕ, ◌≤◌, ◌++◌, ◌∷◌, [], length, drop, vec_capacity, IfOk, OnOk, OnErr};
+ghost use Rattle.ks_history.specs.declared.partition.Slot.TheVariants.{Plain, Mark};
+ghost use Rattle.ks_history.specs.Partition.{stable, count_sent, read, read_next};
+ghost use Rattle.ks_log.specs.Appending.{append_answer, appended};
 ghost use Rattle.ks_log.specs.Index.{visible_in, marks_in};
-ghost use Rattle.ks_log.specs.Reading.{readable_pairs, decided_pairs, at_or_past, waiting_in};
+ghost use Rattle.ks_log.specs.Reading.{decided_pairs, waiting_in};
 
-use crate::counts::{Counted, count_of, counts_with};
-use crate::marks::{Marked, is_visible, mark_count, marks_of};
-use crate::reading::{decided_in, visible_from};
+use crate::append::{Batch, put_sent};
+use crate::counts::{Counted, count_of, put_count};
+use crate::marks::{Marked, is_visible, mark_count, put_mark};
+use crate::reading::{decided_in, next_in, visible_from};
 use ks_history::{Producer, Slot};
-use ks_row::{PartId, Rec};
+use ks_row::{PartId, Rec, TaskId};
 use std::alloc::{AllocError, Global};
 use std::marker::Model;
+
+/// An append's number isn't the count of its producer's and epoch's records in the partition.
+#[derive(Clone, Copy, Drop)]
+pub struct OutOfSequence {
+    /// That count.
+    pub expected: u64,
+}
 
 /// The slots of a partition in the order of their offsets, the first at offset 0. It is seen as the list of these slots.
 #[derive(Drop)]
@@ -60,20 +69,6 @@ fn extend_visible(slots: &[Slot], marks: &[Marked], passed: usize, visible: &mut
     passed
 }
 
-/// More slots behind these; where there are none yet, the new ones are taken as they are.
-fn put_behind(slots: &mut Vec<Slot>, more: Vec<Slot>) -> Result<(), AllocError>
-    ensures ok { OnOk result (slots.new.items ≡ slots.old.items ++ more.items) }
-    ensures err { OnErr result (slots.new.items ≡ slots.old.items) }
-{
-    let mut more = more;
-    if slots.is_empty() {
-        *slots = more;
-        return Ok(());
-    }
-    slots.append(&mut more)?;
-    Ok(())
-}
-
 impl Part {
     /// A partition without a slot.
     pub fn new(alloc: Global) -> Part
@@ -109,20 +104,32 @@ impl Part {
         count_of(self.counts.as_slice(), w, epoch)
     }
 
-    /// The first readable records at or past an offset, at most so many, with their offsets. Readable are the records below
-    /// the last stable offset that weren't aborted. An offset past all of them gives none. Want of memory for the copies is
-    /// the one error.
-    pub fn readable(
+    /// The first readable records at or past an offset, at most `max`, with their offsets. Readable are the records below
+    /// the last stable offset that weren't aborted.
+    fn readable(&self, alloc: Global, from: u64, max: usize) -> Result<Vec<(u64, Rec)>, AllocError>
+        ensures { IfOk result (λ made. made.items ≡ read from max self.now) }
+    {
+        let slots = self.slots.as_slice();
+        let made = visible_from(alloc, slots, self.visible.as_slice(), from as usize, max)?;
+        Ok(made)
+    }
+
+    /// The first readable records at or past an offset, at most `max`, with their offsets; and where the next read goes on: one
+    /// past the last record where there are `max` of them, else the last stable offset or `from`, whichever is more. Readable are
+    /// the records below the last stable offset that weren't aborted. An offset past all of them gives none. Want of memory for
+    /// the copies is the one error, which stands also for an offset of 2^64. KIP-98.
+    pub fn read_committed(
         &self,
         alloc: Global,
         from: u64,
-        limit: usize,
-    ) -> Result<Vec<(u64, Rec)>, AllocError>
-        ensures { IfOk result (λ made. made.items ≡ take limit (at_or_past from (readable_pairs 0 self.now))) }
+        max: u32,
+    ) -> Result<(Vec<(u64, Rec)>, u64), AllocError>
+        ensures records { IfOk result (λ r. r.0.items ≡ read from max self.now) }
+        ensures next { IfOk result (λ r. r.1 ≡ read_next from max self.now) }
     {
-        let slots = self.slots.as_slice();
-        let made = visible_from(alloc, slots, self.visible.as_slice(), from as usize, limit)?;
-        Ok(made)
+        let made = self.readable(alloc, from, max as usize)?;
+        let next = next_in(made.as_slice(), self.stable(), from, max as usize)?;
+        Ok((made, next))
     }
 
     /// The committed records of all slots, with their offsets, where this is the partition `part` of the markers that wait at
@@ -145,26 +152,67 @@ impl Part {
         )
     }
 
-    /// Puts more slots at the end, in their order. Want of memory is the one error, after which all is as before; it comes
-    /// also where a producer would have 2^64 records of one epoch.
-    pub fn append(&mut self, alloc: Global, more: Vec<Slot>) -> Result<(), AllocError>
-        ensures ok { OnOk result (self.new ≡ self.old ++ more.items) }
+    /// Puts records of a producer and epoch at the end, for a task, and answers the offset of the first. OutOfSequence exactly
+    /// where `number`, that of the first record, isn't the count of that producer's and epoch's records here. Want of memory is the
+    /// outer error, which comes also where there would be 2^64 of them. After both all is as before, but the records are gone.
+    pub fn append(
+        &mut self,
+        producer: u8,
+        epoch: u64,
+        number: u64,
+        task: TaskId,
+        recs: Vec<Rec>,
+    ) -> Result<Result<u64, OutOfSequence>, AllocError>
+        ensures answer { IfOk result (λ r. r ≡ append_answer producer epoch number self.old) }
+        ensures ok { OnOk result (self.new ≡ appended producer epoch number task recs.items self.old) }
         ensures err { OnErr result (self.new ≡ self.old) }
     {
-        let mut found = marks_of(alloc, more.as_slice())?;
-        let counts = counts_with(alloc, self.counts.as_slice(), more.as_slice())?;
-        let room = self.slots.len() - self.visible.len();
-        self.visible.reserve(room + more.len())?;
-        self.marks.reserve(found.len())?;
-        put_behind(&mut self.slots, more)?;
-        if self.marks.append(&mut found).is_err() {
-            unreachable!();
+        let expected = self.count(producer, epoch);
+        if number != expected {
+            return Ok(Err(OutOfSequence { expected }));
         }
-        self.counts = counts;
+        let Some(next) = number.checked_add(recs.len() as u64) else {
+            return Err(AllocError);
+        };
+        let end = self.slots.len();
+        let room = end - self.visible.len();
+        self.visible.reserve(room + recs.len())?;
+        self.counts.reserve(1)?;
+        self.slots.reserve(recs.len())?;
+        let batch = Batch {
+            producer,
+            epoch,
+            number,
+            task,
+            recs,
+        };
+        put_sent(&mut self.slots, batch);
+        put_count(&mut self.counts, producer, epoch, next);
         let slots = self.slots.as_slice();
         let marks = self.marks.as_slice();
         self.passed = extend_visible(slots, marks, self.passed, &mut self.visible);
-        Ok(())
+        Ok(Ok(end as u64))
+    }
+
+    /// Puts one slot at the end, which is no record that was sent, and answers its offset. Want of memory is the one error, after
+    /// which all is as before, but the slot is gone.
+    pub fn put_slot(&mut self, slot: Slot) -> Result<u64, AllocError>
+        requires { (w e : ℕ) → count_sent w e (slot ∷ []) ≡ 0 }
+        ensures at { IfOk result (λ at. at ≡ length self.old) }
+        ensures ok { OnOk result (self.new ≡ self.old ++ slot ∷ []) }
+        ensures err { OnErr result (self.new ≡ self.old) }
+    {
+        let end = self.slots.len();
+        let room = end - self.visible.len();
+        self.visible.reserve(room + 1)?;
+        self.marks.reserve(mark_count(&slot))?;
+        self.slots.reserve(1)?;
+        put_mark(&mut self.marks, &slot);
+        self.slots.push_reserved(slot);
+        let slots = self.slots.as_slice();
+        let marks = self.marks.as_slice();
+        self.passed = extend_visible(slots, marks, self.passed, &mut self.visible);
+        Ok(end as u64)
     }
 
     /// Puts a plain record at the end, and answers its offset. Want of memory is the one error, after which all is as before,
@@ -174,13 +222,23 @@ impl Part {
         ensures ok { OnOk result (self.new ≡ self.old ++ Plain rec ∷ []) }
         ensures err { OnErr result (self.new ≡ self.old) }
     {
-        let end = self.slots.len();
-        let room = end - self.visible.len();
-        self.visible.reserve(room + 1)?;
-        self.slots.push(Slot::Plain { rec })?;
-        let slots = self.slots.as_slice();
-        let marks = self.marks.as_slice();
-        self.passed = extend_visible(slots, marks, self.passed, &mut self.visible);
-        Ok(end as u64)
+        let at = self.put_slot(Slot::Plain { rec })?;
+        Ok(at)
+    }
+
+    /// Puts a marker of a producer and epoch at the end, which completes their records before it, and answers its offset. Want of
+    /// memory is the one error, after which all is as before. KIP-98.
+    pub fn mark(&mut self, producer: u8, epoch: u64, commit: bool) -> Result<u64, AllocError>
+        ensures at { IfOk result (λ at. at ≡ length self.old) }
+        ensures ok { OnOk result (self.new ≡ self.old ++ Mark producer epoch commit ∷ []) }
+        ensures err { OnErr result (self.new ≡ self.old) }
+    {
+        let slot = Slot::Mark {
+            producer,
+            epoch,
+            commit,
+        };
+        let at = self.put_slot(slot)?;
+        Ok(at)
     }
 }

@@ -1,5 +1,5 @@
 -- The journal of a run, by what the run answers.
-use Rattle.std.proofs.Common.{◌≡◌, ◌⊎◌, inl, inr, ℕ, Bool, List, [], ◌∷◌, refl, sym, ap, subst, ◌∙◌, append-nil}
+use Rattle.std.proofs.Common.{◌≡◌, ◌⊎◌, inl, inr, ℕ, Bool, List, [], ◌∷◌, ◌++◌, refl, sym, ap, subst, ◌∙◌, append-nil}
 use Rattle.std.specs.Prelude.{Option, Some, None, IfSome, Ok, Err}
 use Rattle.std.specs.Io.KnownBytes.{IsAtEnd}
 use Rattle.std.specs.declared.vec.Vec.{Vec}
@@ -9,6 +9,8 @@ use Rattle.ks_plan.specs.Drafts.{DraftView}
 use Rattle.ks_plan.specs.Plan.{plan_of}
 use Rattle.ks_query.specs.Streams.{Input}
 use Rattle.ks_query.specs.Grace.{IsWithinGrace}
+use Rattle.ks_assign.specs.declared.clients.Placing.{Placing}
+use Rattle.ks_cluster.specs.Placed.{PlacementTest, ArePlaced}
 use Rattle.ks_def_tasks.specs.Messages.{Rules}
 use Rattle.ks_history.specs.State.{Setup}
 use Rattle.ks_history.specs.declared.journal.Entry.{Entry}
@@ -19,11 +21,12 @@ use Rattle.ks_job.specs.Reader.{whole}
 use Rattle.ks_law_inputs.specs.Records.{records_of}
 use Rattle.ks_law_settled.specs.Jobs.{produces}
 use Rattle.ks_run.specs.Told.{TellsLate, TellsCollision}
-use Rattle.ks_run.specs.Journals.{draft_in, placed_records, SettlesBytes, HasJournal, IsInTime, IsWithoutCollision}
+use Rattle.ks_run.specs.Journals.{draft_in, placed_records, SettlesBytes, HasJournal, IsPlaced, IsInTime, IsWithoutCollision}
 use Rattle.ks_job_source.specs.declared.stop.Stop.{Stop}
 use Rattle.ks_job_source.specs.Stops.{stop_of}
 use Rattle.ks_job_source.specs.Texts.{bad_job_text}
-use Rattle.ks_job_source.specs.Reading.{Read}
+use Rattle.ks_job_source.specs.Reading.{Read, TookNoFault}
+use Rattle.ks_output.specs.Texts.{read_fault_text}
 use Rattle.ks_run.specs.Settling.{SettlesItems}
 use Rattle.ks_run.specs.Answers.{IsRefused, IsJudged}
 use Rattle.ks_run.proofs.Told.{Tells, tells}
@@ -39,6 +42,13 @@ is_some_draft (Some d) = refl
 empty_history : (setup : Setup) → IsHistory setup []
 empty_history setup = record { legal = tt; faithful = tt }
 
+not_empty : {A : Type 0} (xs : List A) (y : A) (ys : List A) → [] ≡ xs ++ y ∷ ys → ⊥
+not_empty [] y ys e = absurd cc
+not_empty (x ∷ xs) y ys e = absurd cc
+
+none_placed : (test : PlacementTest) (setup : Setup) → ArePlaced test setup []
+none_placed test setup front w g a rest e = absurd (not_empty front _ rest e)
+
 abbrev bytes_of : Option (List ℕ) → List ℕ
 bytes_of None = []
 bytes_of (Some bytes) = bytes
@@ -47,8 +57,8 @@ are_known : (left : Option (List ℕ)) → IfSome left (λ b. b ≡ bytes_of lef
 are_known None = tt
 are_known (Some bytes) = refl
 
-nothing_kept : (rules : Rules) (left : Option (List ℕ)) → HasJournal rules left []
-nothing_kept rules left =
+nothing_kept : (rules : Rules) (placing : Placing) (left : Option (List ℕ)) → HasJournal rules placing left []
+nothing_kept rules placing left =
     let items = (whole (bytes_of left)).items in
     let d = some_draft (draft_in items) in
     record {
@@ -59,17 +69,18 @@ nothing_kept rules left =
       records = records_of items;
       inputs = refl;
       history = empty_history _;
+      placed = none_placed _ _;
       front = (placed_records rules d (records_of items), refl);
     }
 
-pub no_journal : (rules : Rules) (left : Option (List ℕ)) (journal : List Entry) → journal ≡ [] → HasJournal rules left journal
-no_journal rules left journal e = subst (HasJournal rules left) (sym e) (nothing_kept rules left)
+pub no_journal : (rules : Rules) (placing : Placing) (left : Option (List ℕ)) (journal : List Entry) → journal ≡ [] → HasJournal rules placing left journal
+no_journal rules placing left journal e = subst (HasJournal rules placing left) (sym e) (nothing_kept rules placing left)
 
 is_topology : (o : Option DraftView) (d : DraftView) → o ≡ Some d → IfSome o (λ e. e ≡ d)
 is_topology o d h = rw h refl
 
-settled_journal : (rules : Rules) (left : Option (List ℕ)) (d : DraftView) (records : List Input) (journal : List Entry) → SettlesBytes rules left d records journal → HasJournal rules left journal
-settled_journal rules left d records journal h = record {
+settled_journal : (rules : Rules) (placing : Placing) (left : Option (List ℕ)) (d : DraftView) (records : List Input) (journal : List Entry) → SettlesBytes rules left d records journal → IsPlaced rules placing d journal → HasJournal rules placing left journal
+settled_journal rules placing left d records journal h placed = record {
   bytes = h.bytes;
   known = h.known;
   draft = d;
@@ -77,70 +88,69 @@ settled_journal rules left d records journal h = record {
   records = records;
   inputs = h.inputs;
   history = h.kept.history;
+  placed = placed;
   front = ([], sym h.kept.produced ∙ sym (append-nil (produces journal)));
 }
-
-pub judged_journal : (rules : Rules) (shown : Bool) (old new : Option (List ℕ)) (before now status : ℕ) (text : List ℕ) (journal : List Entry) → IsJudged rules shown old new before now status text journal → HasJournal rules old journal
-judged_journal rules shown old new before now status text journal h = by h.only
-  where
-    by : (status ≡ 0) ⊎ (status ≡ 2) ⊎ (status ≡ 3) ⊎ (status ≡ 5) ⊎ (status ≡ 6) → HasJournal rules old journal
-    by (inl e) = let k = (h.settled e).2 in settled_journal rules old k.draft k.records journal k.settles
-    by (inr (inl e)) = no_journal rules old journal (h.bad_job e).2
-    by (inr (inr (inl e))) = let k = (h.late e).2 in settled_journal rules old k.draft k.records journal k.settles
-    by (inr (inr (inr (inl e)))) = let k = (h.collision e).2 in settled_journal rules old k.draft k.records journal k.settles
-    by (inr (inr (inr (inr e)))) = no_journal rules old journal (h.read_fault e).3
 
 pub bad_job_read : (left : Option (List ℕ)) (stop : Stop) (text : List ℕ) → Read left (Err stop) → text ≡ bad_job_text stop → IsRefused left text
 bad_job_read left stop text h e = record { bytes = h.bytes; known = h.known; bad = (stop, h.ends, e) }
 
 -- ---- what is judged
-pub judged_bad_job : (rules : Rules) (shown : Bool) (old new : Option (List ℕ)) (before now : ℕ) (text : List ℕ) (journal : List Entry) → now ≡ before → IsRefused old text → journal ≡ [] → IsJudged rules shown old new before now 2 text journal
-judged_bad_job rules shown old new before now text journal k h j =
-    record { read_fault = λ e. absurd (cc); bad_job = λ e. (k, h, j); settled = λ e. absurd (cc); late = λ e. absurd (cc); collision = λ e. absurd (cc); only = inr (inl refl) }
+pub judged_bad_job : (rules : Rules) (placing : Placing) (shown : Bool) (old new : Option (List ℕ)) (before now : ℕ) (text : List ℕ) (journal : List Entry) → now ≡ before → IsRefused old text → journal ≡ [] → IsJudged rules placing shown old new before now 2 text journal
+judged_bad_job rules placing shown old new before now text journal k h j =
+    record { read_fault = λ e. absurd (cc); bad_job = λ e. (k, h, j); settled = λ e. absurd (cc); late = λ e. absurd (cc); collision = λ e. absurd (cc); kept = no_journal rules placing old journal j; only = inr (inl refl) }
 
-judged_told : (rules : Rules) (shown : Bool) (old new : Option (List ℕ)) (before now : ℕ) (d : DraftView) (records : List Input) (status : ℕ) (text : List ℕ) (journal : List Entry) → now ≡ before → IsAtEnd new →
-    SettlesBytes rules old d records journal → Tells rules shown d records status text journal → IsJudged rules shown old new before now status text journal
-judged_told rules shown old new before now d records status text journal k z h (inl t) = subst (λ s. IsJudged rules shown old new before now s text journal) (sym t.0) (record {
+pub judged_read_fault : (rules : Rules) (placing : Placing) (shown : Bool) (old new : Option (List ℕ)) (before now : ℕ) (text : List ℕ) (journal : List Entry) → Rose before now → TookNoFault old new → text ≡ read_fault_text → journal ≡ [] →
+    IsJudged rules placing shown old new before now 6 text journal
+judged_read_fault rules placing shown old new before now text journal r t x j =
+    record { read_fault = λ e. (r, t, x, j); bad_job = λ e. absurd (cc); settled = λ e. absurd (cc); late = λ e. absurd (cc); collision = λ e. absurd (cc); kept = no_journal rules placing old journal j; only = inr (inr (inr (inr refl))) }
+
+judged_told : (rules : Rules) (placing : Placing) (shown : Bool) (old new : Option (List ℕ)) (before now : ℕ) (d : DraftView) (records : List Input) (status : ℕ) (text : List ℕ) (journal : List Entry) → now ≡ before → IsAtEnd new →
+    SettlesBytes rules old d records journal → IsPlaced rules placing d journal → Tells rules shown d records status text journal → IsJudged rules placing shown old new before now status text journal
+judged_told rules placing shown old new before now d records status text journal k z h placed (inl t) = subst (λ s. IsJudged rules placing shown old new before now s text journal) (sym t.0) (record {
   read_fault = λ e. absurd (cc);
   bad_job = λ e. absurd (cc);
   settled = λ e. (k, z, record { draft = d; records = records; settles = h; query = t.1 });
   late = λ e. absurd (cc);
   collision = λ e. absurd (cc);
+  kept = settled_journal rules placing old d records journal h placed;
   only = inl refl;
 })
-judged_told rules shown old new before now d records status text journal k z h (inr (inl t)) = subst (λ s. IsJudged rules shown old new before now s text journal) (sym t.0) (record {
+judged_told rules placing shown old new before now d records status text journal k z h placed (inr (inl t)) = subst (λ s. IsJudged rules placing shown old new before now s text journal) (sym t.0) (record {
   read_fault = λ e. absurd (cc);
   bad_job = λ e. absurd (cc);
   settled = λ e. absurd (cc);
   late = λ e. (k, z, record { draft = d; records = records; settles = h; late = t.1 });
   collision = λ e. absurd (cc);
+  kept = settled_journal rules placing old d records journal h placed;
   only = inr (inr (inl refl));
 })
-judged_told rules shown old new before now d records status text journal k z h (inr (inr t)) = subst (λ s. IsJudged rules shown old new before now s text journal) (sym t.0) (record {
+judged_told rules placing shown old new before now d records status text journal k z h placed (inr (inr t)) = subst (λ s. IsJudged rules placing shown old new before now s text journal) (sym t.0) (record {
   read_fault = λ e. absurd (cc);
   bad_job = λ e. absurd (cc);
   settled = λ e. absurd (cc);
   late = λ e. absurd (cc);
   collision = λ e. (k, z, record { draft = d; records = records; settles = h; collision = t.1 });
+  kept = settled_journal rules placing old d records journal h placed;
   only = inr (inr (inr (inl refl)));
 })
 
 -- a job that was read to its end, and what its run answers
-pub judged_settled : (rules : Rules) (shown : Bool) (old new : Option (List ℕ)) (before now : ℕ) (r : Vec JobItem Global) (status : ℕ) (text : List ℕ) (journal : List Entry) → now ≡ before → IsAtEnd new → Read old (Ok r) →
-    SettlesItems rules shown (item_views r.items) status text journal → IsJudged rules shown old new before now status text journal
-judged_settled rules shown old new before now r status text journal k z h a = by (item_views r.items) h.ends.1 a
+pub judged_settled : (rules : Rules) (placing : Placing) (shown : Bool) (old new : Option (List ℕ)) (before now : ℕ) (r : Vec JobItem Global) (status : ℕ) (text : List ℕ) (journal : List Entry) → now ≡ before → IsAtEnd new → Read old (Ok r) →
+    SettlesItems rules placing shown (item_views r.items) status text journal → IsJudged rules placing shown old new before now status text journal
+judged_settled rules placing shown old new before now r status text journal k z h a = by (item_views r.items) h.ends.1 a
   where
-    by : (is : List ItemView) → is ≡ (whole h.bytes).items → SettlesItems rules shown is status text journal → IsJudged rules shown old new before now status text journal
+    by : (is : List ItemView) → is ≡ (whole h.bytes).items → SettlesItems rules placing shown is status text journal → IsJudged rules placing shown old new before now status text journal
     by [] i a = absurd a
     by (RecordTo t r ∷ is) i a = absurd a
-    by (TopologyAt line d ∷ is) i a = judged_told rules shown old new before now d (records_of is) status text journal k z (record {
+    by (TopologyAt line d ∷ is) i a = judged_told rules placing shown old new before now d (records_of is) status text journal k z (record {
       bytes = h.bytes;
       known = h.known;
       unstopped = h.ends.0;
       topology = ap draft_in (sym i);
       inputs = ap records_of i;
       kept = a.kept;
-    }) (tells rules shown d (records_of is) status text journal a.kept a.told)
+    }) a.placed (tells rules shown d (records_of is) status text journal a.kept a.told)
 
 -- ---- jobs that are always answered by their query
 of_known : {x y : List ℕ} → Some x ≡ Some y → x ≡ y
@@ -171,9 +181,9 @@ module _ (rules : Rules) (shown : Bool) (left : Option (List ℕ)) (valid : IsIn
     none_collide alone text t = not_some (alone valid.bytes valid.known d topology) t.first
 
 -- a device's count of faults did not rise, all that else could have been answered
-pub judged_query : (rules : Rules) (shown : Bool) (old new : Option (List ℕ)) (before now status : ℕ) (text : List ℕ) (journal : List Entry) → IsInTime old → IsWithoutCollision rules old journal → (Rose before now → ⊥) →
-    IsJudged rules shown old new before now status text journal → status ≡ 0
-judged_query rules shown old new before now status text journal valid alone calm h = by h.only
+pub judged_query : (rules : Rules) (placing : Placing) (shown : Bool) (old new : Option (List ℕ)) (before now status : ℕ) (text : List ℕ) (journal : List Entry) → IsInTime old → IsWithoutCollision rules old journal → (Rose before now → ⊥) →
+    IsJudged rules placing shown old new before now status text journal → status ≡ 0
+judged_query rules placing shown old new before now status text journal valid alone calm h = by h.only
   where
     by : (status ≡ 0) ⊎ (status ≡ 2) ⊎ (status ≡ 3) ⊎ (status ≡ 5) ⊎ (status ≡ 6) → status ≡ 0
     by (inl e) = e

@@ -1,5 +1,5 @@
 -- What a settled cluster of a job answers.
-use Rattle.std.proofs.Common.{◌≡◌, ℕ, ◌<◌, ◌^◌, Bool, List, [], ◌∷◌, ◌++◌, length, map, get_or, refl, sym, ap, subst, ◌∙◌, arith}
+use Rattle.std.proofs.Common.{◌≡◌, ℕ, ◌<◌, ◌≤◌, ◌^◌, Bool, List, [], ◌∷◌, ◌++◌, length, map, get_or, refl, sym, ap, subst, ◌∙◌, arith}
 use Rattle.std.specs.Prelude.{None, Some, Option, option_map}
 use Rattle.std.specs.Option.{option_or}
 use Rattle.ks_row.specs.declared.record.Rec.{Rec}
@@ -12,6 +12,15 @@ use Rattle.ks_plan.specs.Infos.{inputs_by_sub}
 use Rattle.ks_topo.specs.declared.built.Topology.{Topology}
 use Rattle.ks_topo.specs.Topologies.{draft_of}
 use Rattle.ks_plan.specs.Faults.{fault_of}
+use Rattle.ks_plan.specs.Infos.{changelog_numbers}
+use Rattle.ks_assign.specs.declared.clients.Placing.{Placing}
+use Rattle.ks_placement.specs.Groups.{good_by}
+use Rattle.ks_cluster.specs.Placed.{PlacementTest, ArePlaced}
+use Rattle.ks_commit.specs.Everything.{everything, IsGoodForAll}
+use Rattle.ks_task.specs.Placing.{placed_by}
+use Rattle.ks_task.proofs.Alone.{everything_is_good}
+use Rattle.ks_settle.specs.Drained.{drain_worker}
+use Rattle.ks_run.specs.Journals.{IsPlaced}
 use Rattle.ks_history.specs.declared.journal.Entry.{Entry}
 use Rattle.ks_history.specs.Machine.{TaskPlan}
 use Rattle.ks_history.specs.State.{Setup, IsSetup}
@@ -91,16 +100,30 @@ filled_setup {W = W} plan old new records h = ap (λ (f : Frame W). setup_from (
 pub drained_setup : {W : Type 0} (plan : W → TaskPlan) (old new : ClusterView W) → Extends old new → kept.setup_of plan new ≡ kept.setup_of plan old
 drained_setup plan old new h = rw (ap (λ c. c.work) h.same, ap (λ c. c.counts) h.same, ap (λ c. c.tasks) h.same) refl
 
+pub filled_wanted : {W : Type 0} (good : W → PlacementTest) (old new : ClusterView W) (records : List (PartId × Rec)) → IsFilled old new records → good new.work ≡ good old.work
+filled_wanted {W = W} good old new records h = ap (λ (f : Frame W). good f.work) h.frame
+
+drained_wanted : {W : Type 0} (good : W → PlacementTest) (begun filled drained : ClusterView W) (records : List (PartId × Rec)) → IsFilled begun filled records → Extends filled drained → good drained.work ≡ good begun.work
+drained_wanted good begun filled drained records f h = ap (λ c. good c.work) h.same ∙ filled_wanted good begun filled records f
+
+-- the drain's own assignment, of every task at the one member, is good
+pub alone_ready : (test : PlacementTest) (placing : Placing) (d : DraftView) (ts : List TaskId) → test ≡ good_by (changelog_numbers (plan_of d)) (tasks (plan_of d)) placing → ts ≡ tasks (plan_of d) → fault_of d ≡ None → 1 ≤ placing.threads →
+    IsGoodForAll test (drain_worker ∷ []) (everything drain_worker ts)
+alone_ready test placing d ts wanted named fine threads =
+    subst (λ t. IsGoodForAll t (drain_worker ∷ []) (everything drain_worker ts)) (sym wanted)
+    (subst (λ us. IsGoodForAll (placed_by (plan_of d) (Some placing)) (drain_worker ∷ []) (everything drain_worker us)) (sym named) (everything_is_good d (Some placing) drain_worker fine threads (omega arith)))
+
 -- ---- what a drained cluster has come to
 pub record IsDrained (setup : Setup) (journal : List Entry) : Type 0 where
   pub history : IsHistory setup journal
   pub few : records_in setup journal < 2 ^ 48
   pub settled : IsSettled setup (at setup journal)
 
-answered : (hash : List ℕ → ℕ) (shown : Bool) (d : DraftView) (is : List ItemView) (setup : Setup) (status : ℕ) (text : List ℕ) (journal : List Entry) → IsRunnable hash d is →
+answered : (hash : List ℕ → ℕ) (placing : Placing) (shown : Bool) (d : DraftView) (is : List ItemView) (setup : Setup) (status : ℕ) (text : List ℕ) (journal : List Entry) → IsRunnable hash d is →
     setup ≡ setup_of (rules_of hash) (plan_of d) → produces journal ≡ placed_all (map (parts_of_topic (plan_of d)) (topics_of (plan_of d))) is → IsDrained setup journal →
-    (status, text) ≡ with_lines shown journal (told (rules_of hash) d (at setup journal)) → SettlesJob (rules_of hash) shown d (records_of is) status text journal
-answered hash shown d is setup status text journal ready e made drained told_is =
+    ArePlaced (good_by (changelog_numbers (plan_of d)) (tasks (plan_of d)) placing) setup journal →
+    (status, text) ≡ with_lines shown journal (told (rules_of hash) d (at setup journal)) → SettlesJob (rules_of hash) placing shown d (records_of is) status text journal
+answered hash placing shown d is setup status text journal ready e made drained placed told_is =
     let rules = rules_of hash in
     let right = setup_of rules (plan_of d) in
     let here : IsDrained right journal = subst (λ s. IsDrained s journal) e drained in
@@ -113,18 +136,22 @@ answered hash shown d is setup status text journal ready e made drained told_is 
         run = is_run right journal (works_are_networks rules (plan_of d)) here.history;
         few = here.few;
       };
+      placed = subst (λ s. ArePlaced (good_by (changelog_numbers (plan_of d)) (tasks (plan_of d)) placing) s journal) e placed;
       told = told_is ∙ ap (λ s. with_lines shown journal (told rules d (at s journal))) e;
     }
 
-pub settled_answers : {W : Type 0} (hash : List ℕ → ℕ) (shown : Bool) (d : DraftView) (plan : W → TaskPlan) (is : List ItemView) (begun filled drained : ClusterView W) (counts : List ℕ) (status : ℕ) (text : List ℕ) (journal : List Entry) →
-    IsRunnable hash d is → kept.setup_of plan begun ≡ setup_of (rules_of hash) (plan_of d) →
-    counts ≡ map (parts_of_topic (plan_of d)) (topics_of (plan_of d)) → IsFilled begun filled (placed_all counts is) → Extends filled drained → IsDrained (kept.setup_of plan drained) drained.journal →
-    (status, text) ≡ with_lines shown drained.journal (told (rules_of hash) d (kept.state_of plan drained)) → journal ≡ drained.journal → SettlesJob (rules_of hash) shown d (records_of is) status text journal
-settled_answers hash shown d plan is begun filled drained counts status text journal ready start counts_are filling draining done told_is handed =
+pub settled_answers : {W : Type 0} (hash : List ℕ → ℕ) (placing : Placing) (shown : Bool) (d : DraftView) (plan : W → TaskPlan) (good : W → PlacementTest) (is : List ItemView) (begun filled drained : ClusterView W) (counts : List ℕ) (status : ℕ) (text : List ℕ) (journal : List Entry) →
+    IsRunnable hash d is → kept.setup_of plan begun ≡ setup_of (rules_of hash) (plan_of d) → good begun.work ≡ good_by (changelog_numbers (plan_of d)) (tasks (plan_of d)) placing →
+    counts ≡ map (parts_of_topic (plan_of d)) (topics_of (plan_of d)) → IsFilled begun filled (placed_all counts is) → Extends filled drained → IsDrained (kept.setup_of plan drained) drained.journal → ArePlaced (good drained.work) (kept.setup_of plan drained) drained.journal →
+    (status, text) ≡ with_lines shown drained.journal (told (rules_of hash) d (kept.state_of plan drained)) → journal ≡ drained.journal → SettlesJob (rules_of hash) placing shown d (records_of is) status text journal
+settled_answers {W = W} hash placing shown d plan good is begun filled drained counts status text journal ready start wanted counts_are filling draining done placed told_is handed =
     let setup = drained_setup plan filled drained draining ∙ (filled_setup plan begun filled (placed_all counts is) filling ∙ start) in
     let made : produces drained.journal ≡ placed_all (map (parts_of_topic (plan_of d)) (topics_of (plan_of d))) is =
     draining.produces ∙ (filling.produced ∙ ap (λ cs. placed_all cs is) counts_are) in
-    subst (λ j. SettlesJob (rules_of hash) shown d (records_of is) status text j) (sym handed) (answered hash shown d is (kept.setup_of plan drained) status text drained.journal ready setup made done told_is)
+    let test : good drained.work ≡ good_by (changelog_numbers (plan_of d)) (tasks (plan_of d)) placing = drained_wanted good begun filled drained (placed_all counts is) filling draining ∙ wanted in
+    let well = subst (λ t. ArePlaced t (kept.setup_of plan drained) drained.journal) test placed in
+    subst (λ j. SettlesJob (rules_of hash) placing shown d (records_of is) status text j) (sym handed)
+    (answered hash placing shown d is (kept.setup_of plan drained) status text drained.journal ready setup made done well told_is)
 
 -- the report and the tables are those of the topology
 pub is_of : (hash : List ℕ → ℕ) (d : DraftView) (t : Topology) (setup : Setup) → draft_of t ≡ d → fault_of d ≡ None → setup ≡ setup_of (rules_of hash) (plan_of d) → IsOf t setup

@@ -1,5 +1,8 @@
 -- What a run answers, by the words.
 use Rattle.std.specs.Prelude.{◌≡◌, ℕ, Bool, false, List, [], Option, Some, None}
+use Rattle.ks_assign.specs.declared.clients.Placing.{Placing}
+use Rattle.ks_crew.specs.Members.{placing_of}
+use Rattle.ks_words.specs.Grammar.{usual}
 use Rattle.ks_def_tasks.specs.Messages.{Rules}
 use Rattle.ks_history.specs.declared.journal.Entry.{Entry}
 use Rattle.ks_output.specs.Texts.{bad_words_text}
@@ -33,13 +36,19 @@ abbrev pub journal_of : Option Command → Bool
 journal_of (Some (Run settings)) = settings.journal
 journal_of _ = false
 
+-- how the workers form clients, and what is wanted of an assignment
+abbrev pub placing_by : Option Command → Placing
+placing_by None = placing_of usual
+placing_by (Some (Run settings)) = placing_of settings
+placing_by (Some (Load orders settings)) = placing_of settings
+
 -- what the load job's run answers; no source is asked
-abbrev pub IsLoadJudged : Rules → ℕ → ℕ → List ℕ → List Entry → Type 0
-IsLoadJudged rules orders status text journal = (left : Option (List ℕ)) × IsJudged rules false (Some (load_text orders)) left 0 0 status text journal
+abbrev pub IsLoadJudged : Rules → Placing → ℕ → ℕ → List ℕ → List Entry → Type 0
+IsLoadJudged rules placing orders status text journal = (left : Option (List ℕ)) × IsJudged rules placing false (Some (load_text orders)) left 0 0 status text journal
 
 -- what is answered to a command, with its text and its journal: by the bytes that the source has left before and after, where they are
 -- known, and its count of faults before and after
 abbrev pub IsJudgedBy : Option Command → Rules → Option (List ℕ) → Option (List ℕ) → ℕ → ℕ → ℕ → List ℕ → List Entry → Type 0
 IsJudgedBy None rules old new before now status text journal = (status ≡ 1) × (text ≡ bad_words_text) × (journal ≡ [])
-IsJudgedBy (Some (Run settings)) rules old new before now status text journal = IsJudged rules settings.journal old new before now status text journal
-IsJudgedBy (Some (Load orders settings)) rules old new before now status text journal = IsLoadJudged rules orders status text journal
+IsJudgedBy (Some (Run settings)) rules old new before now status text journal = IsJudged rules (placing_of settings) settings.journal old new before now status text journal
+IsJudgedBy (Some (Load orders settings)) rules old new before now status text journal = IsLoadJudged rules (placing_of settings) orders status text journal

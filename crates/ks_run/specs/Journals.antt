@@ -2,6 +2,11 @@
 use Rattle.std.specs.Prelude.{◌≡◌, ◌<◌, ◌^◌, ℕ, Bool, List, [], ◌∷◌, ◌++◌, map, Option, Some, None, IfSome}
 use Rattle.ks_plan.specs.Drafts.{DraftView}
 use Rattle.ks_plan.specs.Plan.{plan_of}
+use Rattle.ks_plan.specs.Layout.{tasks}
+use Rattle.ks_plan.specs.Infos.{changelog_numbers}
+use Rattle.ks_assign.specs.declared.clients.Placing.{Placing}
+use Rattle.ks_placement.specs.Groups.{good_by}
+use Rattle.ks_cluster.specs.Placed.{ArePlaced}
 use Rattle.ks_query.specs.Streams.{Input}
 use Rattle.ks_query.specs.Grace.{IsWithinGrace}
 use Rattle.ks_def_tasks.specs.Messages.{Rules}
@@ -89,9 +94,15 @@ abbrev pub IsWithoutCollision : Rules → Option (List ℕ) → List Entry → T
 IsWithoutCollision rules left journal = (bytes : List ℕ) → left ≡ Some bytes → (d : DraftView) → draft_in (whole bytes).items ≡ Some d →
     first_pair rules.hash (plan_of d) (end_of rules d journal) ≡ None
 
--- a journal that is legal and faithful, and has produced a front of the records that some bytes have before their first faulty
--- line; the bytes are those that the source has left where it tells them
-pub record HasJournal (rules : Rules) (left : Option (List ℕ)) (journal : List Entry) : Type 0 where
+-- each assignment that was taken is good for the members of its generation, and for what was held and the ends at some moment of that
+-- generation, by the tasks and the changelogs of the topology
+abbrev pub IsPlaced : Rules → Placing → DraftView → List Entry → Type 0
+IsPlaced rules placing d journal =
+    ArePlaced (good_by (changelog_numbers (plan_of d)) (tasks (plan_of d)) placing) (setup_of rules (plan_of d)) journal
+
+-- a journal that is legal and faithful, has good assignments alone, and has produced a front of the records that some bytes have before
+-- their first faulty line; the bytes are those that the source has left where it tells them
+pub record HasJournal (rules : Rules) (placing : Placing) (left : Option (List ℕ)) (journal : List Entry) : Type 0 where
   pub bytes : List ℕ
   pub known : IfSome left (λ b. b ≡ bytes)
   pub draft : DraftView
@@ -99,4 +110,5 @@ pub record HasJournal (rules : Rules) (left : Option (List ℕ)) (journal : List
   pub records : List Input
   pub inputs : records ≡ records_of (whole bytes).items
   pub history : IsHistory (setup_of rules (plan_of draft)) journal
+  pub placed : IsPlaced rules placing draft journal
   pub front : (rest : List (PartId × Rec)) × (placed_records rules draft records ≡ produces journal ++ rest)

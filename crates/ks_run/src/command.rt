@@ -11,7 +11,8 @@ ghost use Rattle.ks_words.specs.Load.{load_text};
 ghost use Rattle.ks_words.specs.Ranges.{HasRanges, IsWithin};
 ghost use Rattle.ks_job_source.specs.Reading.{TookNoFault};
 ghost use Rattle.ks_run.specs.Answers.{IsRefused, IsStatus};
-ghost use Rattle.ks_run.specs.Commands.{HasValidJob, IsRun, IsJudgedBy, IsLoadJudged, job_bytes, journal_of};
+ghost use Rattle.ks_crew.specs.Members.{placing_of};
+ghost use Rattle.ks_run.specs.Commands.{HasValidJob, IsRun, IsJudgedBy, IsLoadJudged, placing_by, job_bytes, journal_of};
 ghost use Rattle.ks_run.specs.Journals.{IsSettledRun, IsLateRun, IsCollidedRun, HasJournal, IsWithoutCollision};
 
 use crate::loading::TextSource;
@@ -26,18 +27,15 @@ use std::alloc::Global;
 use std::sync::Wait;
 use std::thread::Threads;
 
-// What is in force of settings today: one instance, and no standby. The journal is printed where it is shown.
-fn in_force(settings: Settings, shown: bool) -> Settings
+// The same settings, without the journal's lines: `load` has none.
+fn without_journal(settings: Settings) -> Settings
     requires { HasRanges settings }
     ensures ranges { HasRanges result }
-    ensures instances { result.instances ≡ 1 }
-    ensures standbys { result.standbys ≡ 0 }
-    ensures journal { result.journal ≡ shown }
+    ensures placing { placing_of result ≡ placing_of settings }
+    ensures journal { result.journal ≡ false }
 {
     Settings {
-        instances: 1,
-        standbys: 0,
-        journal: shown,
+        journal: false,
         ..settings
     }
 }
@@ -96,9 +94,9 @@ fn run_load<R: Threads + Wait + Sync, K: Sink>(
     ensures collision { result.status ≡ 5 → ((text : List ℕ) × IsCollidedRun (rules_of murmur3_of) false (Some (load_text orders)) text result.journal
         × Appends (K.held out.old) (K.held out.new) text) }
     ensures write_fault { result.status ≡ 7 → Rose (K.faults out.old) (K.faults out.new)
-        × ((status : ℕ) × (text : List ℕ) × IsLoadJudged (rules_of murmur3_of) orders status text result.journal
+        × ((status : ℕ) × (text : List ℕ) × IsLoadJudged (rules_of murmur3_of) (placing_of settings) orders status text result.journal
         × AppendsFront (K.held out.old) (K.held out.new) text) }
-    ensures journal { (result.status ≡ 8 → ⊥) → HasJournal (rules_of murmur3_of) (Some (load_text orders)) result.journal }
+    ensures journal { (result.status ≡ 8 → ⊥) → HasJournal (rules_of murmur3_of) (placing_of settings) (Some (load_text orders)) result.journal }
     ensures complete { IsWithoutCollision (rules_of murmur3_of) (Some (load_text orders)) result.journal
         → (Rose (K.faults out.old) (K.faults out.new) → ⊥) → (result.status ≡ 0) ⊎ (result.status ≡ 8) }
     ensures written { (result.status ≡ 7 → ⊥) → K.faults out.new ≡ K.faults out.old }
@@ -112,7 +110,7 @@ fn run_load<R: Threads + Wait + Sync, K: Sink>(
         };
     };
     let mut source = TextSource::new(text);
-    let settings = in_force(settings, false);
+    let settings = without_journal(settings);
     run_job::<Murmur3, R, TextSource, K>(rt, alloc, &settings, &mut source, out, gates)
 }
 
@@ -156,7 +154,7 @@ fn run_command<R: Threads + Wait + Sync, S: Source, K: Sink>(
         × ((status : ℕ) × (text : List ℕ)
         × IsJudgedBy command (rules_of murmur3_of) (S.left input.old) (S.left input.new) (S.faults input.old) (S.faults input.new) status text result.journal
         × AppendsFront (K.held out.old) (K.held out.new) text) }
-    ensures journal { (result.status ≡ 8 → ⊥) → HasJournal (rules_of murmur3_of) (job_bytes command (S.left input.old)) result.journal }
+    ensures journal { (result.status ≡ 8 → ⊥) → HasJournal (rules_of murmur3_of) (placing_by command) (job_bytes command (S.left input.old)) result.journal }
     ensures complete { HasValidJob command (S.left input.old) (S.faults input.old) (S.faults input.new)
         → IsWithoutCollision (rules_of murmur3_of) (job_bytes command (S.left input.old)) result.journal
         → (Rose (K.faults out.old) (K.faults out.new) → ⊥)
@@ -170,7 +168,6 @@ fn run_command<R: Threads + Wait + Sync, S: Source, K: Sink>(
 {
     match command {
         Some(Command::Run(settings)) => {
-            let settings = in_force(settings, settings.journal);
             run_job::<Murmur3, R, S, K>(rt, alloc, &settings, input, out, gates)
         }
         Some(Command::Load(orders, settings)) => {
@@ -181,8 +178,7 @@ fn run_command<R: Threads + Wait + Sync, S: Source, K: Sink>(
 }
 
 /// Runs the command that the words name, by `run_job` with Murmur3: `run` the job that the source holds, `load N` the load job of N orders,
-/// which asks no source. `--journal` has the journal's lines of `run` printed last. `--instances` and `--standbys` have no effect yet: the
-/// run has one instance and no standby. Words that aren't in the grammar have status 1: `bad words` is written, the source is as it was, and the journal is empty.
+/// which asks no source. `--journal` has the journal's lines of `run` printed last. Words that aren't in the grammar have status 1: `bad words` is written, the source is as it was, and the journal is empty.
 pub fn top<R: Threads + Wait + Sync, S: Source, K: Sink>(
     rt: &R,
     alloc: Global,
@@ -221,7 +217,7 @@ pub fn top<R: Threads + Wait + Sync, S: Source, K: Sink>(
         × ((status : ℕ) × (text : List ℕ)
         × IsJudgedBy (command_of (words_of words.now)) (rules_of murmur3_of) (S.left input.old) (S.left input.new) (S.faults input.old) (S.faults input.new) status text result.journal
         × AppendsFront (K.held out.old) (K.held out.new) text) }
-    ensures journal { (result.status ≡ 8 → ⊥) → HasJournal (rules_of murmur3_of) (job_bytes (command_of (words_of words.now)) (S.left input.old)) result.journal }
+    ensures journal { (result.status ≡ 8 → ⊥) → HasJournal (rules_of murmur3_of) (placing_by (command_of (words_of words.now))) (job_bytes (command_of (words_of words.now)) (S.left input.old)) result.journal }
     ensures complete { HasValidJob (command_of (words_of words.now)) (S.left input.old) (S.faults input.old) (S.faults input.new)
         → IsWithoutCollision (rules_of murmur3_of) (job_bytes (command_of (words_of words.now)) (S.left input.old)) result.journal
         → (Rose (K.faults out.old) (K.faults out.new) → ⊥)

@@ -5,6 +5,7 @@ ghost use Rattle.ks_edge.specs.Causes.{Rose};
 ghost use Rattle.ks_nodes.specs.Rules.{rules_of};
 ghost use Rattle.ks_output.specs.Bytes.{AppendsFront};
 ghost use Rattle.ks_output.specs.Texts.{read_fault_text};
+ghost use Rattle.ks_crew.specs.Members.{placing_of};
 ghost use Rattle.ks_words.specs.Ranges.{HasRanges};
 ghost use Rattle.ks_run.specs.Journals.{IsSettledRun, IsLateRun, IsCollidedRun, HasJournal, IsInTime, IsWithoutCollision};
 ghost use Rattle.ks_job_source.specs.Reading.{TookNoFault};
@@ -45,9 +46,9 @@ pub struct Ended {
 /// So a job whose records are within grace is answered by its query, unless a device fails, memory runs out, or rows of one key have one
 /// hash.
 ///
-/// The records are taken and committed by so many workers, each in a thread of its own, as `threads` says, and then by the drain
-/// (`ks_crew`, `ks_settle`). The worker w is told its acts by the gate w, which begins for it with `chaos` and `interval`, and has the
-/// turns of `stop`; gates that are left over are dropped unasked. Of the instances and the standbys the usual ones alone may be asked for.
+/// The records are taken and committed by so many workers, each in a thread of its own: `threads` of them for each of so many
+/// `instances`, with `standbys` of each task; and then by the drain (`ks_crew`, `ks_settle`). The worker w is told its acts by the gate w, which begins for it with `chaos` and `interval`, and has the
+/// turns of `stop`; gates that are left over are dropped unasked.
 /// With `journal` the journal's lines come last under statuses 0, 3 and 5 (`ks_journal`). A line is whole at its line feed, at its byte 65,537, or at the end of the input; the source isn't asked again once a
 /// faulty line is whole, nor after its end. The text is built whole before its first byte is written.
 pub fn run_job<H: Hash128 + Send + Sync, R: Threads + Wait + Sync, S: Source, K: Sink>(
@@ -60,8 +61,6 @@ pub fn run_job<H: Hash128 + Send + Sync, R: Threads + Wait + Sync, S: Source, K:
 ) -> Ended
     requires gates { length gates.items ≡ 16 }
     requires settings { HasRanges settings.now }
-    requires instances { settings.now.instances ≡ 1 }
-    requires standbys { settings.now.standbys ≡ 0 }
 
     // What was written is known from the status, and so is why it came.
     ensures read_fault { result.status ≡ 6 → Rose (S.faults input.old) (S.faults input.new)
@@ -86,11 +85,11 @@ pub fn run_job<H: Hash128 + Send + Sync, R: Threads + Wait + Sync, S: Source, K:
         × Appends (K.held out.old) (K.held out.new) text) }
     ensures write_fault { result.status ≡ 7 → Rose (K.faults out.old) (K.faults out.new)
         × ((status : ℕ) × (text : List ℕ)
-        × IsJudged (rules_of H.hash_of) settings.now.journal (S.left input.old) (S.left input.new) (S.faults input.old) (S.faults input.new) status text result.journal
+        × IsJudged (rules_of H.hash_of) (placing_of settings.now) settings.now.journal (S.left input.old) (S.left input.new) (S.faults input.old) (S.faults input.new) status text result.journal
         × AppendsFront (K.held out.old) (K.held out.new) text) }
 
-    // The journal is legal and faithful, and what it has produced is a front of the job's records.
-    ensures journal { (result.status ≡ 8 → ⊥) → HasJournal (rules_of H.hash_of) (S.left input.old) result.journal }
+    // The journal is legal and faithful, its assignments are good, and what it has produced is a front of the job's records.
+    ensures journal { (result.status ≡ 8 → ⊥) → HasJournal (rules_of H.hash_of) (placing_of settings.now) (S.left input.old) result.journal }
 
     // A valid job whose records are within grace and whose rows don't collide is answered by its query.
     ensures complete { IsInTime (S.left input.old) → IsWithoutCollision (rules_of H.hash_of) (S.left input.old) result.journal

@@ -4,6 +4,11 @@ ghost use Rattle.ks_plan.specs.Drafts.{draft_view};
 ghost use Rattle.ks_topo.specs.Topologies.{draft_of, plan_in};
 ghost use Rattle.ks_history.specs.History.{IsHistory};
 ghost use Rattle.ks_history.specs.Count.{records_in};
+ghost use Rattle.ks_plan.specs.Infos.{changelog_numbers};
+ghost use Rattle.ks_plan.specs.Layout.{tasks};
+ghost use Rattle.ks_placement.specs.Groups.{good_by};
+ghost use Rattle.ks_cluster.specs.Placed.{ArePlaced};
+ghost use Rattle.ks_crew.specs.Members.{placing_of};
 ghost use Rattle.ks_cluster.specs.View.{setup_of};
 ghost use Rattle.ks_job.specs.Items.{item_views};
 ghost use Rattle.ks_law_inputs.specs.Records.{HavePartitions, AreRecords, records_of};
@@ -18,7 +23,7 @@ ghost use Rattle.ks_run.specs.Settling.{IsReadJob, split, SettlesJob, SettlesIte
 use crate::answer::Answer;
 use crate::verdict::{Verdict, judge, print_verdict};
 use ks_cluster::{Cluster, Work};
-use ks_crew::{Crew, run_crew};
+use ks_crew::{Crew, placing_of, run_crew};
 use ks_edge::Gate;
 use ks_feed::counts_of;
 use ks_hash::Hash128;
@@ -53,6 +58,7 @@ fn end_run<R: Threads + Sync, W: Work + Send>(
 ) -> Result<Answer, AllocError>
     ensures made { IfOk result (λ a. ((a.status, a.text.items) ≡ with_lines shown cluster.journal (told_as verdict)) × (a.journal ≡ cluster.journal)) }
     ensures history { IsHistory (setup_of W.plan cluster) cluster.journal }
+    ensures placed { ArePlaced (W.good cluster.work) (setup_of W.plan cluster) cluster.journal }
     ensures few { records_in (setup_of W.plan cluster) cluster.journal < 2 ^ 48 }
 {
     let status = verdict.status();
@@ -87,9 +93,11 @@ fn settle<H: Hash128 + Send + Sync, R: Threads + Wait + Sync, W: Work + Send + S
     requires settings { HasRanges crew.settings }
     requires gates { length crew.gates.items ≡ 16 }
     requires work { W.plan work ≡ work_of (rules_of H.hash_of) (plan_in topology.now) }
+    requires wanted { W.good work ≡ good_by (changelog_numbers (plan_in topology.now))
+        (tasks (plan_in topology.now)) (placing_of crew.settings) }
     requires partitions { HavePartitions (draft_of topology.now).topics }
     requires records { AreRecords (length (draft_of topology.now).topics) (item_views records.items) }
-    ensures { IfOk result (λ a. SettlesJob (rules_of H.hash_of) crew.settings.journal (draft_of topology.now) (records_of (item_views records.items)) a.status a.text.items a.journal) }
+    ensures { IfOk result (λ a. SettlesJob (rules_of H.hash_of) (placing_of crew.settings) crew.settings.journal (draft_of topology.now) (records_of (item_views records.items)) a.status a.text.items a.journal) }
 {
     // Its names and constants can be written, and it is well formed: the law on settled journals asks for both.
     topology_fits(topology);
@@ -139,7 +147,7 @@ pub fn settle_job<H: Hash128 + Send + Sync, R: Threads + Wait + Sync>(
     requires settings { HasRanges crew.settings }
     requires gates { length crew.gates.items ≡ 16 }
     requires read { IsReadJob (item_views items.items) }
-    ensures { IfOk result (λ a. SettlesItems (rules_of H.hash_of) crew.settings.journal (item_views items.items) a.status a.text.items a.journal) }
+    ensures { IfOk result (λ a. SettlesItems (rules_of H.hash_of) (placing_of crew.settings) crew.settings.journal (item_views items.items) a.status a.text.items a.journal) }
 {
     let Some((draft, records)) = split_job(items) else {
         unreachable!()
@@ -148,6 +156,7 @@ pub fn settle_job<H: Hash128 + Send + Sync, R: Threads + Wait + Sync>(
         unreachable!()
     };
     share_topology();
-    let work = TaskWork::<H>::new(&topology);
+    let placing = placing_of(&crew.settings);
+    let work = TaskWork::<H>::new(&topology, Some(placing));
     settle::<H, R, TaskWork<H>>(rt, alloc, &topology, work, records, crew)
 }

@@ -11,3 +11,4 @@ pub mod Ordering
 pub mod Idling
 pub mod Feeding
 pub mod Starting
+pub mod Members

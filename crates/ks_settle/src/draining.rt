@@ -1,5 +1,5 @@
 //! A cluster is brought to rest, topic by topic.
-ghost use Rattle.std.specs.Prelude.{◌≡◌, ◌+◌, ℕ, length, [], IfOk, OnOk, option_map};
+ghost use Rattle.std.specs.Prelude.{◌≡◌, ◌+◌, ℕ, length, [], ◌∷◌, IfOk, OnOk, option_map};
 ghost use Rattle.std.specs.List.{All};
 ghost use Rattle.ks_topo.specs.Topologies.{draft_of, plan_in};
 ghost use Rattle.ks_plan.specs.Infos.{changelog_numbers, drain_numbers};
@@ -7,6 +7,7 @@ ghost use Rattle.ks_history.specs.Settled.{IsSettled};
 ghost use Rattle.ks_law_topology.specs.Work.{setup_of as topology_setup};
 ghost use Rattle.ks_cluster.specs.View.{setup_of, state_of};
 ghost use Rattle.ks_commit.specs.Committed.{works_of, tasks_in as worked_in, IsReady};
+ghost use Rattle.ks_commit.specs.Everything.{everything, IsGoodForAll};
 ghost use Rattle.ks_commit.specs.Work.{work_view};
 ghost use Rattle.ks_nodes.specs.Rules.{HaveParts, rules_of};
 ghost use Rattle.ks_settle.specs.Drained.{MayDrain, IsOfTopology, MayRead, with_work, IsRead, Rests, tasks_in, AreTried, AreReading, AreResting, HasTasksOf, drain_worker, DrainsOn, Extends};
@@ -168,6 +169,8 @@ impl TaskManager {
         requires may { MayDrain (setup_of W.plan cluster.old) }
         requires of { HasTasksOf W.plan (draft_of topology.now) cluster.old }
         requires parts { HaveParts (plan_in topology.now) }
+        requires alone { IsGoodForAll (W.good cluster.old.work) (drain_worker ∷ [])
+            (everything drain_worker cluster.old.tasks) }
         ensures resting { IfOk result (λ m. AreResting W.plan cluster.new m.publisher
             (draft_of topology.now) 0 m.tasks.items) }
         ensures on { DrainsOn 0 cluster.old cluster.new }
@@ -268,9 +271,9 @@ impl TaskManager {
 }
 
 /// Brings to rest a cluster of a topology, whatever stands in its journal. Every worker is removed, all waiting markers are written, and
-/// a worker of its own, 16, has every task and restores it. Then topic by topic, in the drain order, the tasks that read it read it to
-/// its end, and one transaction commits what they made. Want of memory is the one error, after which the journal has what was done
-/// before, and no further input.
+/// a worker of its own, 16, has every task, which is good where it is the one member, and restores it. Then topic by topic, in the drain
+/// order, the tasks that read it read it to its end, and one transaction commits what they made. Want of memory is the one error, after
+/// which the journal has what was done before, and no further input.
 pub fn drain<H: Hash128 + Sync, R: Threads + Sync, W: Work + Sync>(
     rt: &R,
     alloc: Global,
@@ -280,6 +283,8 @@ pub fn drain<H: Hash128 + Sync, R: Threads + Sync, W: Work + Sync>(
     requires setup { setup_of W.plan cluster.old
         ≡ topology_setup (rules_of H.hash_of) (plan_in topology.now) }
     requires parts { HaveParts (plan_in topology.now) }
+    requires alone { IsGoodForAll (W.good cluster.old.work) (drain_worker ∷ [])
+        (everything drain_worker cluster.old.tasks) }
     ensures settled { OnOk result (IsSettled (setup_of W.plan cluster.new)
         (state_of W.plan cluster.new)) }
     ensures more { Extends cluster.old cluster.new }

@@ -3,6 +3,7 @@ use Rattle.std.proofs.Common.{◌≡◌, ℕ, ◌≤◌, Bool, true, false, List
 use mathlib.Core.List.{IsPrefix}
 use Rattle.ks_row.specs.declared.record.PartId.{PartId}
 use Rattle.ks_row.specs.declared.record.TaskId.{TaskId}
+use Rattle.ks_row.specs.declared.assignment.Assignment.{Assignment}
 use Rattle.ks_history.specs.declared.journal.Entry.{Entry}
 use Rattle.ks_history.specs.declared.journal.Request.TheVariants.{SendOffsets, Decide}
 use Rattle.ks_history.specs.Machine.{TaskPlan, IsNetwork}
@@ -13,12 +14,14 @@ use Rattle.ks_history.specs.Reads.{MayFetch}
 use Rattle.ks_law_sharing.proofs.Touching.{touched_before}
 use Rattle.ks_law_sharing.proofs.Rising.{ends_rise, offsets_stay}
 use Rattle.ks_law_sharing.proofs.Deciding.{faithful_stays}
+use Rattle.ks_cluster.specs.Placed.{PlacementTest, IsGoodAt}
 use Rattle.ks_cluster.specs.View.{ClusterView, setup_of, state_of}
 use Rattle.ks_shared.specs.declared.state.Frame.{Frame}
 use Rattle.ks_standby.specs.declared.replica.Replica.{Replica}
-use Rattle.ks_shared.specs.Calls.{frame_of, setup_in}
+use Rattle.ks_shared.specs.Calls.{frame_of, setup_in, good_in}
 use Rattle.ks_shared.specs.Shelf.{IsReplicaOf}
 use Rattle.ks_shared.proofs.Shelving.{replica_on}
+use Rattle.ks_growing.proofs.Lists.{prefix_trans}
 
 module _ {W : Type 0} (plan : W → TaskPlan) (frame : Option (Frame W)) (seen : List Entry) (before : ClusterView W) (frame_is : frame ≡ Some (frame_of before)) (begins : IsPrefix seen before.journal) where
   same_setup : setup_in plan frame ≡ setup_of plan before
@@ -40,6 +43,18 @@ module _ {W : Type 0} (plan : W → TaskPlan) (frame : Option (Frame W)) (seen :
       subst (λ l. CommitsFaithfully (setup_of plan before) (at (setup_of plan before) l) (Decide w epoch true)) begins.1
       (faithful_stays (setup_of plan before) seen begins.0 w epoch net (subst (IsHistory (setup_of plan before)) (sym begins.1) history) quiet
       (subst (λ (s : Setup). CommitsFaithfully s (at s seen) (Decide w epoch true)) same_setup may))
+
+  -- an assignment that is good by what the pass has seen is good by the journal
+  pub good_then : (good : W → PlacementTest) (g : ℕ) (a : Assignment) → IsGoodAt (good_in good frame) (setup_in plan frame) seen g a → IsGoodAt (good before.work) (setup_of plan before) before.journal g a
+  good_then good g a k =
+      let now : IsGoodAt (good before.work) (setup_of plan before) seen g a =
+      subst (λ (f : Option (Frame W)). IsGoodAt (good_in good f) (setup_in plan f) seen g a) frame_is k in
+      record {
+        seen = now.seen;
+        begins = prefix_trans now.seen seen before.journal now.begins begins;
+        generation = now.generation;
+        good = now.good;
+      }
 
   -- a replica that follows goes on following
   pub follows_then : (t : TaskId) (r : Replica) → IsHistory (setup_of plan before) before.journal → IsNetwork (plan before.work) → IsReplicaOf (setup_in plan frame) seen t r → IsReplicaOf (setup_of plan before) before.journal t r

@@ -6,11 +6,11 @@ use mathlib.Core.List.{IsPrefix}
 use Rattle.ks_history.specs.declared.journal.Entry.{Entry}
 use Rattle.ks_history.specs.Machine.{TaskPlan}
 use Rattle.ks_history.specs.History.{IsHistory}
-use Rattle.ks_history.specs.Touched.{is_reserved}
 use Rattle.ks_cluster.specs.View.{ClusterView, setup_of}
 use Rattle.ks_growing.specs.Passes.{PassView, pass_with_value, pass_without_value}
 use Rattle.ks_shared.specs.declared.state.Frame.{Frame}
 use Rattle.ks_shared.specs.Calls.{frame_of, Grew, Grows, Called}
+use Rattle.ks_shared.specs.Reserved.{is_callers}
 
 pub unchanged : (seen log : List Entry) → seen ≡ log → IsPrefix seen log
 unchanged seen log is = ([], append-nil seen ∙ is)
@@ -28,17 +28,17 @@ module _ {W : Type 0} where
   pub frame_kept : (frame : Option (Frame W)) (old new : ClusterView W) → frame ≡ Some (frame_of old) → Grew old new → frame ≡ Some (frame_of new)
   frame_kept frame old new is g = is ∙ sym (ap (λ (c : ClusterView W). Some (frame_of c)) g.is)
 
-  pub unreserved : (seen : List Entry) (old new : ClusterView W) → seen ≡ old.journal → Grows old new → filter is_reserved new.journal ≡ filter is_reserved seen
+  pub unreserved : (seen : List Entry) (old new : ClusterView W) → seen ≡ old.journal → Grows old new → filter is_callers new.journal ≡ filter is_callers seen
   unreserved seen old new is g =
-      ap (λ (c : ClusterView W). filter is_reserved c.journal) g.is
-      ∙ filter-append is_reserved old.journal g.own
-      ∙ ap (λ l. filter is_reserved old.journal ++ l) g.plain
-      ∙ append-nil (filter is_reserved old.journal)
-      ∙ sym (ap (filter is_reserved) is)
+      ap (λ (c : ClusterView W). filter is_callers c.journal) g.is
+      ∙ filter-append is_callers old.journal g.own
+      ∙ ap (λ l. filter is_callers old.journal ++ l) g.plain
+      ∙ append-nil (filter is_callers old.journal)
+      ∙ sym (ap (filter is_callers) is)
 
   pub called : (plan : W → TaskPlan) (old mid new : PassView Entry (Frame W)) (before after : ClusterView W) (Does : ClusterView W → ClusterView W → Type 0) →
       old.holds ≡ false → mid ≡ pass_with_value before.journal old → IsPrefix old.seen before.journal → old.frame ≡ Some (frame_of before) →
-      (old.number ≡ 0 → filter is_reserved before.journal ≡ filter is_reserved old.seen) →
+      (old.number ≡ 0 → filter is_callers before.journal ≡ filter is_callers old.seen) →
       Does before after → Grew before after → IsHistory (setup_of plan after) after.journal → new ≡ pass_without_value after.journal mid → Called plan old new Does
   called plan old mid new before after Does free entered prefix frame quiet does grew history left = record {
     before = before;
@@ -46,8 +46,8 @@ module _ {W : Type 0} where
     frame = frame;
     others = prefix.0;
     came = sym prefix.1;
-    quiet = λ zero. append_cancel_left (filter is_reserved old.seen) (filter is_reserved prefix.0) []
-        (sym (filter-append is_reserved old.seen prefix.0) ∙ ap (filter is_reserved) prefix.1 ∙ quiet zero ∙ sym (append-nil (filter is_reserved old.seen)));
+    quiet = λ zero. append_cancel_left (filter is_callers old.seen) (filter is_callers prefix.0) []
+        (sym (filter-append is_callers old.seen prefix.0) ∙ ap (filter is_callers) prefix.1 ∙ quiet zero ∙ sym (append-nil (filter is_callers old.seen)));
     does = does;
     grew = grew;
     history = history;

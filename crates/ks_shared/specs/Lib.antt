@@ -1,3 +1,4 @@
 pub mod Calls
 pub mod Own
 pub mod Shelf
+pub mod Reserved

@@ -9,15 +9,17 @@ ghost use Rattle.ks_history.specs.declared.journal.Request.TheVariants.{Produce,
 ghost use Rattle.ks_history.specs.declared.journal.Request.TheVariants.{Join, Expire, Hold, Probe, Assign, Park, Unpark};
 ghost use Rattle.ks_history.specs.declared.journal.Reply.TheVariants.{Done, Number, Truth, Mark as Marked};
 ghost use Rattle.ks_history.specs.History.{at, Meets, CommitsFaithfully};
-ghost use Rattle.ks_history.specs.Touched.{touched, is_reserved};
+ghost use Rattle.ks_history.specs.Touched.{touched};
 ghost use Rattle.ks_history.specs.Reads.{MayFetch, fetched, committed_refusal, committed_offsets, ends_of, status};
 ghost use Rattle.ks_history.specs.State.{IsPart, has_task};
 ghost use Rattle.std.specs.List.{All};
 ghost use Rattle.ks_cluster.specs.Replies.{number_or, truth_or};
+ghost use Rattle.ks_cluster.specs.Placed.{IsGoodAt};
 ghost use Rattle.ks_cluster.specs.View.{setup_of, state_of, AddsEntry, Refuses};
 ghost use Rattle.ks_growing.specs.Rule.{total};
 ghost use Rattle.ks_growing.specs.Passes.{Each, PassView, IsPass, IsFresh, seen_of, made_of, frame_of as pass_frame};
-ghost use Rattle.ks_shared.specs.Calls.{setup_in, frame_of, Called};
+ghost use Rattle.ks_shared.specs.Calls.{setup_in, good_in, frame_of, Called};
+ghost use Rattle.ks_shared.specs.Reserved.{is_callers};
 ghost use Rattle.ks_shared.specs.Own.{IsOwn};
 ghost use Rattle.ks_shared.specs.Shelf.{IsReplicaOf};
 ghost use Rattle.ks_row.specs.declared.record.TaskId.{TaskId as Task};
@@ -81,7 +83,8 @@ impl<W: Work> Shared<W> {
 
     /// Gives the cluster back for all the passes, in the order of their numbers. Its journal begins with
     /// what each had seen, and has as many entries more than at first as they made; its `produce` entries
-    /// are those that pass 0 had seen. What is still parked is dropped.
+    /// are those that pass 0 had seen, as are its `init` and `join` entries of worker 16. What is still parked is
+    /// dropped.
     pub fn close(self, passes: Vec<Pass<SharedState<W>>>) -> Cluster<W>
         requires count { (length passes.items ≡ self.growing.passes) × (0 < length passes.items) }
         requires passes { Each (IsPass self.growing.id) passes.items }
@@ -92,7 +95,7 @@ impl<W: Work> Shared<W> {
         ensures made { length result.journal
             ≡ length self.growing.first.journal + total made_of passes.items }
         ensures reserved { (p : PassView Entry (Frame W)) → get_elem? passes.items 0 ≡ some p
-            → filter is_reserved result.journal ≡ filter is_reserved (seen_of p) }
+            → filter is_callers result.journal ≡ filter is_callers (seen_of p) }
     {
         let Shared { growing } = self;
         let SharedState { cluster, shelf: _ } = growing.close(passes);
@@ -112,7 +115,7 @@ impl<W: Work> Shared<W> {
         ensures other_begins { IsPrefix other.old.seen pass.new.seen }
         ensures either { (pass.new.seen ≡ pass.old.seen) ⊎ (pass.new.seen ≡ other.old.seen) }
         ensures reserved { pass.old.number ≡ 0
-            → filter is_reserved pass.new.seen ≡ filter is_reserved pass.old.seen }
+            → filter is_callers pass.new.seen ≡ filter is_callers pass.old.seen }
     {
         self.growing.meet(pass, other);
     }
@@ -167,7 +170,8 @@ impl<W: Work> Shared<W> {
         answer
     }
 
-    /// Makes a worker a member, and answers the next generation, which begins without an assignment.
+    /// Makes a worker a member, and answers the next generation, which begins without an assignment. Worker 16 is
+    /// the caller's own: it joins through pass 0 alone.
     pub fn join<R: Wait>(
         &self,
         rt: &R,
@@ -179,6 +183,7 @@ impl<W: Work> Shared<W> {
         requires free { pass.old.holds ≡ false }
         requires meets { Meets (setup_in W.plan pass.old.frame)
             (at (setup_in W.plan pass.old.frame) pass.old.seen) (Join w) }
+        requires callers { w ≡ 16 → pass.old.number ≡ 0 }
         ensures { Called W.plan pass.old pass.new
             (λ before after. IfOk result (λ n. AddsEntry W.plan before after (Join w) (Number n))
             × OnErr result (after ≡ before)) }
@@ -262,7 +267,8 @@ impl<W: Work> Shared<W> {
         answer
     }
 
-    /// Proposes an assignment for a generation; false where the generation has one already.
+    /// Proposes an assignment for a generation; false where the generation has one already. The assignment is good
+    /// by what some beginning of what the pass has seen, in which the generation stood already, tells of the group.
     pub fn assign<R: Wait>(
         &self,
         rt: &R,
@@ -276,6 +282,8 @@ impl<W: Work> Shared<W> {
         requires free { pass.old.holds ≡ false }
         requires meets { Meets (setup_in W.plan pass.old.frame)
             (at (setup_in W.plan pass.old.frame) pass.old.seen) (Assign w generation a.now) }
+        requires good { IsGoodAt (good_in W.good pass.old.frame) (setup_in W.plan pass.old.frame)
+            pass.old.seen generation a.now }
         ensures { Called W.plan pass.old pass.new
             (λ before after. IfOk result (λ r. AddsEntry W.plan before after (Assign w generation a.now) (truth_or r))
             × OnErr result (after ≡ before)) }
@@ -288,7 +296,7 @@ impl<W: Work> Shared<W> {
     }
 
     /// Begins a new epoch of a worker's number, and answers it; what the number had undecided is aborted.
-    /// `last` is then this entry.
+    /// `last` is then this entry. Worker 16 is the caller's own: its epochs begin through pass 0 alone.
     pub fn init<R: Wait>(
         &self,
         rt: &R,
@@ -301,6 +309,7 @@ impl<W: Work> Shared<W> {
         requires free { pass.old.holds ≡ false }
         requires meets { Meets (setup_in W.plan pass.old.frame)
             (at (setup_in W.plan pass.old.frame) pass.old.seen) (Init w) }
+        requires callers { w ≡ 16 → pass.old.number ≡ 0 }
         ensures { Called W.plan pass.old pass.new
             (λ before after. IfOk result (λ n. AddsEntry W.plan before after (Init w) (Number n))
             × IfOk result (λ n. last.new ≡ touched w after.journal)

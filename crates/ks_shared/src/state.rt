@@ -1,17 +1,19 @@
 //! The value under the lock.
-ghost use Rattle.std.specs.Prelude.{◌≡◌, ◌≤◌, true, IfOk, IfErr, IfSome, OnOk, OnErr, is_some};
+ghost use Rattle.std.specs.Prelude.{◌≡◌, ◌≢◌, ◌≤◌, true, None, IfOk, IfErr, IfSome, OnOk, OnErr, is_some};
 ghost use Rattle.ks_history.specs.declared.journal.Request.TheVariants.{Produce, Init, Add, Append, SendOffsets, Decide, MarkNext};
 ghost use Rattle.ks_history.specs.declared.journal.Request.TheVariants.{Join, Expire, Hold, Probe, Assign, Park, Unpark};
 ghost use Rattle.ks_history.specs.declared.journal.Reply.TheVariants.{Done, Number, Truth, Mark as Marked};
 ghost use Rattle.ks_history.specs.History.{Meets, CommitsFaithfully, IsHistory};
-ghost use Rattle.ks_history.specs.Touched.{touched, is_reserved};
+ghost use Rattle.ks_history.specs.Touched.{touched};
 ghost use Rattle.ks_history.specs.Reads.{MayFetch, fetched, committed_refusal, committed_offsets, ends_of, status};
 ghost use Rattle.ks_history.specs.State.{IsPart, has_task};
 ghost use Rattle.std.specs.List.{All};
 ghost use Rattle.ks_cluster.specs.Replies.{number_or, truth_or};
+ghost use Rattle.ks_cluster.specs.Placed.{IsGoodAt};
 ghost use Rattle.ks_cluster.specs.View.{setup_of, state_of, AddsEntry, Refuses};
 ghost use Rattle.ks_shared.specs.Calls.{frame_of, Grew, Grows};
 ghost use Rattle.ks_shared.specs.Own.{IsOwn};
+ghost use Rattle.ks_shared.specs.Reserved.{is_callers};
 ghost use Rattle.ks_shared.specs.Shelf.{IsReplicaOf};
 
 use crate::barred::Barred;
@@ -32,8 +34,8 @@ pub struct Frame<W> {
 }
 
 /// A cluster and the shelf of all instances, as the lock keeps them. The entries are those of the
-/// cluster's journal, of which `produce` is left to pass 0. Each replica on the shelf follows the journal,
-/// and one stands there for exactly the pairs that are parked in the cluster.
+/// cluster's journal, of which `produce`, and `init` and `join` of worker 16, are left to pass 0. Each replica
+/// on the shelf follows the journal, and one stands there for exactly the pairs that are parked in the cluster.
 #[derive(Drop)]
 pub struct SharedState<W: Work> {
     pub(crate) cluster: Cluster<W>,
@@ -58,7 +60,7 @@ impl<W: Work> Journaled for SharedState<W> {
 
     ghost journal = { λ s. s.journal };
 
-    ghost reserved = { is_reserved };
+    ghost reserved = { is_callers };
 
     ghost frame = { frame_of };
 
@@ -110,7 +112,8 @@ impl<W: Work> SharedState<W> {
         requires { Meets (setup_of W.plan self.old) (state_of W.plan self.old) (Join w) }
         ensures ok { IfOk result (λ n. AddsEntry W.plan self.old self.new (Join w) (Number n)) }
         ensures err { OnErr result (self.new ≡ self.old) }
-        ensures grows { Grows self.old self.new }
+        ensures grew { Grew self.old self.new }
+        ensures grows { w ≢ 16 → Grows self.old self.new }
     {
         let answer = self.cluster.join(alloc, w);
         let _journal = self.cluster.journal();
@@ -167,7 +170,9 @@ impl<W: Work> SharedState<W> {
         generation: u64,
         a: &Assignment,
     ) -> Result<Result<bool, Refused>, AllocError>
-        requires { Meets (setup_of W.plan self.old) (state_of W.plan self.old) (Assign w generation a.now) }
+        requires meets { Meets (setup_of W.plan self.old) (state_of W.plan self.old) (Assign w generation a.now) }
+        requires good { IsGoodAt (W.good self.old.work) (setup_of W.plan self.old)
+            self.old.journal generation a.now }
         ensures ok { IfOk result (λ r. AddsEntry W.plan self.old self.new (Assign w generation a.now) (truth_or r)) }
         ensures err { OnErr result (self.new ≡ self.old) }
         ensures grows { Grows self.old self.new }
@@ -183,7 +188,8 @@ impl<W: Work> SharedState<W> {
         ensures last { IfOk result (λ n. last.new ≡ touched w self.new.journal) }
         ensures err { OnErr result (self.new ≡ self.old) }
         ensures last_stays { OnErr result (last.new ≡ last.old) }
-        ensures grows { Grows self.old self.new }
+        ensures grew { Grew self.old self.new }
+        ensures grows { w ≢ 16 → Grows self.old self.new }
     {
         let answer = init_own(&mut self.cluster, alloc, w, last);
         let _journal = self.cluster.journal();

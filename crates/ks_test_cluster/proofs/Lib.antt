@@ -1,2 +1,3 @@
 pub mod Requests
 pub mod Expired
+pub mod Good

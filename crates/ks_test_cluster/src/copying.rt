@@ -19,10 +19,13 @@ pub struct Copying {
 }
 
 impl Work for Copying {
+    ghost use Rattle.std.specs.Prelude.{true};
     ghost use Rattle.ks_law_exactly_once.specs.Example.{setup};
     ghost use Rattle.ks_law_exactly_once.proofs.Written.{is_network};
 
     ghost plan = { λ work. setup.plan };
+
+    ghost good = { λ work members held ends a. true };
 
     fn sources(&self) -> u16 {
         1

@@ -39,7 +39,7 @@ pub fn init<R: Wait>(
     last: &mut u64,
     pass: &mut Pass<SharedState<Copying>>,
 ) -> Result<u64, AllocError>
-    requires worker { w ≤ 16 }
+    requires worker { w ≤ 15 }
     requires ours { IsOurs shared.now.growing.id pass.old }
     ensures ours { IsOurs shared.now.growing.id pass.new }
     ensures number { pass.new.number ≡ pass.old.number }

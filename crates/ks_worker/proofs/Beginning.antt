@@ -18,7 +18,7 @@ module _ {W G : Type 0} (plan : W → TaskPlan) (d : DraftView) (number instance
   new_is_worker : IsHistory (setup_in plan s.session.client.pass.frame) s.session.client.pass.seen → IsWorkerState plan d s
   new_is_worker history =
       let m : Member = record { number = number; instance = instance; epoch = 0; generation = 0; is_member = false } in
-      let here : IsWorker plan d s.session.client.pass m 0 [] [] [] = crashed plan d s.session.client.pass m (omega (arith, few)) small history in
+      let here : IsWorker plan d s.session.client.pass m 0 [] [] [] = crashed plan d s.session.client.pass m few small history in
       subst (λ (x : Member). IsWorker plan d s.session.client.pass x s.session.last s.session.numbers.items s.tasks.items s.replicas.items) (sym new.member)
       (subst (λ n. IsWorker plan d s.session.client.pass m n s.session.numbers.items s.tasks.items s.replicas.items) (sym new.last)
       (subst (λ ns. IsWorker plan d s.session.client.pass m 0 ns s.tasks.items s.replicas.items) (sym new.numbers)

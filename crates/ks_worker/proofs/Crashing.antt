@@ -41,10 +41,10 @@ module _ {W G : Type 0} (plan : W → TaskPlan) where
       (subst (IsHistory (setup_in plan old.session.client.pass.frame)) (sym l.later.seen) l.later.history)
 
   -- one that crashed is a worker still
-  pub lost_is_worker : (d : DraftView) (old mid new : WorkerState W G) → LaterState plan old mid → old.member.number ≤ 16 → old.member.instance ≤ 3 → IsLost mid new → IsWorkerState plan d new
+  pub lost_is_worker : (d : DraftView) (old mid new : WorkerState W G) → LaterState plan old mid → old.member.number ≤ 15 → old.member.instance ≤ 3 → IsLost mid new → IsWorkerState plan d new
   lost_is_worker d old mid new l few small k =
       let here : IsWorker plan d mid.session.client.pass (lost mid.member) 0 [] [] [] =
-      crashed plan d mid.session.client.pass mid.member (subst (λ n. n ≤ 16) (sym l.number) few) (subst (λ n. n ≤ 3) (sym l.instance) small) (history_later old mid l) in
+      crashed plan d mid.session.client.pass mid.member (subst (λ n. n ≤ 15) (sym l.number) few) (subst (λ n. n ≤ 3) (sym l.instance) small) (history_later old mid l) in
       subst (λ (c : ClusterClient W G). IsWorker plan d c.pass new.member new.session.last new.session.numbers.items new.tasks.items new.replicas.items) (sym k.client)
       (subst (λ (m : Member). IsWorker plan d mid.session.client.pass m new.session.last new.session.numbers.items new.tasks.items new.replicas.items) (sym k.member)
       (subst (λ n. IsWorker plan d mid.session.client.pass (lost mid.member) n new.session.numbers.items new.tasks.items new.replicas.items) (sym k.last)

@@ -6,12 +6,16 @@ use Rattle.ks_history.specs.declared.journal.Entry.{Entry}
 use Rattle.ks_history.specs.Machine.{TaskPlan}
 use Rattle.ks_growing.specs.Passes.{PassView}
 use Rattle.ks_shared.specs.declared.state.Frame.{Frame}
+use Rattle.ks_assign.specs.declared.clients.Placing.{Placing}
+use Rattle.ks_cluster.specs.Placed.{PlacementTest}
 use Rattle.ks_client.specs.Turns.{GateCounts}
 use Rattle.ks_client.specs.Calls.{MayCall, Later}
 use Rattle.ks_client.proofs.Moments.{may_later}
 use Rattle.ks_worker_state.specs.declared.state.WorkerState.{WorkerState}
 use Rattle.ks_worker_state.specs.State.{IsWorkerState, MayAct, LaterState}
 use Rattle.ks_worker_state.proofs.States.{runs_later}
+use Rattle.ks_worker_turn.specs.Placing.{PlacesBy}
+use Rattle.ks_worker_turn.proofs.Offered.{serves_later}
 use Rattle.ks_worker.specs.Beginning.{MayRun}
 use Rattle.ks_worker.specs.Running.{is_group_request, group_requests, HasCounted, ShowsCalls}
 
@@ -83,9 +87,15 @@ module _ {W : Type 0} (w : ℕ) where
   shown_ok plan v p q r g h k (Err e) same l quiet s = tt
 
 -- ---- a worker goes on
-pub may_run_on : {W G : Type 0} (plan : W → TaskPlan) (hash : List ℕ → ℕ) (lock : TableId) (d : DraftView) (turns i : ℕ) (old new : WorkerState W G) → MayRun plan hash lock d turns old → LaterState plan old new → IsWorkerState plan d new →
-    HasCounted old.session.client.gate new.session.client.gate i → i + 1 ≤ turns → MayRun plan hash lock d 1 new
-may_run_on plan hash lock d turns i old new may l worker counts le =
+-- its placing serves on
+pub serves_on : {W G : Type 0} (plan : W → TaskPlan) (good : W → PlacementTest) (placing now : Placing) (d : DraftView) (old new : WorkerState W G) → LaterState plan old new → now ≡ placing →
+    PlacesBy good placing d old.session.client.pass.frame → PlacesBy good now d new.session.client.pass.frame
+serves_on plan good placing now d old new l same serves =
+    subst (λ (p : Placing). PlacesBy good p d new.session.client.pass.frame) (sym same) (serves_later plan good placing d old.session.client.pass new.session.client.pass l.later serves)
+
+pub may_run_on : {W G : Type 0} (plan : W → TaskPlan) (good : W → PlacementTest) (hash : List ℕ → ℕ) (lock : TableId) (d : DraftView) (placing now : Placing) (turns i : ℕ) (old new : WorkerState W G) → MayRun plan good hash lock d placing turns old → LaterState plan old new → now ≡ placing →
+    IsWorkerState plan d new → HasCounted old.session.client.gate new.session.client.gate i → i + 1 ≤ turns → MayRun plan good hash lock d now 1 new
+may_run_on plan good hash lock d placing now turns i old new may l same worker counts le =
     let m = may_later plan lock old.session.client.pass new.session.client.pass old.session.client.gate old.session.client.gate l.later refl may.act.call in
     record {
       act = record {
@@ -105,6 +115,7 @@ may_run_on plan hash lock d turns i old new may l worker counts le =
         topology = runs_later plan hash d old new l may.act.topology;
         worker = worker;
       };
+      serves = serves_on plan good placing now d old new l same may.serves;
       room = record {
         asked = omega (arith, counts.asked_most, may.room.asked, le);
         stops = omega (arith, counts.stops_most, may.room.stops, le);

@@ -52,6 +52,7 @@ impl<W: Work, G: Gate> Worker<W, G> {
         requires may { MayAct W.plan H.hash_of shared.now.growing.id (draft_of topology.now) self.old.state }
         ensures gate { self.new.state.session.client.gate ≡ counts_after self.old.state.session.client.gate result }
         ensures later { LaterState W.plan self.old.state self.new.state }
+        ensures placing { self.new.placing ≡ self.old.placing }
         ensures worker { OnOk result (IsWorkerState W.plan (draft_of topology.now) self.new.state) }
         ensures does { OnOk result (Does W.plan (draft_of topology.now) (Working pick) self.old.state self.new.state) }
     {
@@ -78,6 +79,7 @@ impl<W: Work, G: Gate> Worker<W, G> {
         requires may { MayAct W.plan H.hash_of shared.now.growing.id (draft_of topology.now) self.old.state }
         ensures gate { self.new.state.session.client.gate ≡ counts_after self.old.state.session.client.gate result }
         ensures later { LaterState W.plan self.old.state self.new.state }
+        ensures placing { self.new.placing ≡ self.old.placing }
         ensures worker { OnOk result (IsWorkerState W.plan (draft_of topology.now) self.new.state) }
         ensures does { OnOk result (Does W.plan (draft_of topology.now) Committing self.old.state self.new.state) }
     {
@@ -98,6 +100,7 @@ impl<W: Work, G: Gate> Worker<W, G> {
         requires may { MayAct W.plan H.hash_of shared.now.growing.id (draft_of topology.now) self.old.state }
         ensures gate { self.new.state.session.client.gate ≡ counts_after self.old.state.session.client.gate result }
         ensures later { LaterState W.plan self.old.state self.new.state }
+        ensures placing { self.new.placing ≡ self.old.placing }
         ensures worker { OnOk result (IsWorkerState W.plan (draft_of topology.now) self.new.state) }
         ensures does { OnOk result (Does W.plan (draft_of topology.now) act self.old.state self.new.state) }
     {
@@ -150,6 +153,7 @@ impl<W: Work, G: Gate> Worker<W, G> {
         requires may { MayAct W.plan H.hash_of shared.now.growing.id (draft_of topology.now) self.old.state }
         ensures gate { IsCutOnce self.old.state.session.client.gate self.new.state.session.client.gate }
         ensures later { LaterState W.plan self.old.state self.new.state }
+        ensures placing { self.new.placing ≡ self.old.placing }
         ensures worker { OnOk result (IsWorkerState W.plan (draft_of topology.now) self.new.state) }
         ensures does { OnOk result (self.new.state.session.client.gate ≡ self.old.state.session.client.gate
             → Does W.plan (draft_of topology.now) act self.old.state self.new.state) }

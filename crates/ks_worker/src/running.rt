@@ -2,6 +2,7 @@
 ghost use Rattle.std.specs.Prelude.{◌≡◌, ◌≤◌, ◌+◌, true, false, OnOk, IfOk};
 ghost use Rattle.ks_topo.specs.Topologies.{draft_of};
 ghost use Rattle.ks_worker_state.specs.State.{MayAct, LaterState, IsWorkerState};
+ghost use Rattle.ks_worker_turn.specs.Placing.{PlacesBy};
 ghost use Rattle.ks_worker.specs.Beginning.{MayRun};
 ghost use Rattle.ks_worker.specs.Running.{HasCounted, ShowsCalls, IsCutOnce, HasEndedBy};
 
@@ -15,6 +16,7 @@ use ks_topo::Topology;
 use ks_worker_turn::begin_turn;
 use std::alloc::{AllocError, Global};
 use std::sync::Wait;
+use std::sync::atomic::{AtomicBool, Ordering};
 
 impl<W: Work, G: Gate> Worker<W, G> {
     // A turn up to its act; whether the worker was cut off, and crashed.
@@ -26,6 +28,9 @@ impl<W: Work, G: Gate> Worker<W, G> {
         shared: &Shared<W>,
     ) -> Result<bool, AllocError>
         requires may { MayAct W.plan H.hash_of shared.now.growing.id (draft_of topology.now) self.old.state }
+        requires placing { PlacesBy W.good self.old.placing (draft_of topology.now)
+            self.old.state.session.client.pass.frame }
+        ensures placing { self.new.placing ≡ self.old.placing }
         ensures later { LaterState W.plan self.old.state self.new.state }
         ensures worker { OnOk result (IsWorkerState W.plan (draft_of topology.now) self.new.state) }
         ensures once { IsCutOnce self.old.state.session.client.gate self.new.state.session.client.gate }
@@ -36,7 +41,8 @@ impl<W: Work, G: Gate> Worker<W, G> {
     {
         self.turn = self.turn.saturating_add(1);
         self.state.session.client.gate.begin_turn();
-        match begin_turn::<H, R, W, G>(rt, alloc, topology, shared, &mut self.state) {
+        let state = &mut self.state;
+        match begin_turn::<H, R, W, G>(rt, alloc, topology, &self.placing, shared, state) {
             Ok(waiting) => {
                 self.waiting = waiting;
                 Ok(false)
@@ -56,8 +62,11 @@ impl<W: Work, G: Gate> Worker<W, G> {
         alloc: Global,
         topology: &Topology,
         shared: &Shared<W>,
+        feeding: &AtomicBool,
     ) -> Result<bool, AllocError>
-        requires may { MayRun W.plan H.hash_of shared.now.growing.id (draft_of topology.now) 1 self.old.state }
+        requires may { MayRun W.plan W.good H.hash_of shared.now.growing.id (draft_of topology.now)
+            self.old.placing 1 self.old.state }
+        ensures placing { self.new.placing ≡ self.old.placing }
         ensures later { LaterState W.plan self.old.state self.new.state }
         ensures worker { OnOk result (IsWorkerState W.plan (draft_of topology.now) self.new.state) }
         ensures counts { HasCounted self.old.state.session.client.gate self.new.state.session.client.gate 1 }
@@ -68,7 +77,7 @@ impl<W: Work, G: Gate> Worker<W, G> {
             self.old.state.session.client.pass self.new.state.session.client.pass
             self.old.state.session.client.gate self.new.state.session.client.gate) }
     {
-        let view = self.view(false);
+        let view = self.view(feeding.load(Ordering::SeqCst));
         let act = self.state.session.client.gate.next(view);
         self.perform::<H, R>(rt, alloc, topology, shared, act)?;
         Ok(act == Act::Stop)
@@ -81,8 +90,11 @@ impl<W: Work, G: Gate> Worker<W, G> {
         alloc: Global,
         topology: &Topology,
         shared: &Shared<W>,
+        feeding: &AtomicBool,
     ) -> Result<bool, AllocError>
-        requires may { MayRun W.plan H.hash_of shared.now.growing.id (draft_of topology.now) 1 self.old.state }
+        requires may { MayRun W.plan W.good H.hash_of shared.now.growing.id (draft_of topology.now)
+            self.old.placing 1 self.old.state }
+        ensures placing { self.new.placing ≡ self.old.placing }
         ensures later { LaterState W.plan self.old.state self.new.state }
         ensures worker { OnOk result (IsWorkerState W.plan (draft_of topology.now) self.new.state) }
         ensures counts { OnOk result (HasCounted self.old.state.session.client.gate self.new.state.session.client.gate 1) }
@@ -97,11 +109,11 @@ impl<W: Work, G: Gate> Worker<W, G> {
         if self.begin::<H, R>(rt, alloc, topology, shared)? {
             return Ok(false);
         }
-        self.obey::<H, R>(rt, alloc, topology, shared)
+        self.obey::<H, R>(rt, alloc, topology, shared, feeding)
     }
 
     /// Takes turns until its gate stops it, `turns` at most. A turn begins with what the group's status asks of the worker; then the gate
-    /// says the act (`perform`). A turn that is cut off before its act ends so.
+    /// says the act (`perform`). A turn that is cut off before its act ends so. The gate is shown whether the input is still being fed.
     ///
     /// Want of memory is the one error: the worker ends then, and the lock is free.
     pub fn run<H: Hash128, R: Wait>(
@@ -111,8 +123,11 @@ impl<W: Work, G: Gate> Worker<W, G> {
         topology: &Topology,
         shared: &Shared<W>,
         turns: u64,
+        feeding: &AtomicBool,
     ) -> Result<(), AllocError>
-        requires may { MayRun W.plan H.hash_of shared.now.growing.id (draft_of topology.now) turns self.old.state }
+        requires may { MayRun W.plan W.good H.hash_of shared.now.growing.id (draft_of topology.now)
+            self.old.placing turns self.old.state }
+        ensures placing { self.new.placing ≡ self.old.placing }
         ensures later { LaterState W.plan self.old.state self.new.state }
         ensures worker { OnOk result (IsWorkerState W.plan (draft_of topology.now) self.new.state) }
         ensures counts { OnOk result (HasCounted self.old.state.session.client.gate self.new.state.session.client.gate turns) }
@@ -122,7 +137,7 @@ impl<W: Work, G: Gate> Worker<W, G> {
             self.old.state.session.client.gate self.new.state.session.client.gate) }
     {
         for _ in 0..turns {
-            if self.take_turn::<H, R>(rt, alloc, topology, shared)? {
+            if self.take_turn::<H, R>(rt, alloc, topology, shared, feeding)? {
                 return Ok(());
             }
         }

@@ -2,6 +2,7 @@
 ghost use Rattle.std.specs.Prelude.{◌≡◌, ◌≤◌};
 ghost use Rattle.ks_worker.specs.Beginning.{IsNew};
 
+use ks_assign::Placing;
 use ks_client::{ClusterClient, Member, Session, TurnGate};
 use ks_cluster::Work;
 use ks_edge::Gate;
@@ -14,6 +15,8 @@ use std::alloc::Global;
 #[derive(Drop)]
 pub struct Worker<W: Work, G: Gate> {
     pub state: WorkerState<W, G>,
+    /// How the group's tasks are to be placed.
+    pub placing: Placing,
     /// The number of its turn, from 1; 0 before the first. It stays at its type's greatest value.
     pub turn: u64,
     /// How many acts `Work` there were since the last one that moved something.
@@ -25,11 +28,12 @@ pub struct Worker<W: Work, G: Gate> {
 }
 
 impl<W: Work, G: Gate> Worker<W, G> {
-    /// The worker of this number, 0 to 15, at an instance, 0 to 3, which has done nothing yet. Takes no memory.
+    /// The worker of this number, 0 to 15, at an instance, 0 to 3, which has done nothing yet, and places tasks so. Takes no memory.
     pub fn new(
         alloc: Global,
         number: u8,
         instance: u8,
+        placing: Placing,
         gate: G,
         pass: Pass<SharedState<W>>,
     ) -> Worker<W, G>
@@ -39,6 +43,7 @@ impl<W: Work, G: Gate> Worker<W, G> {
         ensures gate { result.state.session.client.gate
             ≡ record { asked = G.asked gate; stops = G.stops gate; calls = G.calls gate; cuts = G.cuts gate } }
         ensures new { IsNew number instance result.state }
+        ensures placing { result.placing ≡ placing }
     {
         Worker {
             state: WorkerState {
@@ -61,6 +66,7 @@ impl<W: Work, G: Gate> Worker<W, G> {
                     ends: Vec::new(alloc),
                 },
             },
+            placing,
             turn: 0,
             dry: 0,
             read: 0,

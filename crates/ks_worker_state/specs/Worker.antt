@@ -31,7 +31,7 @@ HaveOwnNames (t ∷ ts) = IsNoneOf (task_view t).task ts × HaveOwnNames ts
 
 -- the member's producer, tasks and replicas, by what its pass has seen
 pub record IsWorker {W : Type 0} (plan : W → TaskPlan) (d : DraftView) (pass : PassView Entry (Frame W)) (m : Member) (last : ℕ) (numbers : List (PartId × ℕ)) (tasks : List Task) (replicas : List Replica) : Type 0 where
-  pub number : m.number ≤ 16
+  pub number : m.number ≤ 15
   pub instance : m.instance ≤ 3
   pub seen : MemberHasSeen (setup_in plan pass.frame) pass.seen m last
   pub producer : IsProducer (setup_in plan pass.frame) pass.seen m last numbers
@@ -55,5 +55,5 @@ WorkerStays {W} plan =
 
 -- a crash leaves a worker that has nothing
 abbrev pub CrashLeaves : {W : Type 0} → (W → TaskPlan) → Type 0
-CrashLeaves {W} plan = (d : DraftView) (pass : PassView Entry (Frame W)) (m : Member) → m.number ≤ 16 → m.instance ≤ 3 →
+CrashLeaves {W} plan = (d : DraftView) (pass : PassView Entry (Frame W)) (m : Member) → m.number ≤ 15 → m.instance ≤ 3 →
     IsHistory (setup_in plan pass.frame) pass.seen → IsWorker plan d pass (lost m) 0 [] [] []

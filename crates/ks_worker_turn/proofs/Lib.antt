@@ -2,6 +2,6 @@ pub mod Assigned
 pub mod Joined
 pub mod Keeping
 pub mod Listing
-pub mod Members
+pub mod Offered
 pub mod Placed
 pub mod Rested

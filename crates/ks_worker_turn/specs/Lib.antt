@@ -1,4 +1,5 @@
 pub mod Acting
 pub mod Lists
 pub mod Places
+pub mod Placing
 pub mod Resting

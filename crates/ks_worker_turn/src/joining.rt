@@ -22,7 +22,7 @@ fn begin_epoch<R: Wait, W: Work, G: Gate>(
 ) -> Result<(), Halt>
     requires may { MayCall W.plan shared.now.growing.id state.old.session.client.pass
         state.old.session.client.gate }
-    requires number { state.old.member.number ≤ 16 }
+    requires number { state.old.member.number ≤ 15 }
     requires outside { state.old.member.is_member ≡ false }
     ensures gate { state.new.session.client.gate ≡ counts_after state.old.session.client.gate result }
     ensures later { LaterState W.plan state.old state.new }
@@ -69,7 +69,7 @@ fn enter_group<R: Wait, W: Work, G: Gate>(
     number: u8,
 ) -> Result<(), Halt>
     requires may { MayCall W.plan shared.now.growing.id client.old.pass client.old.gate }
-    requires number { number ≤ 16 }
+    requires number { number ≤ 15 }
     ensures gate { client.new.gate ≡ counts_after client.old.gate result }
     ensures later { Later W.plan client.old.pass client.new.pass }
 {
@@ -90,7 +90,7 @@ pub fn join_group<R: Wait, W: Work, G: Gate>(
 ) -> Result<(), Halt>
     requires may { MayCall W.plan shared.now.growing.id state.old.session.client.pass
         state.old.session.client.gate }
-    requires number { state.old.member.number ≤ 16 }
+    requires number { state.old.member.number ≤ 15 }
     ensures gate { state.new.session.client.gate ≡ counts_after state.old.session.client.gate result }
     ensures later { LaterState W.plan state.old state.new }
     ensures worker { OnOk result (KeepsWorker W.plan state.old state.new) }

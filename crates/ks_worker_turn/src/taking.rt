@@ -11,7 +11,7 @@ ghost use Rattle.ks_worker_state.specs.Topology.{RunsTopology};
 
 use crate::lists::{has_task_of, put_replica, put_task, take_replica};
 use crate::parking::park_others;
-use crate::placing::{has_place, is_placed};
+use crate::placing::{has_place, is_placed, places_so_many};
 use ks_client::{ClusterClient, Halt, Member, or_halt};
 use ks_cluster::Work;
 use ks_edge::Gate;
@@ -205,6 +205,29 @@ fn take_all<H: Hash128, R: Wait, W: Work, G: Gate>(
     Ok(())
 }
 
+// Has all that an assignment of its own generation places with the worker. In that generation it holds nothing else, so where the numbers
+// are right nothing is missing.
+fn take_missing<H: Hash128, R: Wait, W: Work, G: Gate>(
+    rt: &R,
+    alloc: Global,
+    topology: &Topology,
+    shared: &Shared<W>,
+    state: &mut WorkerState<W, G>,
+    assignment: &Assignment,
+) -> Result<(), Halt>
+    requires may { MayAct W.plan H.hash_of shared.now.growing.id (draft_of topology.now) state.old }
+    ensures gate { state.new.session.client.gate ≡ counts_after state.old.session.client.gate result }
+    ensures later { LaterState W.plan state.old state.new }
+    ensures worker { OnOk result (IsWorkerState W.plan (draft_of topology.now) state.new) }
+    ensures member { state.new.member ≡ state.old.member }
+{
+    let number = state.member.number;
+    if places_so_many(assignment, number, state.tasks.len(), state.replicas.len()) {
+        return Ok(());
+    }
+    take_all::<H, R, W, G>(rt, alloc, topology, shared, state, assignment)
+}
+
 // Takes a newer generation as the worker's own, once its replicas without a place there are parked.
 fn enter_generation<H: Hash128, R: Wait, W: Work, G: Gate>(
     rt: &R,
@@ -257,5 +280,5 @@ pub fn take_places<H: Hash128, R: Wait, W: Work, G: Gate>(
         ≡ record state.old.member { generation = max state.old.member.generation generation }) }
 {
     enter_generation::<H, R, W, G>(rt, alloc, topology, shared, state, generation, assignment)?;
-    take_all::<H, R, W, G>(rt, alloc, topology, shared, state, assignment)
+    take_missing::<H, R, W, G>(rt, alloc, topology, shared, state, assignment)
 }

@@ -4,7 +4,7 @@ use Rattle.ks_topo.specs.Topologies.{draft_of}
 use Rattle.ks_shared.specs.Calls.{frame_of}
 use Rattle.ks_feed.proofs.Fresh.{first_fresh, fresh_pass, fresh_seen, fresh_counts, fresh_parts, fresh_records}
 use Rattle.ks_feed.proofs.Produced.{filled, none_parked, still_first}
-use Rattle.ks_crew.specs.Members.{ArePasses}
+use Rattle.ks_crew.specs.Members.{ArePasses, placing_of}
 use Rattle.ks_crew.proofs.Enlisted.{others_fresh, others_are_passes, all_may_run, both_ok, others_long, members_long}
 use Rattle.ks_crew.proofs.crew.run_gated.Goals as goal
 
@@ -58,8 +58,9 @@ work_and_close-requires-clause-may g c κs within =
     let lock = c.in-Ok.shared.growing.id in
     let others = c.split_first-first.result.1.items in
     let fresh = others_fresh lock c.args.cluster.journal (frame_of c.args.cluster) c.in-Ok.passes.items others c.split_first-first.result.0 c.split_first-first.ensures c.in-Ok.ensures.fresh in
-    all_may_run g.W.Work.plan g.H.Hash128.hash_of (draft_of c.args.topology.now) c.args.cluster lock c.turns_of-turns.result c.requires.ready.new c.requires.ready.topology c.nodes-nodes.ensures.well_formed c.requires.ready.nodes c.turns_of-turns.ensures
-    (λ m. m.worker.state) c.in_ok-members.members.items others c.in_ok-members.ensures.passes fresh c.in_ok-members.ensures.enlisted
+    all_may_run g.W.Work.plan g.W.Work.good g.H.Hash128.hash_of (draft_of c.args.topology.now) c.args.cluster lock (placing_of c.args.crew.settings) c.turns_of-turns.result c.requires.ready.new c.requires.ready.topology c.requires.ready.wanted
+    c.requires.settings.threads.0 c.nodes-nodes.ensures.well_formed c.requires.ready.nodes c.turns_of-turns.ensures
+    (λ m. m.worker.state) (λ m. m.worker.placing) c.in_ok-members.members.items others c.in_ok-members.ensures.passes fresh c.in_ok-members.ensures.enlisted c.in_ok-members.ensures.placing
 
 pub work_and_close-requires-clause-first : goal.work_and_close-requires-clause-first
 work_and_close-requires-clause-first g c κs within =

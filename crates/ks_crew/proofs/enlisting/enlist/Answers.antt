@@ -1,6 +1,6 @@
-use Rattle.std.proofs.Common.{arith}
+use Rattle.std.proofs.Common.{◌≡◌, arith}
 use Rattle.std.specs.Vec.Iter.{into_iter_items}
-use Rattle.ks_crew.specs.Members.{IsEnlisted}
+use Rattle.ks_crew.specs.Members.{IsEnlisted, placing_of}
 use Rattle.ks_crew.proofs.Enlisted.{enlisted_one, all_enlisted, fewer, as_many, all_pushed}
 use Rattle.ks_crew.proofs.enlisting.enlist.Goals as goal
 
@@ -17,6 +17,7 @@ loop-pass-preserved g c =
       few = omega (arith, many, c.loop-pass.invariant.few);
       instances = omega (arith, many, c.loop-pass.invariant.instances);
       uncounted = all_pushed (λ m. IsEnlisted m.worker.state) before after c.enlist_one.result c.in_ok-push.ensures.items c.loop-pass.invariant.uncounted c.enlist_one.ensures.enlisted;
+      placing = all_pushed (λ m. m.worker.placing ≡ placing_of c.args.settings.now) before after c.enlist_one.result c.in_ok-push.ensures.items c.loop-pass.invariant.placing c.enlist_one.ensures.placing;
     }
 
 pub returns-clause-passes : goal.returns-clause-passes

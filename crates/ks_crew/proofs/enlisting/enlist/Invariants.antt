@@ -1,7 +1,7 @@
 use Rattle.std.proofs.Common.{◌≡◌, ◌++◌, ◌+◌, ◌*◌, ◌≤◌, map, length}
 use Rattle.std.specs.List.{All}
 use Rattle.std.specs.Vec.Iter.{into_iter_items, into_iter_len}
-use Rattle.ks_crew.specs.Members.{IsEnlisted}
+use Rattle.ks_crew.specs.Members.{IsEnlisted, placing_of}
 use Rattle.ks_crew.proofs.enlisting.enlist.Given as goal
 
 -- the workers so far have the passes so far; there are gates for those that are left
@@ -12,6 +12,7 @@ invariant-loop-pass g l = record {
   few : length l.members.items + length (into_iter_items l.rest) ≤ 16;
   instances : length l.members.items + length (into_iter_items l.rest) ≤ 4 * l.settings.threads;
   uncounted : All (λ m. IsEnlisted m.worker.state) l.members.items;
+  placing : All (λ m. m.worker.placing ≡ placing_of l.settings) l.members.items;
 }
 
 abbrev pub decreases-loop-pass : goal.decreases-loop-pass

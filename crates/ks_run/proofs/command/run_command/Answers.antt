@@ -28,4 +28,4 @@ returns-in-None-clause-write_fault g c = λ e.
     (fault.0, (1, bad_words_text, judged, fault.1))
 
 pub returns-in-None-clause-journal : goal.returns-in-None-clause-journal
-returns-in-None-clause-journal g c = λ h. no_journal _ _ _ c.refuse_words.ensures.journal
+returns-in-None-clause-journal g c = λ h. no_journal _ _ _ _ c.refuse_words.ensures.journal

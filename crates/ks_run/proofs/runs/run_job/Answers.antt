@@ -1,15 +1,15 @@
 use Rattle.std.proofs.Common.{inl}
-use Rattle.ks_run.proofs.Kept.{judged_journal, judged_query}
+use Rattle.ks_run.proofs.Kept.{judged_query}
 use Rattle.ks_run.proofs.runs.run_job.Goals as goal
 
 pub returns-in-Ok-write_output-clause-journal : goal.returns-in-Ok-write_output-clause-journal
-returns-in-Ok-write_output-clause-journal g c = λ h. judged_journal _ _ _ _ _ _ _ _ _ c.in-Ok.ensures
+returns-in-Ok-write_output-clause-journal g c = λ h. c.in-Ok.ensures.kept
 
 pub returns-clause-journal : goal.returns-clause-journal
-returns-clause-journal g c = λ h. judged_journal _ _ _ _ _ _ _ _ _ c.in-Ok.ensures
+returns-clause-journal g c = λ h. c.in-Ok.ensures.kept
 
 pub returns-in-Ok-write_output-clause-complete : goal.returns-in-Ok-write_output-clause-complete
-returns-in-Ok-write_output-clause-complete g c = λ valid alone calm kept. inl (judged_query _ _ _ _ _ _ _ _ _ valid alone calm c.in-Ok.ensures)
+returns-in-Ok-write_output-clause-complete g c = λ valid alone calm kept. inl (judged_query _ _ _ _ _ _ _ _ _ _ valid alone calm c.in-Ok.ensures)
 
 pub returns-clause-complete : goal.returns-clause-complete
 returns-clause-complete g c = λ valid alone calm kept. absurd (kept c.in-Err.ensures.fault)

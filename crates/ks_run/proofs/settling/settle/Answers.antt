@@ -5,8 +5,9 @@ use Rattle.ks_topo.specs.Topologies.{draft_of}
 use Rattle.ks_job.specs.Items.{item_views}
 use Rattle.ks_cluster.specs.View as kept
 use Rattle.ks_run.proofs.Counts.{shown_counts}
+use Rattle.ks_crew.specs.Members.{placing_of}
 use Rattle.ks_run.specs.Told.{with_lines}
-use Rattle.ks_run.proofs.Settles.{IsRunnable, IsDrained, setup_is, setup_made, parts_ready, records_ready, filled_setup, drained_setup, nodes_ready, settled_answers, is_of}
+use Rattle.ks_run.proofs.Settles.{IsRunnable, IsDrained, setup_is, setup_made, parts_ready, records_ready, filled_setup, filled_wanted, alone_ready, drained_setup, nodes_ready, settled_answers, is_of}
 use Rattle.ks_run.proofs.settling.settle.Goals as goal
 
 pub new-requires : goal.new-requires
@@ -28,6 +29,7 @@ run_crew-requires-clause-ready g c κs within =
       new = ap (λ k. k.journal) c.in_ok-empty.ensures;
       topology = ap (λ k. kept.setup_of g.W.Work.plan k) c.in_ok-empty.ensures
           ∙ setup_is hash d (g.W.Work.plan c.args.work) c.in_ok-kept.kept.items c.in_ok-tasks.tasks.items c.requires.work (c.in_ok-kept.ensures.items ∙ (c.as_slice.ensures.value ∙ counts)) (c.in_ok-tasks.ensures.items ∙ c.tasks.ensures);
+      wanted = ap (λ k. g.W.Work.good k.work) c.in_ok-empty.ensures ∙ c.requires.wanted;
       nodes = nodes_ready d c.nodes-nodes.ensures.well_formed c.requires.partitions;
       counts_are = c.as_slice-2.ensures.value ∙ (sym c.as_slice.ensures.value ∙ (sym c.in_ok-kept.ensures.items ∙ sym (ap (λ k. k.counts) c.in_ok-empty.ensures)));
       parts = parts_ready hash d (g.W.Work.plan empty.work) c.as_slice-2.result.now c.nodes-nodes.ensures.well_formed c.requires.partitions work (c.as_slice-2.ensures.value ∙ counts);
@@ -44,6 +46,13 @@ drain-requires-clause-setup g c κs within =
 
 pub drain-requires-clause-parts : goal.drain-requires-clause-parts
 drain-requires-clause-parts g c κs within = nodes_ready (draft_of c.args.topology.now) c.nodes-nodes.ensures.well_formed c.requires.partitions
+
+pub drain-requires-clause-alone : goal.drain-requires-clause-alone
+drain-requires-clause-alone g c κs within =
+    let d = draft_of c.args.topology.now in
+    let named = ap (λ f. f.tasks) c.in_ok-cluster.ensures.frame ∙ (ap (λ k. k.tasks) c.in_ok-empty.ensures ∙ (c.in_ok-tasks.ensures.items ∙ c.tasks.ensures)) in
+    let wanted = filled_wanted g.W.Work.good c.in_ok-empty.empty c.in_ok-cluster.cluster _ c.in_ok-cluster.ensures ∙ (ap (λ k. g.W.Work.good k.work) c.in_ok-empty.ensures ∙ c.requires.wanted) in
+    alone_ready (g.W.Work.good c.in_ok-cluster.cluster.work) (placing_of c.args.crew.settings) d c.in_ok-cluster.cluster.tasks wanted named c.nodes-nodes.ensures.well_formed c.requires.settings.threads.0
 
 pub judge-requires-clause-of : goal.judge-requires-clause-of
 judge-requires-clause-of g c κs within =
@@ -78,7 +87,7 @@ returns g c =
     } in
     let done : IsDrained (kept.setup_of g.W.Work.plan c.drain.new.cluster) c.drain.new.cluster.journal = record { history = c.end_run.ensures.history; few = c.end_run.ensures.few; settled = c.in_ok-drain.ensures.settled } in
     IfOk-weaker c.end_run.result _ _
-    (λ a h. settled_answers hash c.args.crew.settings.journal d g.W.Work.plan (item_views c.args.records.items) c.in_ok-empty.empty c.in_ok-cluster.cluster c.drain.new.cluster c.as_slice-2.result.now a.status a.text.items a.journal ready
-    setup (c.as_slice-2.ensures.value ∙ counts) c.in_ok-cluster.ensures c.in_ok-drain.ensures.more done
+    (λ a h. settled_answers hash (placing_of c.args.crew.settings) c.args.crew.settings.journal d g.W.Work.plan g.W.Work.good (item_views c.args.records.items) c.in_ok-empty.empty c.in_ok-cluster.cluster c.drain.new.cluster c.as_slice-2.result.now a.status a.text.items a.journal ready
+    setup (ap (λ k. g.W.Work.good k.work) c.in_ok-empty.ensures ∙ c.requires.wanted) (c.as_slice-2.ensures.value ∙ counts) c.in_ok-cluster.ensures c.in_ok-drain.ensures.more done c.end_run.ensures.placed
     (h.0 ∙ ap (with_lines c.args.crew.settings.journal c.drain.new.cluster.journal) c.in_ok-verdict.ensures) h.1)
     c.end_run.ensures.made

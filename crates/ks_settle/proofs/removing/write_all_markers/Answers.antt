@@ -1,13 +1,14 @@
-use Rattle.std.proofs.Common.{sym, subst, arith}
+use Rattle.std.proofs.Common.{refl, sym, subst, ◌∙◌, arith}
 use Rattle.ks_history.specs.Machine.{IsNetwork}
 use Rattle.ks_history.specs.State.{Setup}
 use Rattle.ks_cluster.specs.View.{setup_of}
 use Rattle.ks_settle.proofs.Publishing.{drains_none, drains_both, drains_markers, same_setup}
 use Rattle.ks_settle.proofs.Idling.{one_marked, all_marked}
+use Rattle.ks_settle.proofs.Members.{same_members}
 use Rattle.ks_settle.proofs.removing.write_all_markers.Goals as goal
 
 pub loop-worker-init : goal.loop-worker-init
-loop-worker-init g c = record { marked = record { decided = c.requires.decided; written = λ w lt. absurd (omega (arith, lt)) }; on = drains_none 0 c.args.cluster.now }
+loop-worker-init g c = record { marked = record { decided = c.requires.decided; written = λ w lt. absurd (omega (arith, lt)) }; members = refl; on = drains_none 0 c.args.cluster.now }
 
 pub loop-worker-preserved : goal.loop-worker-preserved
 loop-worker-preserved g c =
@@ -15,6 +16,7 @@ loop-worker-preserved g c =
     let step = c.in_ok-write_markers.ensures in
     record {
       marked = one_marked plan c.loop-worker.cluster c.write_markers.new.cluster c.loop-worker.worker step.marked step.done c.loop-worker.invariant.marked;
+      members = same_members plan c.loop-worker.cluster c.write_markers.new.cluster c.loop-worker.worker step.marked ∙ c.loop-worker.invariant.members;
       on = drains_both 0 0 c.args.cluster.now c.loop-worker.cluster c.write_markers.new.cluster c.loop-worker.invariant.on (drains_markers plan c.loop-worker.worker c.loop-worker.cluster c.write_markers.new.cluster step.marked);
     }
 

@@ -6,6 +6,7 @@ use Rattle.ks_client.proofs.Moments.{may_later}
 use Rattle.ks_worker_state.proofs.States.{may_act_on, state_later_twice}
 use Rattle.ks_worker_turn.proofs.Keeping.{told_state, still_rested, keeps_both}
 use Rattle.ks_worker_turn.proofs.Assigned.{either_within}
+use Rattle.ks_worker_turn.proofs.Offered.{serves_later}
 use Rattle.ks_worker_turn.proofs.beginning.begin_turn.Goals as goal
 
 pub heed_status-requires : goal.heed_status-requires
@@ -21,6 +22,14 @@ place_tasks-requires-clause-may g c =
     may_act_on g.W.Work.plan g.H.Hash128.hash_of _ (draft_of c.args.topology.now) s two c.requires.may (state_later_twice g.W.Work.plan s one two c.join_group.ensures.later c.heed_status.ensures.later)
     (same_counts _ _ c.heed_status.result c.in_ok-status.status c.in_ok-status.was c.heed_status.ensures.gate ∙ same_counts _ _ c.join_group.result c.in_ok-join_group.field-0 c.in_ok-join_group.was c.join_group.ensures.gate)
     (keeps_both g.W.Work.plan s one two c.join_group.ensures.later c.in_ok-join_group.ensures.worker c.in_ok-status.ensures.worker g.H.Hash128.hash_of (draft_of c.args.topology.now) c.requires.may.topology c.requires.may.worker)
+
+pub place_tasks-requires-clause-placing : goal.place_tasks-requires-clause-placing
+place_tasks-requires-clause-placing g c =
+    let s = c.args.state.now in
+    let one = c.join_group.new.state in
+    let two = c.heed_status.new.state in
+    serves_later g.W.Work.plan g.W.Work.good c.args.placing.now (draft_of c.args.topology.now) s.session.client.pass two.session.client.pass
+    (state_later_twice g.W.Work.plan s one two c.join_group.ensures.later c.heed_status.ensures.later).later c.requires.placing
 
 pub place_tasks-requires-clause-status : goal.place_tasks-requires-clause-status
 place_tasks-requires-clause-status g c = told_state g.W.Work.plan c.join_group.new.state c.heed_status.new.state c.in_ok-status.status c.heed_status.ensures.later.later c.in_ok-status.ensures.status

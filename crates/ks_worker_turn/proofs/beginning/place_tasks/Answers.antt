@@ -1,13 +1,29 @@
-use Rattle.std.proofs.Common.{inl, refl}
+use Rattle.std.proofs.Common.{inl, refl, sym, ◌∙◌}
+use Rattle.std.specs.Prelude.{IfSome}
 use Rattle.std.proofs.lemmas.Result.{on_ok_weaker}
 use Rattle.ks_topo.specs.Topologies.{draft_of}
-use Rattle.ks_client.proofs.Halting.{same_counts}
+use Rattle.ks_plan.specs.Infos.{changelog_numbers}
+use Rattle.ks_plan.specs.Layout.{tasks}
+use Rattle.ks_plan.specs.Plan.{plan_of}
+use Rattle.ks_placement.specs.Groups.{IsGoodBy}
+use Rattle.ks_client.proofs.Halting.{same_counts, was_ok_with}
 use Rattle.ks_client.proofs.Moments.{later_twice}
+use Rattle.ks_worker_state.proofs.States.{same_state}
 use Rattle.ks_worker_turn.proofs.Keeping.{acts_on}
+use Rattle.ks_worker_turn.proofs.Offered.{may_offers}
 use Rattle.ks_worker_turn.proofs.Assigned.{own_or_told, told_past}
 use Rattle.ks_worker_turn.specs.Acting.{WasAssigned}
 use Rattle.ks_worker_turn.proofs.Placed.{generation_later, some_said}
 use Rattle.ks_worker_turn.proofs.beginning.place_tasks.Goals as goal
+
+pub assignment_of-requires-clause-offer : goal.assignment_of-requires-clause-offer
+assignment_of-requires-clause-offer g c =
+    let d = draft_of c.args.topology.now in
+    may_offers g.W.Work.plan g.W.Work.good g.H.Hash128.hash_of d c.args.placing.now c.args.state.now.session.client.pass.frame c.args.told c.in_ok-offer.offer c.requires.may.topology c.requires.placing
+    (was_ok_with c.new_assignment.result (λ o. IfSome o (IsGoodBy (changelog_numbers (plan_of d)) (tasks (plan_of d)) c.args.placing.now c.args.told)) c.in_ok-offer.offer (sym c.or_halt.ensures ∙ c.in_ok-offer.was) c.new_assignment.ensures)
+
+pub returns-in_err-offer-clause-later : goal.returns-in_err-offer-clause-later
+returns-in_err-offer-clause-later g c = same_state g.W.Work.plan _ c.args.state.now c.requires.may.call
 
 pub take_places-requires-clause-may : goal.take_places-requires-clause-may
 take_places-requires-clause-may g c =

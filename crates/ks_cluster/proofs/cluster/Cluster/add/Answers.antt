@@ -3,7 +3,8 @@ use Rattle.ks_history.specs.declared.journal.Request.TheVariants.{Add}
 use Rattle.ks_history.specs.History.{Meets}
 use Rattle.ks_cluster.specs.View.{setup_of, state_of}
 use Rattle.ks_cluster.specs.Replies.{done_or}
-use Rattle.ks_cluster.proofs.Entries.{moved_kept, answered}
+use Rattle.ks_cluster.proofs.Entries.{answered}
+use Rattle.ks_cluster.proofs.Placed.{kept_on}
 use Rattle.ks_cluster.proofs.cluster.Cluster.add.Goals as goal
 
 pub invariant_of-self-2 : goal.invariant_of-self-2
@@ -11,8 +12,8 @@ invariant_of-self-2 g c =
     let plan = g.W.Work.plan in
     let meets = subst (λ v. Meets (setup_of plan v) (state_of plan v) (Add c.args.w c.args.epoch c.args.part)) (sym c.self.view_is) c.requires in
     rw (c.push_reserved.ensures.items, c.reserve.ensures.items, c.done.ensures)
-    (moved_kept (plan c.self.inside.work) c.self.inside.counts.items c.self.inside.journal.items c.self.inside.broker c.add.new.self (Add c.args.w c.args.epoch c.args.part) (done_or c.in_ok-outcome.outcome) c.self.invariant meets tt (c.in_ok-outcome.ensures.ok))
+    (kept_on (plan c.self.inside.work) (g.W.Work.good c.self.inside.work) c.self.inside.counts.items c.self.inside.journal.items c.self.inside.broker c.add.new.self c.self.invariant (Add c.args.w c.args.epoch c.args.part) (done_or c.in_ok-outcome.outcome) refl meets tt (c.in_ok-outcome.ensures.ok))
 
 pub returns-clause-ok : goal.returns-clause-ok
 returns-clause-ok g c =
-    answered g.W.Work.plan c.self.inside.work c.self.inside.counts.items c.self.inside.journal.items c.push_reserved.new.self.items c.self.inside.broker c.add.new.self _ (Add c.args.w c.args.epoch c.args.part) (done_or c.in_ok-outcome.outcome) c.self.view_is (rw (c.push_reserved.ensures.items, c.reserve.ensures.items, c.done.ensures) refl) c.self.invariant (c.in_ok-outcome.ensures.ok)
+    answered g.W.Work.plan c.self.inside.work c.self.inside.counts.items c.self.inside.journal.items c.push_reserved.new.self.items c.self.inside.broker c.add.new.self _ (Add c.args.w c.args.epoch c.args.part) (done_or c.in_ok-outcome.outcome) c.self.view_is (rw (c.push_reserved.ensures.items, c.reserve.ensures.items, c.done.ensures) refl) c.self.invariant.follows (c.in_ok-outcome.ensures.ok)

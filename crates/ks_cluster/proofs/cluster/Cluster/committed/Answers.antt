@@ -13,10 +13,10 @@ returns-clause-offsets g c =
     let plan = g.W.Work.plan in
     let there = subst (λ v. has_task c.args.task (setup_of plan v).tasks ≡ true) (sym c.self.view_is) c.requires.task in
     subst (λ v. IfOk c.in_ok-outcome.outcome (λ l. l.items ≡ committed_offsets (setup_of plan v) (state_of plan v) c.args.task)) c.self.view_is
-    (IfOk-weaker c.in_ok-outcome.outcome _ _ (λ l h. h ∙ offsets_are (setup_at (g.W.Work.plan c.self.inside.work) c.self.inside.counts.items c.self.inside.broker) (at (setup_at (g.W.Work.plan c.self.inside.work) c.self.inside.counts.items c.self.inside.broker) c.self.inside.journal.items) c.args.task c.self.inside.broker.group.offsets there c.self.invariant.stands.group_is.offsets_are) c.in_ok-outcome.ensures.offsets)
+    (IfOk-weaker c.in_ok-outcome.outcome _ _ (λ l h. h ∙ offsets_are (setup_at (g.W.Work.plan c.self.inside.work) c.self.inside.counts.items c.self.inside.broker) (at (setup_at (g.W.Work.plan c.self.inside.work) c.self.inside.counts.items c.self.inside.broker) c.self.inside.journal.items) c.args.task c.self.inside.broker.group.offsets there c.self.invariant.follows.stands.group_is.offsets_are) c.in_ok-outcome.ensures.offsets)
 
 pub returns-clause-refused : goal.returns-clause-refused
 returns-clause-refused g c =
     let plan = g.W.Work.plan in
     subst (λ v. Refuses (committed_refusal (state_of plan v) c.args.w c.args.generation c.args.task) c.in_ok-outcome.outcome) c.self.view_is
-    (refuses_so _ _ c.in_ok-outcome.outcome (committed_refused _ _ c.self.inside.broker c.args.w c.args.generation c.args.task c.self.invariant.stands) c.in_ok-outcome.ensures.refused)
+    (refuses_so _ _ c.in_ok-outcome.outcome (committed_refused _ _ c.self.inside.broker c.args.w c.args.generation c.args.task c.self.invariant.follows.stands) c.in_ok-outcome.ensures.refused)

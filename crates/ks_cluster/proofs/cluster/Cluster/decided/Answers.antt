@@ -13,4 +13,4 @@ returns g c =
     c.in_ok-made.ensures
     ∙ ap (λ l. decided_pairs (waiting_in c.as_slice.result.now part) 0 l) c.part-slots.ensures
     ∙ ap (λ ps. decided_pairs (waiting_in ps part) 0 (slots_in part b.log)) (c.as_slice.ensures.value ∙ c.in_ok-producers.ensures)
-    ∙ subst (λ v. decided_pairs (waiting_in b.txns part) 0 (slots_in part b.log) ≡ decided_records (state_of g.W.Work.plan v) part) c.self.view_is (decided-are _ _ b part c.self.invariant.stands)
+    ∙ subst (λ v. decided_pairs (waiting_in b.txns part) 0 (slots_in part b.log) ≡ decided_records (state_of g.W.Work.plan v) part) c.self.view_is (decided-are _ _ b part c.self.invariant.follows.stands)

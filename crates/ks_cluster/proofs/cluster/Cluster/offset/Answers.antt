@@ -13,4 +13,4 @@ returns g c =
     let there = subst (λ v. has_task task (setup_of plan v).tasks ≡ true) (sym c.self.view_is) c.requires.task in
     let input = subst (λ v. has_topic c.args.topic ((setup_of plan v).plan.inputs task.sub) ≡ true) (sym c.self.view_is) c.requires.input in
     subst (λ v. c.offset.result ≡ (state_of plan v).committed task c.args.topic) c.self.view_is
-    (c.offset.ensures ∙ offset_is (setup_at (g.W.Work.plan c.self.inside.work) c.self.inside.counts.items c.self.inside.broker) (at (setup_at (g.W.Work.plan c.self.inside.work) c.self.inside.counts.items c.self.inside.broker) c.self.inside.journal.items) task c.args.topic c.self.inside.broker.group.offsets there input c.self.invariant.stands.group_is.offsets_are)
+    (c.offset.ensures ∙ offset_is (setup_at (g.W.Work.plan c.self.inside.work) c.self.inside.counts.items c.self.inside.broker) (at (setup_at (g.W.Work.plan c.self.inside.work) c.self.inside.counts.items c.self.inside.broker) c.self.inside.journal.items) task c.args.topic c.self.inside.broker.group.offsets there input c.self.invariant.follows.stands.group_is.offsets_are)

@@ -3,7 +3,8 @@ use Rattle.ks_history.specs.declared.journal.Request.TheVariants.{Probe}
 use Rattle.ks_history.specs.History.{Meets}
 use Rattle.ks_cluster.specs.View.{setup_of, state_of}
 use Rattle.ks_cluster.specs.Replies.{number_or}
-use Rattle.ks_cluster.proofs.Entries.{moved_kept, answered}
+use Rattle.ks_cluster.proofs.Entries.{answered}
+use Rattle.ks_cluster.proofs.Placed.{kept_on}
 use Rattle.ks_cluster.proofs.cluster.Cluster.probe.Goals as goal
 
 pub invariant_of-self-2 : goal.invariant_of-self-2
@@ -11,8 +12,8 @@ invariant_of-self-2 g c =
     let plan = g.W.Work.plan in
     let meets = subst (λ v. Meets (setup_of plan v) (state_of plan v) (Probe c.args.w c.args.generation)) (sym c.self.view_is) c.requires in
     rw (c.push_reserved.ensures.items, c.reserve.ensures.items, c.numbered.ensures)
-    (moved_kept (plan c.self.inside.work) c.self.inside.counts.items c.self.inside.journal.items c.self.inside.broker c.probe.new.self (Probe c.args.w c.args.generation) (number_or c.in_ok-outcome.outcome) c.self.invariant meets tt (c.in_ok-outcome.ensures.ok c.args.w))
+    (kept_on (plan c.self.inside.work) (g.W.Work.good c.self.inside.work) c.self.inside.counts.items c.self.inside.journal.items c.self.inside.broker c.probe.new.self c.self.invariant (Probe c.args.w c.args.generation) (number_or c.in_ok-outcome.outcome) refl meets tt (c.in_ok-outcome.ensures.ok c.args.w))
 
 pub returns-clause-ok : goal.returns-clause-ok
 returns-clause-ok g c =
-    answered g.W.Work.plan c.self.inside.work c.self.inside.counts.items c.self.inside.journal.items c.push_reserved.new.self.items c.self.inside.broker c.probe.new.self _ (Probe c.args.w c.args.generation) (number_or c.in_ok-outcome.outcome) c.self.view_is (rw (c.push_reserved.ensures.items, c.reserve.ensures.items, c.numbered.ensures) refl) c.self.invariant (c.in_ok-outcome.ensures.ok c.args.w)
+    answered g.W.Work.plan c.self.inside.work c.self.inside.counts.items c.self.inside.journal.items c.push_reserved.new.self.items c.self.inside.broker c.probe.new.self _ (Probe c.args.w c.args.generation) (number_or c.in_ok-outcome.outcome) c.self.view_is (rw (c.push_reserved.ensures.items, c.reserve.ensures.items, c.numbered.ensures) refl) c.self.invariant.follows (c.in_ok-outcome.ensures.ok c.args.w)

@@ -4,7 +4,8 @@ use Rattle.ks_history.specs.declared.journal.Reply.TheVariants.{Number}
 use Rattle.ks_history.specs.History.{Meets}
 use Rattle.ks_cluster.specs.View.{setup_of, state_of}
 use Rattle.ks_cluster.specs.Moves.{Moves}
-use Rattle.ks_cluster.proofs.Entries.{moved_kept, answered}
+use Rattle.ks_cluster.proofs.Entries.{answered}
+use Rattle.ks_cluster.proofs.Placed.{kept_on}
 use Rattle.ks_cluster.proofs.cluster.Cluster.produce.Goals as goal
 
 pub invariant_of-self-2 : goal.invariant_of-self-2
@@ -12,10 +13,10 @@ invariant_of-self-2 g c =
     let plan = g.W.Work.plan in
     let meets = subst (λ v. Meets (setup_of plan v) (state_of plan v) (Produce c.args.part c.args.rec.now)) (sym c.self.view_is) c.requires in
     rw (c.push_reserved.ensures.items, c.reserve.ensures.items, c.in_ok-kept.ensures)
-    (moved_kept (plan c.self.inside.work) c.self.inside.counts.items c.self.inside.journal.items c.self.inside.broker c.produce.new.self (Produce c.args.part c.args.rec.now) (Number c.in_ok-offset.offset) c.self.invariant meets tt
+    (kept_on (plan c.self.inside.work) (g.W.Work.good c.self.inside.work) c.self.inside.counts.items c.self.inside.journal.items c.self.inside.broker c.produce.new.self c.self.invariant (Produce c.args.part c.args.rec.now) (Number c.in_ok-offset.offset) refl meets tt
     (subst (λ r. Moves c.self.inside.broker c.produce.new.self (Produce c.args.part r) (Number c.in_ok-offset.offset)) c.in_ok-own.ensures c.in_ok-offset.ensures.ok))
 
 pub returns-clause-ok : goal.returns-clause-ok
 returns-clause-ok g c =
-    answered g.W.Work.plan c.self.inside.work c.self.inside.counts.items c.self.inside.journal.items c.push_reserved.new.self.items c.self.inside.broker c.produce.new.self _ (Produce c.args.part c.args.rec.now) (Number c.in_ok-offset.offset) c.self.view_is (rw (c.push_reserved.ensures.items, c.reserve.ensures.items, c.in_ok-kept.ensures) refl) c.self.invariant
+    answered g.W.Work.plan c.self.inside.work c.self.inside.counts.items c.self.inside.journal.items c.push_reserved.new.self.items c.self.inside.broker c.produce.new.self _ (Produce c.args.part c.args.rec.now) (Number c.in_ok-offset.offset) c.self.view_is (rw (c.push_reserved.ensures.items, c.reserve.ensures.items, c.in_ok-kept.ensures) refl) c.self.invariant.follows
     (subst (λ r. Moves c.self.inside.broker c.produce.new.self (Produce c.args.part r) (Number c.in_ok-offset.offset)) c.in_ok-own.ensures c.in_ok-offset.ensures.ok)

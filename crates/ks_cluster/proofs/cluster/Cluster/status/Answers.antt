@@ -16,7 +16,7 @@ returns g c =
       waiting = c.in_ok-marker_count.field-0;
       ends = c.of-3.result;
     } ≡ status (setup_of g.W.Work.plan v) (state_of g.W.Work.plan v)) c.self.view_is
-    (status-is _ _ b _ _ _ _ _ _ c.self.invariant.stands c.generation.ensures (c.of.ensures ∙ c.in_ok-members.ensures ∙ c.members.ensures) (c.in_ok-copy_given.ensures ∙ c.assignment.ensures)
+    (status-is _ _ b _ _ _ _ _ _ c.self.invariant.follows.stands c.generation.ensures (c.of.ensures ∙ c.in_ok-members.ensures ∙ c.members.ensures) (c.in_ok-copy_given.ensures ∙ c.assignment.ensures)
     (c.of-2.ensures ∙ c.in_ok-held.ensures ∙ ap (held_in 0) c.held.ensures.value) c.in_ok-marker_count.ensures
     (c.of-3.ensures ∙ c.in_ok-ends.ensures
     ∙ ap (λ ts. changelogs_on (setup_from (g.W.Work.plan c.self.inside.work) [] ts) b.log 0 c.as_slice-counts.result.now) c.tasks-tasks.ensures

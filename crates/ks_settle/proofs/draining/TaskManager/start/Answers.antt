@@ -2,6 +2,7 @@ use Rattle.std.proofs.Common.{refl, sym, ap, subst, ◌∙◌}
 use Rattle.ks_history.specs.Machine.{IsNetwork}
 use Rattle.ks_history.specs.State.{Setup}
 use Rattle.ks_topo.specs.Topologies.{draft_of}
+use Rattle.ks_settle.proofs.Members.{good_alone}
 use Rattle.ks_settle.proofs.Publishing.{drains_both, drains_by, drains_longer, same_setup}
 use Rattle.ks_settle.proofs.Starting.{resting_first, still_tasks, still_may}
 use Rattle.ks_settle.proofs.draining.TaskManager.start.Goals as goal
@@ -24,6 +25,12 @@ pub start-requires-clause-once : goal.start-requires-clause-once
 start-requires-clause-once g c =
     let one = still_may g.W.Work.plan 0 c.args.cluster.now c.remove_workers.new.cluster c.remove_workers.ensures.on c.requires.may in
     (still_may g.W.Work.plan 0 c.remove_workers.new.cluster c.write_all_markers.new.cluster c.write_all_markers.ensures.on one).made.once
+
+pub start-requires-clause-good : goal.start-requires-clause-good
+start-requires-clause-good g c =
+    let none = c.in_ok-write_all_markers.ensures.members ∙ c.in_ok-remove_workers.ensures.gone in
+    let on = drains_both 0 0 c.args.cluster.now c.remove_workers.new.cluster c.write_all_markers.new.cluster c.remove_workers.ensures.on c.write_all_markers.ensures.on in
+    good_alone g.W.Work.plan g.W.Work.good c.args.cluster.now c.write_all_markers.new.cluster on none c.requires.alone
 
 pub restore_tasks-requires-clause-may : goal.restore_tasks-requires-clause-may
 restore_tasks-requires-clause-may g c =

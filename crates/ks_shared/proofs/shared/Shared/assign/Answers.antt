@@ -1,5 +1,11 @@
 use Rattle.ks_shared.proofs.Turns.{called, grows_grew}
+use Rattle.ks_shared.proofs.Seen.{good_then}
 use Rattle.ks_shared.proofs.shared.Shared.assign.Goals as goal
+
+pub assign-answer-requires-clause-good : goal.assign-answer-requires-clause-good
+assign-answer-requires-clause-good g c =
+    let e = c.enter-state.ensures in
+    good_then g.W.Work.plan _ _ _ e.frame e.begins g.W.Work.good c.args.generation c.args.a.now c.requires.good
 
 pub returns : goal.returns
 returns g c =

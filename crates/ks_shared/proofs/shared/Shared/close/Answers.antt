@@ -1,9 +1,12 @@
-use Rattle.std.proofs.Common.{subst, sym}
+use Rattle.std.proofs.Common.{sym, subst}
+use Rattle.std.specs.Prelude.{◌≡◌, Some}
 use mathlib.Core.List.{IsPrefix}
-use Rattle.ks_cluster.specs.View.{ClusterView}
-use Rattle.ks_growing.specs.Passes.{Each, seen_of}
+use Rattle.ks_growing.specs.Passes.{seen_of, frame_of as pass_frame}
+use Rattle.ks_shared.specs.Calls.{frame_of}
 use Rattle.ks_shared.proofs.shared.Shared.close.Goals as goal
 
+pub returns-clause-frames : goal.returns-clause-frames
+returns-clause-frames g c = λ k x at. subst (λ v. pass_frame x ≡ Some (frame_of v)) (sym c.cluster.view_is) (c.close.ensures.frames k x at)
+
 pub returns-clause-seen : goal.returns-clause-seen
-returns-clause-seen g c =
-    subst (λ (k : ClusterView g.row.W.Denot). Each (λ i p. IsPrefix (seen_of p) k.journal) c.args.passes.items) (sym c.cluster.view_is) c.close.ensures.seen
+returns-clause-seen g c = λ k x at. subst (λ v. IsPrefix (seen_of x) v.journal) (sym c.cluster.view_is) (c.close.ensures.seen k x at)

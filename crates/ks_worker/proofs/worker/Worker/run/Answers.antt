@@ -7,7 +7,7 @@ use Rattle.ks_worker.proofs.worker.Worker.run.Goals as goal
 
 pub take_turn-requires : goal.take_turn-requires
 take_turn-requires g c = record {
-  may = may_run_on g.W.Work.plan _ _ (draft_of c.args.topology.now) c.args.turns c.loop.counter c.args.self.now.state c.loop.self.state c.requires.may c.loop.invariant.later c.loop.invariant.worker c.loop.invariant.counts
+  may = may_run_on g.W.Work.plan g.W.Work.good _ _ (draft_of c.args.topology.now) c.args.self.now.placing c.loop.self.placing c.args.turns c.loop.counter c.args.self.now.state c.loop.self.state c.requires.may c.loop.invariant.later c.loop.invariant.placing c.loop.invariant.worker c.loop.invariant.counts
       (omega (arith, c.loop-test.true));
 }
 
@@ -19,6 +19,7 @@ returns-then-branch-clause-shown g c =
 
 pub loop-preserved : goal.loop-preserved
 loop-preserved g c = record {
+  placing = c.take_turn.ensures.placing ∙ c.loop.invariant.placing;
   later = state_later_twice g.W.Work.plan c.args.self.now.state c.loop.self.state c.take_turn.new.self.state c.loop.invariant.later c.take_turn.ensures.later;
   worker = c.in_ok-take_turn.ensures.worker;
   counts = counted_then c.args.self.now.state.session.client.gate c.loop.self.state.session.client.gate c.take_turn.new.self.state.session.client.gate c.loop.counter 1 c.loop.invariant.counts c.in_ok-take_turn.ensures.counts;

@@ -7,6 +7,7 @@ use Rattle.ks_worker.proofs.worker.Worker.run.Given as goal
 -- what `counter` turns leave
 abbrev pub invariant-loop : goal.invariant-loop
 invariant-loop g l = record {
+  placing : l.self.placing ≡ l.fn.self.placing;
   later : LaterState g.W.Work.plan l.fn.self.state l.self.state;
   worker : IsWorkerState g.W.Work.plan (draft_of l.topology) l.self.state;
   counts : HasCounted l.fn.self.state.session.client.gate l.self.state.session.client.gate l.counter;

@@ -1,6 +1,17 @@
+use Rattle.std.proofs.Common.{rules}
+use Rattle.ks_topo.specs.Topologies.{draft_of}
 use Rattle.ks_worker_state.proofs.States.{state_later_twice}
-use Rattle.ks_worker.proofs.Turning.{shown_ok}
+use Rattle.ks_worker.proofs.Turning.{shown_ok, serves_on}
 use Rattle.ks_worker.proofs.worker.Worker.take_turn.Goals as goal
+
+pub obey-requires : goal.obey-requires
+obey-requires g c = record {
+  may = record {
+    act = search rules;
+    serves = serves_on g.W.Work.plan g.W.Work.good c.args.self.now.placing c.begin.new.self.placing (draft_of c.args.topology.now) c.args.self.now.state c.begin.new.self.state c.begin.ensures.later c.begin.ensures.placing c.requires.may.serves;
+    room = search rules;
+  };
+}
 
 pub returns-clause-later : goal.returns-clause-later
 returns-clause-later g c = state_later_twice g.W.Work.plan c.args.self.now.state c.begin.new.self.state c.obey.new.self.state c.begin.ensures.later c.obey.ensures.later
