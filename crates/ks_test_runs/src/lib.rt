@@ -2,6 +2,12 @@
 #![tactic(auto)]
 
 #[cfg(test)]
+mod cuts;
+#[cfg(test)]
+mod devices;
+#[cfg(test)]
+mod endless;
+#[cfg(test)]
 mod meeting;
 #[cfg(test)]
 mod rows;

@@ -1,12 +1,9 @@
 //! Two workers, each of which waits for the other.
 ghost use Rattle.std.specs.Prelude.{◌≡◌, IfOk, length};
-ghost use Rattle.ks_words.specs.Grammar.{usual};
 
-use crate::workers::{ORDER, SHOWN};
-use ks_edge::{Act, Gate, MemSink, MemSource, ScriptGate, TurnView};
+use crate::workers::{ORDER, SHOWN, run_with, two_threads};
+use ks_edge::{Act, Gate, ScriptGate, TurnView};
 use ks_hash::Murmur3;
-use ks_run::run_job;
-use ks_words::Settings;
 use std::alloc::{AllocError, Global};
 use std::sync::Arc;
 use std::sync::atomic::{AtomicU64, Ordering};
@@ -89,29 +86,14 @@ fn meeting_gates(
     Ok(gates)
 }
 
-// The usual settings, with two threads.
-fn two_threads() -> Settings
-    ensures { result ≡ record usual { threads = 2 } }
-{
-    let mut settings = Settings::usual();
-    settings.threads = 2;
-    settings
-}
-
 /// Both are asked, so they work at once: a run of one worker after the other would ask a gate a million times.
 #[test]
 fn two_workers_work_at_once(rt: HostRuntime) -> Result<(), Fail> {
     let alloc = rt.alloc();
     let met = Arc::new(alloc, AtomicU64::new(0))?;
     let gates = meeting_gates(alloc, &met)?;
-    let bytes = Vec::from_slice(alloc, ORDER.as_bytes())?;
-    let mut input = MemSource::new(bytes, Vec::new(alloc), Vec::new(alloc));
-    let mut out = MemSink::new(alloc, Vec::new(alloc));
     let settings = two_threads();
-    let ended = run_job::<Murmur3, HostRuntime, MemSource, MemSink>(
-        &rt, alloc, &settings, &mut input, &mut out, gates,
-    );
-    assert_eq!(rt; out.held(), SHOWN.as_bytes());
+    let ended = run_with::<Murmur3, HostRuntime>(&rt, alloc, &settings, ORDER, gates, SHOWN)?;
     assert_eq!(rt; ended.status, 0);
     assert_eq!(rt; met.load(Ordering::SeqCst), 2);
     Ok(())

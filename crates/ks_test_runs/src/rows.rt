@@ -4,15 +4,47 @@ use std::test::Fail;
 
 const RUN: &[&str] = &["run"];
 
-/// Jobs with what they print.
-const SETTLED: &[(&str, &str)] = &[
-    (
-        r#"{"app":"a","topics":{"t":1},"nodes":[{"name":"x","op":"table","topic":"t"}],"print":["x"]}
+/// Rows that change and go.
+pub const TABLE_JOB: &str =
+    r#"{"app":"a","topics":{"t":1},"nodes":[{"name":"x","op":"table","topic":"t"}],"print":["x"]}
 {"topic":"t","key":"b","value":{"n":1}}
 {"topic":"t","key":"a","value":{"n":2}}
 {"topic":"t","key":"b","value":{"n":3}}
 {"topic":"t","key":"a","value":null}
-"#,
+"#;
+
+/// Totals of joined orders, in several partitions.
+pub const TOTALS: &str =
+    r#"{"app":"s","topics":{"customers":2,"orders":4},"nodes":[{"name":"o","op":"table","topic":"orders"},{"name":"c","op":"table","topic":"customers"},{"name":"e","op":"fk_join","left":"o","right":"c","fk":"cust","kind":"inner","set":{"amt":{"left":"amt"},"region":{"right":"region"}}},{"name":"totals","op":"sum","from":"e","by":"region","field":"amt"}],"print":["e","totals"]}
+{"topic":"customers","key":"c1","value":{"region":"eu"}}
+{"topic":"customers","key":"c2","value":{"region":"us"}}
+{"topic":"customers","key":"c3","value":{"region":"eu"}}
+{"topic":"orders","key":"o1","value":{"cust":"c1","amt":10}}
+{"topic":"orders","key":"o2","value":{"cust":"c2","amt":20}}
+{"topic":"orders","key":"o3","value":{"cust":"c3","amt":30}}
+{"topic":"orders","key":"o4","value":{"cust":"c9","amt":40}}
+{"topic":"orders","key":"o5","value":{"cust":"c1","amt":50}}
+{"topic":"orders","key":"o6","value":{"cust":"c2","amt":60}}
+{"topic":"customers","key":"c3","value":{"region":"us"}}
+{"topic":"orders","key":"o5","value":null}
+{"topic":"orders","key":"o2","value":{"cust":"c1","amt":25}}
+"#;
+
+pub const TOTALS_SHOWN: &str = r#"settled
+table e 4
+["o1",{"amt":10,"region":"eu"}]
+["o2",{"amt":25,"region":"eu"}]
+["o3",{"amt":30,"region":"us"}]
+["o6",{"amt":60,"region":"us"}]
+table totals 2
+["eu",{"sum":35}]
+["us",{"sum":90}]
+"#;
+
+/// Jobs with what they print.
+const SETTLED: &[(&str, &str)] = &[
+    (
+        TABLE_JOB,
         r#"settled
 table x 1
 ["b",{"n":3}]
@@ -132,33 +164,7 @@ table w 3
 ["k",10,{"count":1}]
 "#,
     ),
-    // Totals of joined orders, in several partitions.
-    (
-        r#"{"app":"s","topics":{"customers":2,"orders":4},"nodes":[{"name":"o","op":"table","topic":"orders"},{"name":"c","op":"table","topic":"customers"},{"name":"e","op":"fk_join","left":"o","right":"c","fk":"cust","kind":"inner","set":{"amt":{"left":"amt"},"region":{"right":"region"}}},{"name":"totals","op":"sum","from":"e","by":"region","field":"amt"}],"print":["e","totals"]}
-{"topic":"customers","key":"c1","value":{"region":"eu"}}
-{"topic":"customers","key":"c2","value":{"region":"us"}}
-{"topic":"customers","key":"c3","value":{"region":"eu"}}
-{"topic":"orders","key":"o1","value":{"cust":"c1","amt":10}}
-{"topic":"orders","key":"o2","value":{"cust":"c2","amt":20}}
-{"topic":"orders","key":"o3","value":{"cust":"c3","amt":30}}
-{"topic":"orders","key":"o4","value":{"cust":"c9","amt":40}}
-{"topic":"orders","key":"o5","value":{"cust":"c1","amt":50}}
-{"topic":"orders","key":"o6","value":{"cust":"c2","amt":60}}
-{"topic":"customers","key":"c3","value":{"region":"us"}}
-{"topic":"orders","key":"o5","value":null}
-{"topic":"orders","key":"o2","value":{"cust":"c1","amt":25}}
-"#,
-        r#"settled
-table e 4
-["o1",{"amt":10,"region":"eu"}]
-["o2",{"amt":25,"region":"eu"}]
-["o3",{"amt":30,"region":"us"}]
-["o6",{"amt":60,"region":"us"}]
-table totals 2
-["eu",{"sum":35}]
-["us",{"sum":90}]
-"#,
-    ),
+    (TOTALS, TOTALS_SHOWN),
     // A table joined with itself.
     (
         r#"{"app":"a","topics":{"staff":1},"nodes":[{"name":"s","op":"table","topic":"staff"},{"name":"m","op":"fk_join","left":"s","right":"s","fk":"boss","kind":"left","set":{"boss":{"right":"name"},"name":{"left":"name"}}}],"print":["m"]}
@@ -296,6 +302,51 @@ const FAULTY: &[(&str, &str)] = &[
 "#,
         "bad job line 1: 16 SinkOnly \"v\"\n",
     ),
+    // A blank line counts.
+    (
+        r#"{"app":"a","topics":{"t":1},"nodes":[{"name":"x","op":"table","topic":"t"}],"print":["x"]}
+
+[1]
+"#,
+        "bad job line 3: 21 BadShape \"line\"\n",
+    ),
+    (
+        r#"{"app":"a","topics":{"t":1},"nodes":[{"name":"x","op":"table","topic":"t"}],"print":["x"]}
+{"topic":"t","key":"","value":null}
+"#,
+        "bad job line 2: 21 BadShape \"key\"\n",
+    ),
+    // A row without fields; one of a truth value.
+    (
+        r#"{"app":"a","topics":{"t":1},"nodes":[{"name":"x","op":"table","topic":"t"}],"print":["x"]}
+{"topic":"t","value":{"n":null}}
+"#,
+        "bad job line 2: 21 BadShape \"value\"\n",
+    ),
+    (
+        r#"{"app":"a","topics":{"t":1},"nodes":[{"name":"x","op":"table","topic":"t"}],"print":["x"]}
+{"topic":"t","value":{"n":true}}
+"#,
+        "bad job line 2: 21 BadShape \"n\"\n",
+    ),
+    (
+        r#"{"app":"a","topics":{"t":1},"nodes":[{"name":"x","op":"table","topic":"t"}],"print":["x"]}
+{"topic":"t","value":{"n":1.5}}
+"#,
+        "bad job line 2: 22 BadNumber \"n\"\n",
+    ),
+    (
+        r#"{"app":"a","topics":{"t":1},"nodes":[{"name":"x","op":"table","topic":"t"}],"print":["x"]}
+{"topic":"t","value":null,"ts":-1}
+"#,
+        "bad job line 2: 22 BadNumber \"ts\"\n",
+    ),
+    // A predicate of depth 17.
+    (
+        r#"{"app":"a","topics":{"t":1},"nodes":[{"name":"x","op":"table","topic":"t"},{"name":"f","op":"filter","from":"x","where":{"not":{"not":{"not":{"not":{"not":{"not":{"not":{"not":{"not":{"not":{"not":{"not":{"not":{"not":{"not":{"has":{"field":"a"}}}}}}}}}}}}}}}}}}],"print":["f"]}
+"#,
+        "bad job line 1: 14 TooMany depth 16\n",
+    ),
 ];
 
 const TABLE: &str =
@@ -329,6 +380,7 @@ const OTHERS: &[Run] = &[
             sizes: &[TABLE.len()],
             takes: &[1],
             puts: &[],
+            width: 0,
         },
         status: 6,
         output: "read fault\n",
@@ -341,9 +393,37 @@ const OTHERS: &[Run] = &[
             sizes: &[],
             takes: &[],
             puts: &[0],
+            width: 0,
         },
         status: 7,
         output: "",
+    },
+    // A sink that takes five bytes at a time, and fails at the fourth call; one that takes a byte.
+    Run {
+        words: RUN,
+        input: TABLE_JOB,
+        spaces: 0,
+        devices: Devices {
+            sizes: &[],
+            takes: &[],
+            puts: &[3],
+            width: 5,
+        },
+        status: 7,
+        output: "settled\ntable x",
+    },
+    Run {
+        words: RUN,
+        input: TABLE_JOB,
+        spaces: 0,
+        devices: Devices {
+            sizes: &[],
+            takes: &[],
+            puts: &[],
+            width: 1,
+        },
+        status: 0,
+        output: "settled\ntable x 1\n[\"b\",{\"n\":3}]\n",
     },
     // The source isn't asked again once a faulty line is whole, nor after its end.
     Run {
@@ -354,6 +434,7 @@ const OTHERS: &[Run] = &[
             sizes: &[2],
             takes: &[1],
             puts: &[],
+            width: 0,
         },
         status: 2,
         output: "bad job line 1: 20 NotJson\n",
@@ -366,6 +447,7 @@ const OTHERS: &[Run] = &[
             sizes: &[],
             takes: &[2, 3],
             puts: &[],
+            width: 0,
         },
         status: 0,
         output: "settled\ntable x 0\n",

@@ -23,12 +23,14 @@ pub struct Run<'a> {
     pub output: &'a str,
 }
 
-/// How the input comes and the output goes: the sizes of the first pieces, and the numbers of the takes and puts that fail.
+/// How the input comes and the output goes: the sizes of the first pieces, the numbers of the takes and puts that fail, and how many bytes a
+/// put takes at most (0: all).
 #[derive(Clone, Copy)]
 pub struct Devices<'a> {
     pub sizes: &'a [usize],
     pub takes: &'a [u64],
     pub puts: &'a [u64],
+    pub width: u32,
 }
 
 /// The input in one piece, and no fault.
@@ -36,6 +38,7 @@ pub const WHOLE: Devices<'static> = Devices {
     sizes: &[],
     takes: &[],
     puts: &[],
+    width: 0,
 };
 
 // Sixteen gates without acts.
@@ -63,6 +66,14 @@ fn source_of(alloc: Global, run: &Run, sizes: Vec<usize>) -> Result<MemSource, A
     Ok(MemSource::new(bytes, sizes, run.devices.takes.to_vec(alloc)?))
 }
 
+fn sink_of(alloc: Global, devices: &Devices) -> Result<MemSink, AllocError> {
+    let failing = devices.puts.to_vec(alloc)?;
+    if devices.width == 0 {
+        return Ok(MemSink::new(alloc, failing));
+    }
+    Ok(MemSink::narrow(alloc, devices.width, failing))
+}
+
 fn expect_by<R: Threads + Wait + Sync + Abort>(
     rt: &R,
     alloc: Global,
@@ -71,7 +82,7 @@ fn expect_by<R: Threads + Wait + Sync + Abort>(
 ) -> Result<(), Fail> {
     let words = texts(alloc, run.words)?;
     let mut input = source_of(alloc, run, sizes)?;
-    let mut out = MemSink::new(alloc, run.devices.puts.to_vec(alloc)?);
+    let mut out = sink_of(alloc, &run.devices)?;
     let ended = top(rt, alloc, &words, &mut input, &mut out, gates(alloc)?);
     assert_eq!(rt; out.held(), run.output.as_bytes());
     assert_eq!(rt; ended.status, run.status);
@@ -88,6 +99,45 @@ pub fn expect<R: Threads + Wait + Sync + Abort>(
     if run.devices.sizes.is_empty() && run.devices.takes.is_empty() {
         expect_by(rt, alloc, run, vec![in alloc; 1usize; 70_000]?)?;
     }
+    Ok(())
+}
+
+/// A job's bytes, which come in pieces of one size (0: in one piece) from a source that may fail at one call, with what it has to give.
+#[derive(Clone, Copy)]
+pub struct Piece<'a> {
+    pub input: &'a [u8],
+    pub size: usize,
+    pub failing: Option<u64>,
+    pub status: u8,
+    pub output: &'a str,
+}
+
+// The source of a piece.
+fn piece_source(alloc: Global, piece: &Piece) -> Result<MemSource, AllocError> {
+    let bytes = Vec::from_slice(alloc, piece.input)?;
+    let mut sizes = Vec::new(alloc);
+    if piece.size != 0 {
+        sizes = vec![in alloc; piece.size; piece.input.len()]?;
+    }
+    let mut takes = Vec::new(alloc);
+    if let Some(call) = piece.failing {
+        takes.push(call)?;
+    }
+    Ok(MemSource::new(bytes, sizes, takes))
+}
+
+/// The bytes give their output.
+pub fn expect_piece<R: Threads + Wait + Sync + Abort>(
+    rt: &R,
+    alloc: Global,
+    piece: &Piece,
+) -> Result<(), Fail> {
+    let words = texts(alloc, &["run"])?;
+    let mut input = piece_source(alloc, piece)?;
+    let mut out = MemSink::new(alloc, Vec::new(alloc));
+    let ended = top(rt, alloc, &words, &mut input, &mut out, gates(alloc)?);
+    assert_eq!(rt; out.held(), piece.output.as_bytes());
+    assert_eq!(rt; ended.status, piece.status);
     Ok(())
 }
 

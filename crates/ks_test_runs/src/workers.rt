@@ -1,8 +1,9 @@
 //! Runs in which a worker takes part.
 ghost use Rattle.std.specs.Prelude.{◌≡◌, IfOk, length, Some};
 ghost use Rattle.ks_words.specs.Grammar.{usual};
+ghost use Rattle.ks_words.specs.Ranges.{HasRanges};
 
-use ks_edge::{Act, Gate, MemSink, MemSource, ScriptGate, SteadyGate};
+use ks_edge::{Gate, MemSink, MemSource, SteadyGate};
 use ks_hash::{Constant, Hash128, Murmur3};
 use ks_history::{Entry, Reply, Request};
 use ks_run::{Ended, run_job};
@@ -29,15 +30,6 @@ const COLLISION: &str =
 {"topic":"orders","key":"o1","value":{"cust":"c1","amt":6}}
 "#;
 
-/// The first worker reads both topics and commits in its third turn.
-const ACTS: &[Act] = &[
-    Act::Work(0),
-    Act::Work(0),
-    Act::Commit,
-    Act::Work(0),
-    Act::Commit,
-];
-
 // Sixteen gates that work by the rule.
 fn steady_gates(alloc: Global) -> Result<Vec<Box<dyn Gate + Send>>, AllocError>
     ensures { IfOk result (λ gates. length gates.items ≡ 16) }
@@ -49,21 +41,8 @@ fn steady_gates(alloc: Global) -> Result<Vec<Box<dyn Gate + Send>>, AllocError>
     Ok(gates)
 }
 
-// Sixteen gates with these acts, which are cut off at this step of this turn.
-fn cut_gates(alloc: Global, turn: u64, step: u32) -> Result<Vec<Box<dyn Gate + Send>>, AllocError>
-    ensures { IfOk result (λ gates. length gates.items ≡ 16) }
-{
-    let mut gates: Vec<Box<dyn Gate + Send>> = Vec::new(alloc);
-    for _ in 0..16usize {
-        let mut cuts = Vec::new(alloc);
-        cuts.push((turn, step))?;
-        gates.push(Box::new(alloc, ScriptGate::new(ACTS.to_vec(alloc)?, cuts))?)?;
-    }
-    Ok(gates)
-}
-
-// The usual settings, with at most 1,000 turns.
-fn limited() -> Settings
+/// The usual settings, with at most 1,000 turns.
+pub fn limited() -> Settings
     ensures { result ≡ record usual { stop = Some 1000 } }
 {
     let mut settings = Settings::usual();
@@ -71,21 +50,32 @@ fn limited() -> Settings
     settings
 }
 
-fn run_with<H: Hash128 + Send + Sync, R: Threads + Wait + Sync + Abort>(
+/// The usual settings, with two threads.
+pub fn two_threads() -> Settings
+    ensures { result ≡ record usual { threads = 2 } }
+{
+    let mut settings = Settings::usual();
+    settings.threads = 2;
+    settings
+}
+
+/// How the run of a job ended that printed this.
+pub fn run_with<H: Hash128 + Send + Sync, R: Threads + Wait + Sync + Abort>(
     rt: &R,
     alloc: Global,
+    settings: &Settings,
     job: &str,
     gates: Vec<Box<dyn Gate + Send>>,
     output: &str,
 ) -> Result<Ended, Fail>
+    requires settings { HasRanges settings.now }
     requires gates { length gates.items ≡ 16 }
 {
     let bytes = Vec::from_slice(alloc, job.as_bytes())?;
     let mut input = MemSource::new(bytes, Vec::new(alloc), Vec::new(alloc));
     let mut out = MemSink::new(alloc, Vec::new(alloc));
-    let settings = limited();
     let ended = run_job::<H, R, MemSource, MemSink>(
-        rt, alloc, &settings, &mut input, &mut out, gates,
+        rt, alloc, settings, &mut input, &mut out, gates,
     );
     assert_eq!(rt; out.held(), output.as_bytes());
     Ok(ended)
@@ -127,7 +117,8 @@ fn count(entries: &[Entry]) -> (usize, usize) {
 fn a_worker_settles_a_job(rt: HostRuntime) -> Result<(), Fail> {
     let alloc = rt.alloc();
     let gates = steady_gates(alloc)?;
-    let ended = run_with::<Murmur3, HostRuntime>(&rt, alloc, ORDER, gates, SHOWN)?;
+    let settings = limited();
+    let ended = run_with::<Murmur3, HostRuntime>(&rt, alloc, &settings, ORDER, gates, SHOWN)?;
     assert_eq!(rt; ended.status, 0);
     let (commits, appends) = count(ended.journal.as_slice());
     assert!(rt; commits > 0);
@@ -136,24 +127,11 @@ fn a_worker_settles_a_job(rt: HostRuntime) -> Result<(), Fail> {
     let ended = run_with::<Constant, HostRuntime>(
         &rt,
         alloc,
+        &settings,
         COLLISION,
         gates,
         "collision e \"o1\" 0 1\n",
     )?;
     assert_eq!(rt; ended.status, 5);
-    Ok(())
-}
-
-/// Wherever the worker is cut off, the drain brings the same tables.
-#[test]
-fn a_worker_is_cut_off_at_each_step(rt: HostRuntime) -> Result<(), Fail> {
-    let alloc = rt.alloc();
-    for turn in 1..6u64 {
-        for step in 0..14u32 {
-            let gates = cut_gates(alloc, turn, step)?;
-            let ended = run_with::<Murmur3, HostRuntime>(&rt, alloc, ORDER, gates, SHOWN)?;
-            assert_eq!(rt; ended.status, 0);
-        }
-    }
     Ok(())
 }

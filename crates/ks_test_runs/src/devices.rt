@@ -1,0 +1,61 @@
+//! Inputs that end early and sources that fail, wherever that is.
+use crate::rows::TABLE_JOB;
+use crate::runs::{Piece, expect_piece};
+use crate::workers::{ORDER, SHOWN};
+use std::test::Fail;
+
+const NONE_JOINED: &str = "settled\ntable e 0\n";
+
+/// What the front of the job is answered, and its status: a line that is cut off is no JSON, and what ends with a line is a job.
+fn answer_to(front: &[u8], job: &[u8]) -> (u8, &'static str) {
+    let mut line: u32 = 1;
+    let mut begun = false;
+    for byte in front {
+        begun = *byte != b'\n';
+        if !begun {
+            line = line.saturating_add(1);
+        }
+    }
+    let is_whole = !begun || job.get(front.len()) == Some(&b'\n');
+    match (front.is_empty(), is_whole, line) {
+        (true, _, _) => (2, "bad job line 1: 25 NoTopology\n"),
+        (_, true, 3) if begun => (0, SHOWN),
+        (_, true, _) => (0, NONE_JOINED),
+        (_, _, 1) => (2, "bad job line 1: 20 NotJson\n"),
+        (_, _, 2) => (2, "bad job line 2: 20 NotJson\n"),
+        (_, _, _) => (2, "bad job line 3: 20 NotJson\n"),
+    }
+}
+
+#[test]
+fn a_job_ends_anywhere(rt: HostRuntime) -> Result<(), Fail> {
+    let job = ORDER.as_bytes();
+    for length in 0..job.len() {
+        let (status, output) = answer_to(&job[..length], job);
+        let piece = Piece {
+            input: &job[..length],
+            size: 0,
+            failing: None,
+            status,
+            output,
+        };
+        expect_piece(&rt, rt.alloc(), &piece)?;
+    }
+    Ok(())
+}
+
+#[test]
+fn a_source_fails_anywhere(rt: HostRuntime) -> Result<(), Fail> {
+    let job = TABLE_JOB.as_bytes();
+    for call in 0..job.len() as u64 {
+        let piece = Piece {
+            input: job,
+            size: 1,
+            failing: Some(call),
+            status: 6,
+            output: "read fault\n",
+        };
+        expect_piece(&rt, rt.alloc(), &piece)?;
+    }
+    Ok(())
+}

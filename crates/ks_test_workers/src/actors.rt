@@ -1,0 +1,97 @@
+//! A worker that is told from outside when to take a turn.
+ghost use Rattle.std.specs.Prelude.{◌≡◌, ◌≤◌, OnOk};
+ghost use Rattle.ks_topo.specs.Topologies.{draft_of};
+ghost use Rattle.ks_worker.specs.Beginning.{MayRun};
+ghost use Rattle.ks_test_workers.specs.Pairs.{pass_key, IsEnlisted};
+
+use ks_assign::Placing;
+use ks_cluster::Work;
+use ks_edge::{Act, Gate};
+use ks_growing::Pass;
+use ks_hash::Hash128;
+use ks_shared::{Shared, SharedState};
+use ks_topo::Topology;
+use ks_worker::Worker;
+use std::alloc::{AllocError, Global};
+use std::sync::Wait;
+use std::sync::atomic::AtomicBool;
+
+/// A worker, and how many more turns and acts it has at most.
+#[derive(Drop)]
+pub struct Actor<W: Work, G: Gate> {
+    pub worker: Worker<W, G>,
+    pub left: u64,
+}
+
+/// A worker of this number that did nothing yet, whose gate begins for it.
+pub fn new_actor<W: Work, G: Gate>(
+    alloc: Global,
+    number: u8,
+    instance: u8,
+    placing: Placing,
+    mut gate: G,
+    pass: Pass<SharedState<W>>,
+) -> Actor<W, G>
+    requires number { number ≤ 15 }
+    requires instance { instance ≤ 3 }
+    ensures pass { result.worker.state.session.client.pass ≡ pass }
+    ensures enlisted { IsEnlisted result.worker.state }
+    ensures placing { result.worker.placing ≡ placing }
+    ensures left { result.left ≡ 1000 }
+{
+    gate.reset(number, None, 100);
+    let worker = Worker::new(alloc, number, instance, placing, gate, pass);
+    Actor { worker, left: 1000 }
+}
+
+impl<W: Work, G: Gate> Actor<W, G> {
+    /// Takes one turn, whose act its gate says; nothing where none is left.
+    pub fn take_turn<H: Hash128, R: Wait>(
+        &mut self,
+        rt: &R,
+        alloc: Global,
+        topology: &Topology,
+        shared: &Shared<W>,
+    ) -> Result<(), AllocError>
+        requires may { MayRun W.plan W.good H.hash_of shared.now.growing.id (draft_of topology.now)
+            self.old.worker.placing self.old.left self.old.worker.state }
+        ensures may { OnOk result (MayRun W.plan W.good H.hash_of shared.now.growing.id (draft_of topology.now)
+            self.new.worker.placing self.new.left self.new.worker.state) }
+        ensures pass { pass_key self.new.worker.state.session.client.pass
+            ≡ pass_key self.old.worker.state.session.client.pass }
+    {
+        if self.left == 0 {
+            return Ok(());
+        }
+        let feeding = AtomicBool::new(false);
+        self.worker
+            .run::<H, R>(rt, alloc, topology, shared, 1, &feeding)?;
+        self.left -= 1;
+        Ok(())
+    }
+
+    /// Does this act, outside of a turn; nothing where none is left.
+    pub fn perform<H: Hash128, R: Wait>(
+        &mut self,
+        rt: &R,
+        alloc: Global,
+        topology: &Topology,
+        shared: &Shared<W>,
+        act: Act,
+    ) -> Result<(), AllocError>
+        requires may { MayRun W.plan W.good H.hash_of shared.now.growing.id (draft_of topology.now)
+            self.old.worker.placing self.old.left self.old.worker.state }
+        ensures may { OnOk result (MayRun W.plan W.good H.hash_of shared.now.growing.id (draft_of topology.now)
+            self.new.worker.placing self.new.left self.new.worker.state) }
+        ensures pass { pass_key self.new.worker.state.session.client.pass
+            ≡ pass_key self.old.worker.state.session.client.pass }
+    {
+        if self.left == 0 {
+            return Ok(());
+        }
+        self.worker
+            .perform::<H, R>(rt, alloc, topology, shared, act)?;
+        self.left -= 1;
+        Ok(())
+    }
+}

@@ -1,0 +1,152 @@
+//! A whole run of a scene: the job is read, its workers do what the scene says, and the cluster is drained.
+ghost use Rattle.std.specs.Prelude.{◌≡◌, ◌≤◌, ◌∷◌, [], Some, length, map};
+ghost use Rattle.ks_plan.specs.Drafts.{draft_view};
+ghost use Rattle.ks_plan.specs.Layout.{parts_of_topic, topics_of};
+ghost use Rattle.ks_topo.specs.Topologies.{draft_of, plan_in};
+ghost use Rattle.ks_job.specs.Items.{item_views};
+ghost use Rattle.ks_law_inputs.specs.Records.{HavePartitions, AreRecords};
+ghost use Rattle.ks_law_topology.specs.Work.{work_of, setup_of as topology_setup};
+ghost use Rattle.ks_nodes.specs.Rules.{HaveParts, rules_of};
+ghost use Rattle.ks_cluster.specs.View.{setup_of};
+ghost use Rattle.ks_commit.specs.Everything.{everything, IsGoodForAll};
+ghost use Rattle.ks_task.specs.Placing.{placed_by};
+ghost use Rattle.ks_settle.specs.Drained.{drain_worker};
+ghost use Rattle.ks_test_workers.specs.Jobs.{IsJobOf};
+
+use crate::crews::play;
+use crate::jobs::{Job, read_text};
+use crate::scenes::Scene;
+use crate::telling::lines;
+use ks_cluster::{Cluster, Work};
+use ks_feed::counts_of;
+use ks_hash::Hash128;
+use ks_history::{Entry, Reply, Request};
+use ks_job::JobItem;
+use ks_output::print_settled;
+use ks_settle::drain;
+use ks_tables::tables;
+use ks_task::{TaskWork, everything_is_good};
+use ks_topo::{Topology, share_topology};
+use std::alloc::{AllocError, Global};
+use std::process::Abort;
+use std::sync::Wait;
+use std::test::Fail;
+use std::thread::Threads;
+
+/// What a scene came to.
+#[derive(Drop)]
+pub struct Played {
+    /// The lines of the journal that it shows, before the drain.
+    pub lines: Vec<u8>,
+    /// How many lists of records the drain appended.
+    pub appends: usize,
+    /// The tables after the drain.
+    pub text: Vec<u8>,
+}
+
+// How many appends of worker 16, the drain, were accepted.
+fn count_appends(entries: &[Entry]) -> usize {
+    let mut appends: usize = 0;
+    for entry in entries {
+        if let Request::Append { w, .. } = &entry.request {
+            if let Reply::Number(_) = &entry.reply {
+                if *w == 16 {
+                    appends = appends.saturating_add(1);
+                }
+            }
+        }
+    }
+    appends
+}
+
+// Drains a cluster after its workers ended.
+fn end_play<H: Hash128 + Sync, R: Threads + Wait + Sync, W: Work + Sync>(
+    rt: &R,
+    alloc: Global,
+    topology: &Topology,
+    mut cluster: Cluster<W>,
+) -> Result<Played, AllocError>
+    requires setup { setup_of W.plan cluster ≡ topology_setup (rules_of H.hash_of) (plan_in topology.now) }
+    requires parts { HaveParts (plan_in topology.now) }
+    requires alone { IsGoodForAll (W.good cluster.work) (drain_worker ∷ []) (everything drain_worker cluster.tasks) }
+    requires counts { cluster.counts ≡ map (parts_of_topic (plan_in topology.now)) (topics_of (plan_in topology.now)) }
+{
+    let lines = lines(alloc, cluster.journal())?;
+    drain::<H, R, W>(rt, alloc, topology, &mut cluster)?;
+    let appends = count_appends(cluster.journal());
+    let tables = tables(rt, alloc, topology, &cluster)?;
+    let text = print_settled(rt, alloc, tables)?;
+    Ok(Played {
+        lines,
+        appends,
+        text,
+    })
+}
+
+// The run of a scene over a job's tasks.
+fn play_tasks<H: Hash128 + Sync, R: Threads + Wait + Sync + Abort, W: Work + Sync>(
+    rt: &R,
+    alloc: Global,
+    topology: &Topology,
+    work: W,
+    records: Vec<JobItem>,
+    scene: &Scene,
+) -> Result<Played, Fail>
+    requires work { W.plan work ≡ work_of (rules_of H.hash_of) (plan_in topology.now) }
+    requires good { W.good work ≡ placed_by (plan_in topology.now) (Some scene.now.placing) }
+    requires threads { 1 ≤ scene.now.placing.threads }
+    requires partitions { HavePartitions (draft_of topology.now).topics }
+    requires records { AreRecords (length (draft_of topology.now).topics) (item_views records.items) }
+{
+    let _nodes = topology.nodes();
+    everything_is_good();
+    let counts = counts_of(alloc, topology.topics())?;
+    let kept = Vec::from_slice(alloc, counts.as_slice())?;
+    let tasks = Vec::from_slice(alloc, topology.tasks())?;
+    let empty = Cluster::new(alloc, work, kept, tasks)?;
+    let cluster = play::<H, R, W>(
+        rt,
+        alloc,
+        topology,
+        empty,
+        counts.as_slice(),
+        records,
+        scene,
+    )?;
+    Ok(end_play::<H, R, W>(rt, alloc, topology, cluster)?)
+}
+
+// The run of a scene over a job that was read; none where its topology has a fault.
+fn play_read<H: Hash128 + Sync + Send, R: Threads + Wait + Sync + Abort>(
+    rt: &R,
+    alloc: Global,
+    job: Job,
+    scene: &Scene,
+) -> Result<Option<Played>, Fail>
+    requires job { IsJobOf (draft_view job.draft) (item_views job.records.items) }
+    requires threads { 1 ≤ scene.now.placing.threads }
+{
+    let Job { draft, records } = job;
+    let Ok(topology) = Topology::build(alloc, draft)? else {
+        return Ok(None);
+    };
+    share_topology();
+    let work = TaskWork::<H>::new(&topology, Some(scene.placing));
+    let played = play_tasks::<H, R, TaskWork<H>>(rt, alloc, &topology, work, records, scene)?;
+    Ok(Some(played))
+}
+
+/// The run of a scene over a job; none where the text is no job, or its topology has a fault.
+pub fn play_job<H: Hash128 + Sync + Send, R: Threads + Wait + Sync + Abort>(
+    rt: &R,
+    alloc: Global,
+    job: &str,
+    scene: &Scene,
+) -> Result<Option<Played>, Fail>
+    requires threads { 1 ≤ scene.now.placing.threads }
+{
+    match read_text(alloc, job)? {
+        Some(job) => play_read::<H, R>(rt, alloc, job, scene),
+        None => Ok(None),
+    }
+}
