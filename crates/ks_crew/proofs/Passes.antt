@@ -1,6 +1,6 @@
 -- The passes that workers give back are those that they had.
-use Rattle.std.proofs.Common.{◌≡◌, ℕ, zero, suc, ◌+◌, ◌<◌, false, Bool, List, [], ◌∷◌, ◌++◌, take, drop, map, length, append-nil, refl, sym, ap, subst, ◌∙◌, arith}
-use Rattle.std.specs.Prelude.{Some, slice_get, slice_index_or, option_map}
+use Rattle.std.proofs.Common.{◌≡◌, ℕ, zero, suc, ◌+◌, ◌<◌, false, Bool, List, [], ◌∷◌, ◌++◌, take, drop, filter, map, length, append-nil, refl, sym, ap, ap₂, subst, ◌∙◌, arith}
+use Rattle.std.specs.Prelude.{Option, Some, slice_get, slice_index_or, option_map}
 use Rattle.std.proofs.lemmas.Option.{slice_get-map}
 use Rattle.std.proofs.lemmas.List.{take_all, drop_all}
 use mathlib.Core.Option.{some, some-injective, some-ne-none}
@@ -9,7 +9,20 @@ use Rattle.atomic_table.specs.Seated.{TableId}
 use Rattle.ks_history.specs.declared.journal.Entry.{Entry}
 use Rattle.ks_growing.specs.Passes.{PassView, IsPass, Each}
 use Rattle.ks_shared.specs.declared.state.Frame.{Frame}
-use Rattle.ks_crew.specs.Members.{pass_key, ArePasses}
+use Rattle.ks_shared.specs.Calls.{frame_of}
+use Rattle.ks_shared.specs.Reserved.{is_callers}
+use Rattle.ks_cluster.specs.View.{ClusterView}
+use Rattle.ks_job_source.specs.declared.rest.JobEnd.{JobEnd}
+use Rattle.ks_feed.specs.declared.feeding.Feeder.{Feeder}
+use Rattle.ks_feed.specs.Feeding.{HasFed}
+use Rattle.ks_feed.proofs.Produced.{same_produces, same_drains, filled}
+use Rattle.ks_feed.specs.declared.feeding.Intake.{Intake}
+use Rattle.ks_feed.specs.Placing.{placed_all}
+use Rattle.ks_law_settled.specs.Jobs.{produces}
+use Rattle.ks_job.specs.Items.{item_views}
+use Rattle.ks_job_source.specs.Opening.{EndsFrom}
+use Rattle.ks_crew.specs.Members.{pass_key, HaveKeys, ArePasses}
+use Rattle.ks_crew.specs.Ready.{HasClosed, HasWorked}
 
 same_list : {B : Type 0} (xs ys : List B) → ((i : ℕ) → slice_get xs i ≡ slice_get ys i) → xs ≡ ys
 same_list [] [] h = refl
@@ -66,18 +79,48 @@ written_back len new items long is =
     ∙ ap (take len) (append-nil new)
     ∙ take_all len new (omega (arith, long, is))
 
+-- a vector whose slice was changed has the passes of that slice
+pub keys_back : {A E F : Type 0} (pass : A → PassView E F) (items old new : List A) (len : ℕ) → old ≡ items → len ≡ length items → HaveKeys pass old new → HaveKeys pass items (take len (new ++ drop (length new) items))
+keys_back pass items old new len at_first sized keys =
+    let same : map (λ w. pass_key (pass w)) new ≡ map (λ w. pass_key (pass w)) items = keys ∙ ap (map (λ w. pass_key (pass w))) at_first in
+    ap (map (λ w. pass_key (pass w))) (written_back len new items (keys_length (λ w. pass_key (pass w)) new items same) sized) ∙ same
+
 -- all passes of a lock, after the workers ran
-pub closing : {A W : Type 0} (lock : TableId) (count len : ℕ) (pass : A → PassView Entry (Frame W)) (first : PassView Entry (Frame W)) (items old new : List A) (all : List (PassView Entry (Frame W))) →
-    all ≡ first ∷ map pass (take len (new ++ drop (length new) items)) → old ≡ items → len ≡ length items →
-    ((i : ℕ) → option_map (λ w. pass_key (pass w)) (slice_get new i) ≡ option_map (λ w. pass_key (pass w)) (slice_get old i)) →
-    IsPass lock 0 first → ArePasses lock (map pass items) → length items + 1 ≡ count → (length all ≡ count) × (0 < length all) × Each (IsPass lock) all
-closing {W = W} lock count len pass first items old new all is at_first sized same one more counted =
-    let keys : map (λ w. pass_key (pass w)) new ≡ map (λ w. pass_key (pass w)) items = same_keys (λ w. pass_key (pass w)) new old same ∙ ap (map (λ w. pass_key (pass w))) at_first in
+pub closing : {A W : Type 0} (lock : TableId) (count : ℕ) (pass : A → PassView Entry (Frame W)) (first : PassView Entry (Frame W)) (items new : List A) (all : List (PassView Entry (Frame W))) →
+    all ≡ first ∷ map pass new → HaveKeys pass items new → IsPass lock 0 first → ArePasses lock (map pass items) → length items + 1 ≡ count → (length all ≡ count) × (0 < length all) × Each (IsPass lock) all
+closing {W = W} lock count pass first items new all is keys one more counted =
     let passes : map pass_key (map pass new) ≡ map pass_key (map pass items) = map_twice pass pass_key new ∙ keys ∙ sym (map_twice pass pass_key items) in
     let long : length new ≡ length items = keys_length (λ w. pass_key (pass w)) new items keys in
-    let whole : all ≡ first ∷ map pass new = is ∙ ap (λ l. first ∷ map pass l) (written_back len new items long sized) in
-    subst (λ (l : List (PassView Entry (Frame W))). (length l ≡ count) × (0 < length l) × Each (IsPass lock) l) (sym whole)
+    subst (λ (l : List (PassView Entry (Frame W))). (length l ≡ count) × (0 < length l) × Each (IsPass lock) l) (sym is)
     (omega (arith, long, counted, map_long pass new), omega arith, all_passes lock first (map pass new) one (still_passes lock (map pass new) (map pass items) passes more))
+
+-- the workers' passes, after they ran
+pub passes_after : {A W : Type 0} (lock : TableId) (pass : A → PassView Entry (Frame W)) (items new : List A) → HaveKeys pass items new → ArePasses lock (map pass items) → ArePasses lock (map pass new)
+passes_after lock pass items new keys more = still_passes lock (map pass new) (map pass items) (map_twice pass pass_key new ∙ keys ∙ sym (map_twice pass pass_key items)) more
+
+pub members_after : {A W : Type 0} (pass : A → PassView Entry (Frame W)) (items new : List A) (count : ℕ) → HaveKeys pass items new → length items + 1 ≡ count → length new + 1 ≡ count
+members_after pass items new count keys counted = ap (λ n. n + 1) (keys_length (λ w. pass_key (pass w)) new items keys) ∙ counted
+
+-- what the closed cluster has, by what its first pass has seen
+pub closed : {W : Type 0} (first new : ClusterView W) (old fed : Feeder W) (left now : Option (List ℕ)) (e : JobEnd) → HasFed old fed left now e → frame_of new ≡ frame_of first →
+    filter is_callers new.journal ≡ filter is_callers fed.pass.seen → HasClosed first new old left now e
+closed first new old fed left now e h frame same = record {
+  items = h.items;
+  frame = frame;
+  produced = same_produces new.journal fed.pass.seen same ∙ h.produced.produced;
+  undrained = same_drains new.journal fed.pass.seen same ∙ h.produced.undrained;
+  ends = h.ends;
+}
+
+-- the same, of a cluster that was new
+pub worked : {W : Type 0} (old first new : ClusterView W) (intake : Intake) (feeder : Feeder W) (left now : Option (List ℕ)) (e : JobEnd) → old.journal ≡ [] → first ≡ old → feeder.pass.seen ≡ old.journal →
+    feeder.counts.items ≡ intake.counts.items → feeder.records.items ≡ intake.records.items → feeder.rest.standing ≡ intake.rest.standing → HasClosed first new feeder left now e → HasWorked old new intake left now e
+worked old first new intake feeder left now e empty is seen counts records standing h = record {
+  items = h.items;
+  filled = filled old first new feeder.pass.seen (placed_all intake.counts.items (item_views intake.records.items ++ h.items)) empty is seen h.frame
+      (h.produced ∙ ap₂ (λ cs is. produces feeder.pass.seen ++ placed_all cs (item_views is ++ h.items)) counts records) h.undrained;
+  ends = subst (λ s. EndsFrom s left now e h.items) standing h.ends;
+}
 
 pub first_is : {A : Type 0} (all rest : List A) (first : A) → all ≡ first ∷ rest → get_elem? all 0 ≡ some first
 first_is all rest first is = ap (λ l. get_elem? l 0) is

@@ -1,5 +1,5 @@
 -- The passes of a crew.
-use Rattle.std.specs.Prelude.{◌≡◌, ◌+◌, ◌≤◌, ℕ, Bool, List}
+use Rattle.std.specs.Prelude.{◌≡◌, ◌+◌, ◌≤◌, ℕ, Bool, List, map}
 use Rattle.atomic_table.specs.Seated.{TableId}
 use Rattle.ks_growing.specs.Passes.{PassView, IsPass, Each}
 use Rattle.ks_assign.specs.declared.clients.Placing.{Placing}
@@ -11,6 +11,10 @@ use Rattle.ks_worker.specs.Beginning.{IsNew}
 -- what a lock is closed by: a pass's lock, whether it holds the value, and its number
 abbrev pub pass_key : {E F : Type 0} → PassView E F → TableId × Bool × ℕ
 pass_key p = (p.lock, p.holds, p.number)
+
+-- the same passes in the same order, as far as a lock is closed by them
+abbrev pub HaveKeys : {A E F : Type 0} → (A → PassView E F) → List A → List A → Type 0
+HaveKeys pass old new = map (λ m. pass_key (pass m)) new ≡ map (λ m. pass_key (pass m)) old
 
 -- the passes 1, 2 and so on of a lock, which don't hold the value
 abbrev pub ArePasses : {E F : Type 0} → TableId → List (PassView E F) → Type 0

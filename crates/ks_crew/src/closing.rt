@@ -1,23 +1,27 @@
 //! A crew that works, and then closes the lock.
-ghost use Rattle.std.specs.Prelude.{◌≡◌, ◌+◌, ◌<◌, ◌∷◌, length, map, filter, IfOk};
+ghost use Rattle.std.specs.Prelude.{◌≡◌, ◌+◌, ◌<◌, ◌∷◌, filter, length, map, IfOk};
 ghost use Rattle.std.specs.List.{All};
-ghost use Rattle.ks_shared.specs.Reserved.{is_callers};
-ghost use Rattle.ks_growing.specs.Passes.{IsPass};
-ghost use Rattle.ks_shared.specs.Calls.{frame_of};
 ghost use Rattle.ks_topo.specs.Topologies.{draft_of};
 ghost use Rattle.ks_worker.specs.Beginning.{MayRun};
+ghost use Rattle.ks_growing.specs.Passes.{IsPass};
+ghost use Rattle.ks_shared.specs.Calls.{frame_of};
+ghost use Rattle.ks_shared.specs.Reserved.{is_callers};
+ghost use Rattle.ks_feed.specs.Feeding.{MayFeed, FaultsBy};
 ghost use Rattle.ks_crew.specs.Members.{ArePasses};
+ghost use Rattle.ks_crew.specs.Ready.{HasClosed};
 
-use crate::working::{CrewMember, work_together};
+use crate::beside::feed_and_work;
+use crate::working::{CrewMember, Shift};
 use ks_cluster::{Cluster, Work};
-use ks_edge::Gate;
+use ks_edge::{Gate, Source};
+use ks_feed::Feeder;
 use ks_growing::Pass;
 use ks_hash::Hash128;
+use ks_job_source::JobEnd;
 use ks_shared::{Shared, SharedState};
 use ks_topo::Topology;
 use std::alloc::{AllocError, Global};
 use std::sync::Wait;
-use std::sync::atomic::AtomicBool;
 use std::thread::Threads;
 
 // Whether one of them ran out of memory.
@@ -47,46 +51,64 @@ fn passes_of<W: Work, G: Gate>(
     Ok(passes)
 }
 
-/// Runs workers that have all passes of a lock but the first, closes the lock with all of them, and gives
-/// the cluster back: of its `produce` entries the first pass has seen each. Want of memory, also in a
-/// worker, is the one error; the cluster is let go then.
-pub fn work_and_close<
-    H: Hash128 + Sync,
-    R: Threads + Wait + Sync,
-    W: Work + Send + Sync,
-    G: Gate + Send,
->(
-    rt: &R,
+// Closes a lock with all its passes.
+fn close_with<W: Work, G: Gate>(
     alloc: Global,
-    topology: &Topology,
     shared: Shared<W>,
     first: Pass<SharedState<W>>,
-    mut members: Vec<CrewMember<W, G>>,
-    turns: u64,
+    members: Vec<CrewMember<W, G>>,
 ) -> Result<Cluster<W>, AllocError>
-    requires some { 0 < length members.items }
-    requires may { All (λ m. MayRun W.plan W.good H.hash_of shared.growing.id (draft_of topology.now)
-        m.worker.placing turns m.worker.state) members.items }
     requires first { IsPass shared.growing.id 0 first }
     requires passes { ArePasses shared.growing.id (map (λ m. m.worker.state.session.client.pass) members.items) }
     requires all { length members.items + 1 ≡ shared.growing.passes }
     ensures frame { IfOk result (λ c. frame_of c ≡ frame_of shared.growing.first) }
     ensures reserved { IfOk result (λ c. filter is_callers c.journal ≡ filter is_callers first.seen) }
 {
-    // All records are there before the first turn.
-    let feeding = AtomicBool::new(false);
-    work_together::<H, R, W, G>(
-        rt,
-        alloc,
-        topology,
-        &shared,
-        members.as_mut_slice(),
-        turns,
-        &feeding,
-    );
     if is_one_starved(members.as_slice()) {
         return Err(AllocError);
     }
     let passes = passes_of(alloc, first, members)?;
     Ok(shared.close(passes))
+}
+
+/// Feeds the records of a job through the first pass while workers that have all other passes of a lock take their turns, closes the lock with
+/// all of them, and gives the cluster back, and how the feed ended: of the caller's entries the first pass has seen each. Want of
+/// memory, also in a worker, is the one error; the cluster is let go then.
+pub fn work_and_close<
+    H: Hash128 + Sync,
+    R: Threads + Wait + Sync,
+    W: Work + Send + Sync,
+    G: Gate + Send,
+    S: Source,
+>(
+    rt: &R,
+    alloc: Global,
+    topology: &Topology,
+    shared: Shared<W>,
+    input: &mut S,
+    mut feeder: Feeder<W>,
+    mut members: Vec<CrewMember<W, G>>,
+    shift: Shift,
+) -> Result<(Cluster<W>, JobEnd), AllocError>
+    requires some { 0 < length members.items }
+    requires may { All (λ m. MayRun W.plan W.good H.hash_of shared.growing.id (draft_of topology.now)
+        m.worker.placing shift.turns m.worker.state) members.items }
+    requires feed { MayFeed W.plan shared.growing.id feeder }
+    requires passes { ArePasses shared.growing.id (map (λ m. m.worker.state.session.client.pass) members.items) }
+    requires all { length members.items + 1 ≡ shared.growing.passes }
+    ensures fed { IfOk result (λ r. HasClosed shared.growing.first r.0 feeder (S.left input.old) (S.left input.new) r.1) }
+    ensures faults { IfOk result (λ r. FaultsBy r.1 (S.faults input.old) (S.faults input.new)) }
+{
+    let end = feed_and_work::<H, R, W, G, S>(
+        rt,
+        alloc,
+        topology,
+        &shared,
+        input,
+        &mut feeder,
+        &mut members,
+        shift,
+    )?;
+    let cluster = close_with(alloc, shared, feeder.into_pass(), members)?;
+    Ok((cluster, end))
 }

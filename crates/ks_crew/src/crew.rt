@@ -1,21 +1,20 @@
 //! The whole crew of a run.
 ghost use Rattle.std.specs.Prelude.{◌≡◌, ◌<◌, ◌≤◌, ◌*◌, ℕ, length, IfOk};
 ghost use Rattle.ks_topo.specs.Topologies.{draft_of};
-ghost use Rattle.ks_job.specs.Items.{item_views};
 ghost use Rattle.ks_words.specs.Ranges.{HasRanges};
-ghost use Rattle.ks_feed.specs.Placing.{placed_all};
-ghost use Rattle.ks_feed.specs.Producing.{IsFilled};
+ghost use Rattle.ks_feed.specs.Feeding.{FaultsBy};
 ghost use Rattle.ks_crew.specs.Members.{placing_of};
-ghost use Rattle.ks_crew.specs.Ready.{IsReady};
+ghost use Rattle.ks_crew.specs.Ready.{IsReady, HasWorked};
 
 use crate::boxed_gate::{BoxedGate, box_gates};
 use crate::closing::work_and_close;
 use crate::enlisting::enlist;
+use crate::working::Shift;
 use ks_cluster::{Cluster, Work};
-use ks_edge::Gate;
-use ks_feed::{produce_all, split_first};
+use ks_edge::{Gate, Source};
+use ks_feed::{Feeder, Intake, split_first};
 use ks_hash::Hash128;
-use ks_job::JobItem;
+use ks_job_source::JobEnd;
 use ks_shared::Shared;
 use ks_topo::Topology;
 use ks_words::Settings;
@@ -56,54 +55,72 @@ fn turns_of(settings: &Settings) -> u64
 }
 
 // The same for gates of any type.
-fn run_gated<H: Hash128 + Sync, R: Threads + Wait + Sync, W: Work + Send + Sync, G: Gate + Send>(
+fn run_gated<
+    H: Hash128 + Sync,
+    R: Threads + Wait + Sync,
+    W: Work + Send + Sync,
+    G: Gate + Send,
+    S: Source,
+>(
     rt: &R,
     alloc: Global,
     topology: &Topology,
     cluster: Cluster<W>,
-    counts: &[u8],
-    items: Vec<JobItem>,
+    intake: Intake,
+    input: &mut S,
     crew: Crew<G>,
-) -> Result<Cluster<W>, AllocError>
-    requires ready { IsReady W.plan W.good H.hash_of (draft_of topology.now) cluster
-        counts.now (item_views items.items) (placing_of crew.settings) }
+) -> Result<(Cluster<W>, JobEnd), AllocError>
+    requires ready { IsReady W.plan W.good H.hash_of (draft_of topology.now) cluster intake (placing_of crew.settings) }
     requires settings { HasRanges crew.settings }
     requires gates { length crew.gates.items ≡ 16 }
-    ensures { IfOk result (λ c. IsFilled cluster c (placed_all counts.now (item_views items.items))) }
+    ensures worked { IfOk result (λ r. HasWorked cluster r.0 intake (S.left input.old) (S.left input.new) r.1) }
+    ensures faults { IfOk result (λ r. FaultsBy r.1 (S.faults input.old) (S.faults input.new)) }
 {
     let _nodes = topology.nodes();
     let Crew { settings, gates } = crew;
-    let turns = turns_of(&settings);
     let Ok((shared, passes)) = Shared::new(alloc, cluster, count_workers(&settings) + 1) else {
         return Err(AllocError);
     };
-    let (mut first, others) = split_first(passes);
-    produce_all(rt, alloc, &shared, counts, items, &mut first)?;
+    let (pass, others) = split_first(passes);
+    let Intake {
+        counts,
+        records,
+        rest,
+    } = intake;
+    let feeder = Feeder {
+        counts,
+        records,
+        rest,
+        pass,
+    };
     let members = enlist(alloc, &settings, gates, others)?;
-    work_and_close::<H, R, W, G>(rt, alloc, topology, shared, first, members, turns)
+    let shift = Shift {
+        turns: turns_of(&settings),
+        waits: settings.stop.is_some(),
+    };
+    work_and_close::<H, R, W, G, S>(rt, alloc, topology, shared, input, feeder, members, shift)
 }
 
-/// Puts a new cluster under a lock with a pass for the caller and one for each worker, produces all
-/// records among a job's items, lets the workers take their turns, each in a thread of its own where one
-/// can be made, and gives the cluster back: its journal has produced these records and no other. Want of
-/// memory, also in a worker, is the one error; the cluster is let go then.
-pub fn run_crew<H: Hash128 + Sync, R: Threads + Wait + Sync, W: Work + Send + Sync>(
+/// Puts a new cluster under a lock with a pass for the caller and one for each worker, feeds it all records of a job, lets the workers take their turns meanwhile, each
+/// in a thread of its own where one can be made, and gives the cluster back, and how reading the job ended: the journal has produced the records up to there and no other. Where
+/// the settings stop the workers, these begin after the last record. Want of memory, also in a worker, is the one error; the cluster is let go then.
+pub fn run_crew<H: Hash128 + Sync, R: Threads + Wait + Sync, W: Work + Send + Sync, S: Source>(
     rt: &R,
     alloc: Global,
     topology: &Topology,
     cluster: Cluster<W>,
-    counts: &[u8],
-    items: Vec<JobItem>,
+    intake: Intake,
+    input: &mut S,
     crew: Crew<Box<dyn Gate + Send>>,
-) -> Result<Cluster<W>, AllocError>
-    requires ready { IsReady W.plan W.good H.hash_of (draft_of topology.now) cluster
-        counts.now (item_views items.items) (placing_of crew.settings) }
+) -> Result<(Cluster<W>, JobEnd), AllocError>
+    requires ready { IsReady W.plan W.good H.hash_of (draft_of topology.now) cluster intake (placing_of crew.settings) }
     requires settings { HasRanges crew.settings }
     requires gates { length crew.gates.items ≡ 16 }
-    ensures { IfOk result (λ c. IsFilled cluster c (placed_all counts.now (item_views items.items))) }
+    ensures worked { IfOk result (λ r. HasWorked cluster r.0 intake (S.left input.old) (S.left input.new) r.1) }
+    ensures faults { IfOk result (λ r. FaultsBy r.1 (S.faults input.old) (S.faults input.new)) }
 {
     let Crew { settings, gates } = crew;
     let gates = box_gates(alloc, gates)?;
     let crew = Crew { settings, gates };
-    run_gated::<H, R, W, BoxedGate>(rt, alloc, topology, cluster, counts, items, crew)
+    run_gated::<H, R, W, BoxedGate, S>(rt, alloc, topology, cluster, intake, input, crew)
 }

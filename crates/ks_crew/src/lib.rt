@@ -1,6 +1,7 @@
 //! The workers of a run, on threads round one shared cluster.
 #![tactic(auto)]
 
+mod beside;
 mod boxed_gate;
 mod closing;
 mod crew;

@@ -1,9 +1,9 @@
 //! Workers that take their turns, each in a thread of its own.
-ghost use Rattle.std.specs.Prelude.{◌≡◌, ◌<◌, ℕ, length, slice_get, option_map};
+ghost use Rattle.std.specs.Prelude.{◌≡◌, ◌<◌, length};
 ghost use Rattle.std.specs.List.{All};
 ghost use Rattle.ks_topo.specs.Topologies.{draft_of};
 ghost use Rattle.ks_worker.specs.Beginning.{MayRun};
-ghost use Rattle.ks_crew.specs.Members.{pass_key};
+ghost use Rattle.ks_crew.specs.Members.{pass_key, HaveKeys};
 
 use ks_cluster::Work;
 use ks_edge::Gate;
@@ -22,6 +22,15 @@ use std::thread::Threads;
 pub struct CrewMember<W: Work, G: Gate> {
     pub worker: Worker<W, G>,
     pub is_starved: bool,
+}
+
+/// How the workers of a run work.
+#[derive(Clone, Copy)]
+pub struct Shift {
+    /// The most turns of each.
+    pub turns: u64,
+    /// Whether they begin only once all records are fed.
+    pub waits: bool,
 }
 
 // One worker takes its turns.
@@ -63,8 +72,7 @@ pub fn work_together<
     requires some { 0 < length members.old }
     requires may { All (λ m. MayRun W.plan W.good H.hash_of shared.now.growing.id (draft_of topology.now)
         m.worker.placing turns m.worker.state) members.old }
-    ensures { (i : ℕ) → option_map (λ m. pass_key m.worker.state.session.client.pass) (slice_get members.new i)
-        ≡ option_map (λ m. pass_key m.worker.state.session.client.pass) (slice_get members.old i) }
+    ensures { HaveKeys (λ m. m.worker.state.session.client.pass) members.old members.new }
 {
     share_topology();
     let count = members.len();

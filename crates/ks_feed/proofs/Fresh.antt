@@ -1,5 +1,5 @@
 -- The first pass of a new lock, and the passes with which it is closed.
-use Rattle.std.proofs.Common.{◌≡◌, ℕ, zero, suc, ◌<◌, List, [], ◌∷◌, length, refl, sym, ap, subst, ◌∙◌, arith}
+use Rattle.std.proofs.Common.{◌≡◌, ℕ, zero, suc, ◌<◌, ◌≤◌, List, [], ◌∷◌, length, refl, sym, ap, subst, ◌∙◌, arith}
 use Rattle.std.specs.List.{remove}
 use mathlib.Core.Option.{some, some-injective, some-ne-none}
 use lib.ListN.{get_elem?, get_or}
@@ -8,11 +8,14 @@ use Rattle.ks_history.specs.declared.journal.Entry.{Entry}
 use Rattle.ks_history.specs.Machine.{TaskPlan}
 use Rattle.ks_cluster.specs.View.{ClusterView, setup_of}
 use Rattle.ks_growing.specs.Passes.{PassView, IsPass, IsFresh, Each}
-use Rattle.ks_job.specs.Items.{ItemView}
+use Rattle.ks_job.specs.Items.{ItemView, item_views}
+use Rattle.ks_job_source.specs.Opening.{StandsPast}
 use Rattle.ks_law_inputs.specs.Records.{AreRecords}
 use Rattle.ks_shared.specs.declared.state.Frame.{Frame}
 use Rattle.ks_shared.specs.Calls.{frame_of, setup_in}
+use Rattle.ks_feed.specs.declared.feeding.Feeder.{Feeder}
 use Rattle.ks_feed.specs.Placing.{IsParted}
+use Rattle.ks_feed.specs.Feeding.{MayFeed}
 
 pub split_off : {A : Type 0} (items rest : List A) (first : A) → first ≡ get_or items 0 first → rest ≡ remove items 0 → 0 < length items → items ≡ first ∷ rest
 split_off [] rest first e f l = absurd (omega arith)
@@ -39,6 +42,19 @@ module _ {W : Type 0} (plan : W → TaskPlan) (lock : TableId) (c : ClusterView 
 
   pub fresh_records : (is : List ItemView) → AreRecords (plan c.work).sources is → AreRecords (setup_in plan pass.frame).plan.sources is
   fresh_records is h = subst (λ s. AreRecords s.plan.sources is) (sym fresh_setup) h
+
+-- a feeder with the first pass of a new lock
+pub fresh_feeder : {W : Type 0} (plan : W → TaskPlan) (lock : TableId) (c : ClusterView W) (f : Feeder W) → IsFresh lock c.journal (frame_of c) 0 f.pass → f.counts.items ≡ c.counts →
+    ((topic : ℕ) → topic < (plan c.work).sources → IsParted f.counts.items topic) → AreRecords (plan c.work).sources (item_views f.records.items) →
+    StandsPast (plan c.work).sources f.rest.taken f.rest.standing → 1 ≤ length f.rest.buf.items → MayFeed plan lock f
+fresh_feeder plan lock c f fresh counts parts records past room = record {
+  pass = fresh_pass plan lock c 0 f.pass fresh;
+  counts = fresh_counts plan lock c 0 f.pass fresh f.counts.items counts;
+  parts = fresh_parts plan lock c 0 f.pass fresh f.counts.items parts;
+  records = fresh_records plan lock c 0 f.pass fresh (item_views f.records.items) records;
+  past = subst (λ s. StandsPast s.plan.sources f.rest.taken f.rest.standing) (sym (fresh_setup plan lock c 0 f.pass fresh)) past;
+  room = room;
+}
 
 -- a lock with one pass
 module _ {E F : Type 0} (lock : TableId) where

@@ -1,6 +1,7 @@
 -- Records that are produced one after another through the first pass, among entries of others.
 use Rattle.std.proofs.Common.{◌≡◌, ℕ, ◌==◌, Bool, true, false, cond, List, [], ◌∷◌, ◌++◌, filter, refl, sym, ap, subst, ◌∙◌, append_assoc, append-nil, Result, Ok, Err, OnErr}
 use Rattle.std.proofs.lemmas.List.Elements.{filter-append}
+use Rattle.std.proofs.lemmas.Bool.{true≢false}
 use Rattle.ks_row.specs.declared.record.Rec.{Rec}
 use Rattle.ks_row.specs.declared.record.PartId.{PartId}
 use Rattle.ks_row.specs.declared.record.TaskId.{TaskId}
@@ -9,18 +10,18 @@ use Rattle.ks_history.specs.declared.journal.Request.TheVariants.{Produce, Init,
 use Rattle.ks_history.specs.declared.journal.Reply.{Reply}
 use Rattle.ks_history.specs.declared.journal.Entry.{Entry}
 use Rattle.ks_history.specs.Machine.{TaskPlan}
-use Rattle.ks_shared.specs.Reserved.{is_callers}
 use Rattle.ks_cluster.specs.View.{ClusterView, AddsEntry, state_of}
 use Rattle.atomic_table.specs.Seated.{TableId}
 use Rattle.ks_growing.specs.Passes.{PassView, IsPass}
 use Rattle.ks_shared.specs.declared.state.Frame.{Frame}
 use Rattle.ks_shared.specs.Calls.{frame_of, Called}
+use Rattle.ks_shared.specs.Reserved.{asks_as_caller, is_callers}
 use Rattle.ks_job.specs.Items.{ItemView, RecordTo}
 use Rattle.ks_law_settled.specs.Jobs.{produces_by, produces}
 use Rattle.ks_feed.specs.Placing.{placed, placed_all}
-use Rattle.ks_feed.specs.Producing.{HasProduced, HasProducedFront, IsFilled}
+use Rattle.ks_feed.specs.Producing.{asks_to_drain, begins_drain, HasProduced, HasProducedFront, IsFilled}
 
--- ---- what a journal has produced is read off the caller's entries
+-- ---- what a journal has produced, and whether it has begun a drain, is read off the caller's entries
 from_callers : (request : Request) (reply : Reply) (rest : List Entry) → produces rest ≡ produces (filter is_callers rest) →
     produces_by request (produces rest) ≡ produces (filter is_callers (record { request = request; reply = reply } ∷ rest))
 from_callers (Produce p rec) reply rest e = ap (λ l. (p, rec) ∷ l) e
@@ -56,6 +57,41 @@ same_produces xs ys e = produces_callers xs ∙ ap produces e ∙ sym (produces_
 produces_no_more : (journal others : List Entry) → filter is_callers others ≡ [] → produces (journal ++ others) ≡ produces journal
 produces_no_more journal others none =
     same_produces (journal ++ others) journal (filter-append is_callers journal others ∙ ap (λ l. filter is_callers journal ++ l) none ∙ append-nil (filter is_callers journal))
+
+-- an entry that begins a drain is the caller's
+drains_by : (request : Request) → asks_to_drain request ≡ true → asks_as_caller request ≡ true
+drains_by (Produce p rec) e = refl
+drains_by (Init w) e = e
+drains_by (Add w epoch p) e = e
+drains_by (Append w epoch number t p recs) e = e
+drains_by (SendOffsets w epoch g t offsets order late) e = e
+drains_by (Decide w epoch commit) e = e
+drains_by (MarkNext w) e = e
+drains_by (Join w) e = e
+drains_by (Expire w) e = e
+drains_by (Hold w held) e = e
+drains_by (Probe w g) e = e
+drains_by (Assign w g a) e = e
+drains_by (Park instance t) e = e
+drains_by (Unpark instance t) e = e
+
+drains_at : (b c : Bool) (entry : Entry) (xs ys : List Entry) → begins_drain entry ≡ b → (b ≡ true → c ≡ true) → filter begins_drain xs ≡ filter begins_drain ys →
+    filter begins_drain (entry ∷ xs) ≡ filter begins_drain (cond c (entry ∷ ys) ys)
+drains_at b true entry xs ys is h e = ap (λ l. cond (begins_drain entry) (entry ∷ l) l) e
+drains_at true false entry xs ys is h e = absurd (true≢false (sym (h refl)))
+drains_at false false entry xs ys is h e = ap (λ t. cond t (entry ∷ filter begins_drain xs) (filter begins_drain xs)) is ∙ e
+
+drains_callers : (journal : List Entry) → filter begins_drain journal ≡ filter begins_drain (filter is_callers journal)
+drains_callers [] = refl
+drains_callers (entry ∷ entries) =
+    drains_at (begins_drain entry) (is_callers entry) entry entries (filter is_callers entries) refl (drains_by entry.request) (drains_callers entries)
+
+pub same_drains : (xs ys : List Entry) → filter is_callers xs ≡ filter is_callers ys → filter begins_drain xs ≡ filter begins_drain ys
+same_drains xs ys e = drains_callers xs ∙ ap (filter begins_drain) e ∙ sym (drains_callers ys)
+
+drains_no_more : (journal others : List Entry) → filter is_callers others ≡ [] → filter begins_drain (journal ++ others) ≡ filter begins_drain journal
+drains_no_more journal others none =
+    same_drains (journal ++ others) journal (filter-append is_callers journal others ∙ ap (λ l. filter is_callers journal ++ l) none ∙ append-nil (filter is_callers journal))
 
 by_append : (request : Request) (xs ys : List (PartId × Rec)) → produces_by request (xs ++ ys) ≡ produces_by request xs ++ ys
 by_append (Produce p rec) xs ys = refl
@@ -94,26 +130,33 @@ module _ {W : Type 0} where
       before_is : produces c.before.journal ≡ produces old.seen
       before_is = ap produces c.came ∙ produces_no_more old.seen c.others (c.quiet first)
 
+      drains_before : filter begins_drain c.before.journal ≡ filter begins_drain old.seen
+      drains_before = ap (filter begins_drain) c.came ∙ drains_no_more old.seen c.others (c.quiet first)
+
       pub added : (reply : Reply) → AddsEntry plan c.before c.after (Produce p rec) reply → HasProduced old new ((p, rec) ∷ [])
       added reply a = record {
         same = still old new _ _ c.same;
         produced = ap produces (seen_is ∙ ap (λ (k : ClusterView W). k.journal) a.journal) ∙ produces_onto c.before.journal p rec reply ∙ ap (λ l. l ++ (p, rec) ∷ []) before_is;
+        undrained = ap (filter begins_drain) (seen_is ∙ ap (λ (k : ClusterView W). k.journal) a.journal)
+            ∙ (filter-append begins_drain c.before.journal (record { request = Produce p rec; reply = reply } ∷ []) ∙ (append-nil (filter begins_drain c.before.journal) ∙ drains_before));
       }
 
       pub unchanged : c.after ≡ c.before → HasProduced old new []
       unchanged same = record {
         same = still old new _ _ c.same;
         produced = ap produces (seen_is ∙ ap (λ (k : ClusterView W). k.journal) same) ∙ before_is ∙ sym (append-nil (produces old.seen));
+        undrained = ap (filter begins_drain) (seen_is ∙ ap (λ (k : ClusterView W). k.journal) same) ∙ drains_before;
       }
 
   -- ---- one after another
-  nothing_produced : (p : PassView Entry (Frame W)) → HasProduced p p []
-  nothing_produced p = record { same = refl; produced = sym (append-nil (produces p.seen)) }
+  pub nothing_produced : (p : PassView Entry (Frame W)) → HasProduced p p []
+  nothing_produced p = record { same = refl; produced = sym (append-nil (produces p.seen)); undrained = refl }
 
-  produced_on : (a b c : PassView Entry (Frame W)) (xs ys : List (PartId × Rec)) → HasProduced a b xs → HasProduced b c ys → HasProduced a c (xs ++ ys)
+  pub produced_on : (a b c : PassView Entry (Frame W)) (xs ys : List (PartId × Rec)) → HasProduced a b xs → HasProduced b c ys → HasProduced a c (xs ++ ys)
   produced_on a b c xs ys h k = record {
     same = k.same ∙ ap (λ (p : PassView Entry (Frame W)). record p { seen = c.seen; made = c.made }) h.same;
     produced = k.produced ∙ (ap (λ l. l ++ ys) h.produced ∙ append_assoc (produces a.seen) xs ys);
+    undrained = k.undrained ∙ h.undrained;
   }
 
   -- some records, and then those of the items that are left, are those of all items
@@ -150,11 +193,12 @@ module _ {W : Type 0} where
   still_first lock old new records h k = subst (IsPass lock 0) (sym h.same) k
 
   -- ---- the closed cluster
-  pub filled : (old first new : ClusterView W) (fresh done : PassView Entry (Frame W)) (records : List (PartId × Rec)) → old.journal ≡ [] → first ≡ old → fresh.seen ≡ old.journal →
-      HasProduced fresh done records → frame_of new ≡ frame_of first → filter is_callers new.journal ≡ filter is_callers done.seen → IsFilled old new records
-  filled old first new fresh done records empty is seen h frame reserved = record {
+  pub filled : (old first new : ClusterView W) (seen : List Entry) (records : List (PartId × Rec)) → old.journal ≡ [] → first ≡ old → seen ≡ old.journal →
+      frame_of new ≡ frame_of first → produces new.journal ≡ produces seen ++ records → filter begins_drain new.journal ≡ filter begins_drain seen → IsFilled old new records
+  filled old first new seen records empty is seen_is frame produced undrained = record {
     frame = frame ∙ ap frame_of is;
-    produced = same_produces new.journal done.seen reserved ∙ h.produced ∙ ap (λ l. produces l ++ records) (seen ∙ empty);
+    produced = produced ∙ ap (λ l. produces l ++ records) (seen_is ∙ empty);
+    undrained = undrained ∙ ap (filter begins_drain) (seen_is ∙ empty);
   }
 
   -- nothing is parked in a new cluster

@@ -1,2 +1,4 @@
 pub mod Machines
 pub mod Taking
+pub mod Opened
+pub mod Opens

@@ -1,5 +1,5 @@
 -- A job taken from a source, piece by piece.
-use Rattle.std.proofs.Common.{◌≡◌, ℕ, List, [], ◌∷◌, ◌++◌, length, refl, sym, ap, ◌∙◌, Bool, true, false, cond, rules, append_assoc}
+use Rattle.std.proofs.Common.{◌≡◌, ℕ, ◌<◌, ◌≤◌, List, [], ◌∷◌, ◌++◌, length, refl, sym, ap, ◌∙◌, Bool, true, false, cond, rules, append_assoc}
 use Rattle.std.proofs.lemmas.List.{append-nil}
 use Rattle.std.specs.Prelude.{Option, Some, None, Result, Ok, Err, ⊤, IfSome, OnOk, option_map, ◌==◌}
 use Rattle.std.specs.Option.{option_or}
@@ -56,30 +56,49 @@ fed_machine (Some r) (Some s) old_items new_items xs fed = ap Some fed
 abbrev pub Finished : Option Reader → List JobItem → List JobItem → Result ⊤ JobFault → Type 0
 Finished old old_items new_items a = IfSome old (λ b. TellsFault a (end_of b (item_views old_items)).reader × (item_views new_items ≡ (end_of b (item_views old_items)).items))
 
-pub end_stop : (old : Option Reader) (old_items new_items : List JobItem) (first : Bool) (a : Result ⊤ JobFault) (o : Option Stop) (stop : Stop) → first ≡ (length old_items == 0) →
-    Finished old old_items new_items a → o ≡ option_or (cond first (topology_stop (item_views new_items)) None) (answer_stop a) → o ≡ Some stop →
-    IfSome (machine_of old old_items) (λ m. topology_stop m.items ≡ None → stop_of (end_of m.reader m.items) ≡ Some stop)
-end_stop None old_items new_items first a o stop e h is some = tt
-end_stop (Some r) old_items new_items first a o stop e h is some = λ t.
-    sym (judged_stop first a _ old_items new_items (end_of r (item_views old_items)) o e t (keeps_end r (item_views old_items)) h.1 refl h.0 is) ∙ some
+pub ended_stop : (old : Option Reader) (old_items new_items : List JobItem) (first : Bool) (a : Result ⊤ JobFault) (o : Option Stop) → first ≡ (length old_items == 0) →
+    Finished old old_items new_items a → o ≡ option_or (cond first (topology_stop (item_views new_items)) None) (answer_stop a) →
+    IfSome (machine_of old old_items) (λ m. topology_stop m.items ≡ None → o ≡ stop_of (end_of m.reader m.items))
+ended_stop None old_items new_items first a o e h is = tt
+ended_stop (Some r) old_items new_items first a o e h is = λ t.
+    judged_stop first a _ old_items new_items (end_of r (item_views old_items)) o e t (keeps_end r (item_views old_items)) h.1 refl h.0 is
 
-pub end_items : (old : Option Reader) (old_items new_items : List JobItem) (first : Bool) (a : Result ⊤ JobFault) (o : Option Stop) → first ≡ (length old_items == 0) →
-    Finished old old_items new_items a → o ≡ option_or (cond first (topology_stop (item_views new_items)) None) (answer_stop a) → o ≡ None →
+pub ended_items : (old : Option Reader) (old_items new_items : List JobItem) (a : Result ⊤ JobFault) → Finished old old_items new_items a →
+    IfSome old (λ b. item_views new_items ≡ (end_of b (item_views old_items)).items)
+ended_items None old_items new_items a h = tt
+ended_items (Some r) old_items new_items a h = h.1
+
+-- what a job comes to at its end
+pub ends_stopped : (old : Option Reader) (old_items : List JobItem) (o : Option Stop) (stop : Stop) → IfSome (machine_of old old_items) (λ m. topology_stop m.items ≡ None → o ≡ stop_of (end_of m.reader m.items)) → o ≡ Some stop →
+    IfSome (machine_of old old_items) (λ m. topology_stop m.items ≡ None → stop_of (end_of m.reader m.items) ≡ Some stop)
+ends_stopped None old_items o stop h is = tt
+ends_stopped (Some r) old_items o stop h is = λ t. sym (h t) ∙ is
+
+pub ends_whole : (old : Option Reader) (old_items new_items : List JobItem) (o : Option Stop) → IfSome (machine_of old old_items) (λ m. topology_stop m.items ≡ None → o ≡ stop_of (end_of m.reader m.items)) → o ≡ None →
+    IfSome old (λ b. item_views new_items ≡ (end_of b (item_views old_items)).items) →
     IfSome (machine_of old old_items) (λ m. topology_stop m.items ≡ None → (stop_of (end_of m.reader m.items) ≡ None) × (item_views new_items ≡ (end_of m.reader m.items).items))
-end_items None old_items new_items first a o e h is none = tt
-end_items (Some r) old_items new_items first a o e h is none = λ t. (
-  sym (judged_stop first a _ old_items new_items (end_of r (item_views old_items)) o e t (keeps_end r (item_views old_items)) h.1 refl h.0 is) ∙ none,
-  h.1,
-)
+ends_whole None old_items new_items o h is items = tt
+ends_whole (Some r) old_items new_items o h is items = λ t. (sym (h t) ∙ is, items)
 
 -- ---- along the pieces
+-- so far the source has lost what was taken, and has not failed; the reader has read that, and there is no reason to stop
+pub record Taking (left_old left_now : Option (List ℕ)) (faults_old faults_now : ℕ) (machine : Option Machine) (taken : ℕ) (buf : List ℕ) : Type 0 where
+  pub got : List ℕ
+  pub front : Consumes left_old left_now got
+  pub kept : faults_now ≡ faults_old
+  pub stands : machine ≡ Some (so_far got)
+  pub unstopped : stop_of (so_far got) ≡ None
+  pub counted : taken ≡ length got
+  pub some : 0 < length buf
+  pub room : length buf ≤ 4194304
+
 pub took_more : (a b c : Option (List ℕ)) (got piece : List ℕ) → Consumes a b got → Consumes b c piece → Consumes a c (got ++ piece)
 took_more None b c got piece p q = search rules
 took_more (Some xs) None c got piece p q = absurd p
 took_more (Some xs) (Some ys) None got piece p q = absurd q
 took_more (Some xs) (Some ys) (Some zs) got piece p q = cc (append_assoc got piece zs)
 
-lost_as_much : (a b c : Option (List ℕ)) (got : List ℕ) → Consumes a b got → StayKnown b c → Consumes a c got
+pub lost_as_much : (a b c : Option (List ℕ)) (got : List ℕ) → Consumes a b got → StayKnown b c → Consumes a c got
 lost_as_much None b c got p q = search rules
 lost_as_much (Some xs) None c got p q = absurd p
 lost_as_much (Some xs) (Some ys) None got p q = absurd q
@@ -91,14 +110,14 @@ took_no_fault a b c got p q h = record { taken = got; lost = lost_as_much a b c 
 pub so_far_more : (m n : Option Machine) (got piece : List ℕ) → m ≡ Some (so_far got) → n ≡ option_map (λ x. after x piece) m → n ≡ Some (so_far (got ++ piece))
 so_far_more m n got piece e f = f ∙ ap (option_map (λ x. after x piece)) e ∙ ap Some (sym (after_both _ got piece))
 
-at_machine : (P : Machine → Type 0) (m : Option Machine) (x : Machine) → m ≡ Some x → IfSome m P → P x
+pub at_machine : (P : Machine → Type 0) (m : Option Machine) (x : Machine) → m ≡ Some x → IfSome m P → P x
 at_machine P m x e h = rw e at h
 
 pub unstopped_more : (m : Option Machine) (got piece : List ℕ) (o : Option Stop) → m ≡ Some (so_far got) → stop_of (so_far got) ≡ None →
     IfSome m (λ x. topology_stop x.items ≡ None → o ≡ stop_of (after x piece)) → o ≡ stop_of (so_far (got ++ piece))
 unstopped_more m got piece o e u h = at_machine (λ x. topology_stop x.items ≡ None → o ≡ stop_of (after x piece)) m (so_far got) e h (unrefused (so_far got) u) ∙ ap stop_of (sym (after_both _ got piece))
 
-known_end : (a b c : Option (List ℕ)) (got piece : List ℕ) → Consumes a b got → piece ≡ [] → Consumes b c piece → IsAtEnd c → IfSome a (λ bytes. bytes ≡ got)
+pub known_end : (a b c : Option (List ℕ)) (got piece : List ℕ) → Consumes a b got → piece ≡ [] → Consumes b c piece → IsAtEnd c → IfSome a (λ bytes. bytes ≡ got)
 known_end None b c got piece p z q end = search rules
 known_end (Some xs) None c got piece p z q end = absurd p
 known_end (Some xs) (Some ys) None got piece p z q end = absurd q
@@ -112,7 +131,7 @@ read_to_end a b c m got piece r p z q end e u h = record {
   ends = at_machine (λ x. topology_stop x.items ≡ None → Ends (end_of x.reader x.items) r) m (so_far got) e h (unrefused (so_far got) u);
 }
 
-stopped_on : (xs got piece rest : List ℕ) (stop : Stop) → xs ≡ (got ++ piece) ++ rest → stop_of (so_far (got ++ piece)) ≡ Some stop → stop_of (whole xs) ≡ Some stop
+pub stopped_on : (xs got piece rest : List ℕ) (stop : Stop) → xs ≡ (got ++ piece) ++ rest → stop_of (so_far (got ++ piece)) ≡ Some stop → stop_of (whole xs) ≡ Some stop
 stopped_on xs got piece rest stop all here =
     let on : stop_of (so_far xs) ≡ Some stop = ap (λ l. stop_of (so_far l)) all ∙ (ap stop_of (after_both _ (got ++ piece) rest) ∙ stays_after (so_far (got ++ piece)) rest stop here) in
     stays_at_end (so_far xs) stop on

@@ -1,3 +1,5 @@
 pub mod Stops
 pub mod Reading
 pub mod Texts
+pub mod Opening
+pub mod Steps

@@ -1,10 +1,14 @@
 //! A job from a source: its items, or where and why reading it stops, and how that is told.
 #![tactic(auto)]
 
+mod opening;
 mod reading;
 mod refusals;
+mod rest;
 mod stop;
 
-pub use reading::{ReadError, read_job};
+pub use opening::{OpenJob, open_job};
+pub use reading::ReadError;
 pub use refusals::print_bad_job;
+pub use rest::{JobEnd, JobRest, Standing};
 pub use stop::Stop;

@@ -15,7 +15,7 @@ use std::alloc::{AllocError, Global};
 use std::thread::Threads;
 
 // The bytes that the source is asked for at once.
-const PIECE: usize = 4_194_304;
+pub(crate) const PIECE: usize = 4_194_304;
 
 /// Why a job wasn't read.
 #[derive(Clone, Copy, PartialEq, Eq, Debug)]
@@ -70,7 +70,7 @@ fn judge_answer(
 }
 
 // The next piece of a job.
-fn feed_piece<R: Threads + Sync>(
+pub(crate) fn feed_piece<R: Threads + Sync>(
     rt: &R,
     alloc: Global,
     reader: &mut JobReader,
@@ -85,25 +85,36 @@ fn feed_piece<R: Threads + Sync>(
     judge_answer(alloc, is_first, items, answer)
 }
 
+// The end of a job; the item of a last line without an end is pushed.
+pub(crate) fn end_items(
+    alloc: Global,
+    reader: JobReader,
+    items: &mut Vec<JobItem>,
+) -> Result<Option<Stop>, AllocError>
+    ensures ended { OnOk result (IfSome reader (λ b. item_views items.new.items ≡ (end_of b (item_views items.old.items)).items)) }
+    ensures stop { IfOk result (λ o. IfSome (machine_of reader items.old.items) (λ m. topology_stop m.items ≡ None → o ≡ stop_of (end_of m.reader m.items))) }
+{
+    let is_first = items.is_empty();
+    let answer = reader.finish(items)?;
+    judge_answer(alloc, is_first, items, answer)
+}
+
 // The end of a job.
 fn end_job(
     alloc: Global,
     reader: JobReader,
-    items: Vec<JobItem>,
+    mut items: Vec<JobItem>,
 ) -> Result<Result<Vec<JobItem>, Stop>, AllocError>
     ensures { IfOk result (λ r. IfSome (machine_of reader items.items) (λ m. topology_stop m.items ≡ None → Ends (end_of m.reader m.items) r)) }
 {
-    let mut items = items;
-    let is_first = items.is_empty();
-    let answer = reader.finish(&mut items)?;
-    match judge_answer(alloc, is_first, &items, answer)? {
+    match end_items(alloc, reader, &mut items)? {
         Some(stop) => Ok(Err(stop)),
         None => Ok(Ok(items)),
     }
 }
 
 // The items of a job, of which these bytes are read at once.
-fn read_by<R: Threads + Sync, S: Source>(
+pub(crate) fn read_by<R: Threads + Sync, S: Source>(
     rt: &R,
     alloc: Global,
     input: &mut S,
@@ -132,24 +143,8 @@ fn read_by<R: Threads + Sync, S: Source>(
 }
 
 // So many zeros.
-fn zeros(alloc: Global, count: usize) -> Result<Vec<u8>, AllocError>
+pub(crate) fn zeros(alloc: Global, count: usize) -> Result<Vec<u8>, AllocError>
     ensures { IfOk result (λ v. vec_len v ≡ count) }
 {
     vec![in alloc; 0u8; count]
-}
-
-/// The items of the job that the source holds, or why it is none. The source isn't asked again once that is known, nor after
-/// its end, nor after 67,174,401 bytes, since a faulty line is whole then.
-pub fn read_job<R: Threads + Sync, S: Source>(
-    rt: &R,
-    alloc: Global,
-    input: &mut S,
-) -> Result<Result<Vec<JobItem>, Stop>, ReadError>
-    ensures kept { OnOk result (S.faults input.new ≡ S.faults input.old) }
-    ensures read { IfOk result (λ r. Read (S.left input.old) r) }
-    ensures end { IfOk result (λ r. OnOk r (IsAtEnd (S.left input.new))) }
-    ensures fault { result ≡ Err ReadError.Fault → Rose (S.faults input.old) (S.faults input.new) × TookNoFault (S.left input.old) (S.left input.new) }
-{
-    let mut buf = zeros(alloc, PIECE)?;
-    read_by(rt, alloc, input, &mut buf)
 }

@@ -1,33 +1,38 @@
 -- The journal of a run, by what the run answers.
 use Rattle.std.proofs.Common.{◌≡◌, ◌⊎◌, inl, inr, ℕ, Bool, List, [], ◌∷◌, ◌++◌, refl, sym, ap, subst, ◌∙◌, append-nil}
 use Rattle.std.specs.Prelude.{Option, Some, None, IfSome, Ok, Err}
+use Rattle.std.proofs.lemmas.List.{map-append}
 use Rattle.std.specs.Io.KnownBytes.{IsAtEnd}
-use Rattle.std.specs.declared.vec.Vec.{Vec}
-use Rattle.std.specs.declared.alloc.Global.{Global}
 use Rattle.ks_edge.specs.Causes.{Rose}
 use Rattle.ks_plan.specs.Drafts.{DraftView}
 use Rattle.ks_plan.specs.Plan.{plan_of}
 use Rattle.ks_query.specs.Streams.{Input}
 use Rattle.ks_query.specs.Grace.{IsWithinGrace}
+use Rattle.ks_def_tasks.specs.Messages.{Rules}
 use Rattle.ks_assign.specs.declared.clients.Placing.{Placing}
 use Rattle.ks_cluster.specs.Placed.{PlacementTest, ArePlaced}
-use Rattle.ks_def_tasks.specs.Messages.{Rules}
 use Rattle.ks_history.specs.State.{Setup}
 use Rattle.ks_history.specs.declared.journal.Entry.{Entry}
 use Rattle.ks_history.specs.History.{IsHistory}
-use Rattle.ks_job.specs.Items.{ItemView, TopologyAt, RecordTo, item_views}
-use Rattle.ks_job.specs.declared.judge.JobItem.{JobItem}
-use Rattle.ks_job.specs.Reader.{whole}
-use Rattle.ks_law_inputs.specs.Records.{records_of}
+use Rattle.ks_job.specs.Items.{ItemView, TopologyAt, RecordTo}
+use Rattle.ks_job.specs.Reader.{Reader, whole}
+use Rattle.ks_law_inputs.specs.Records.{input_of, records_of}
 use Rattle.ks_law_settled.specs.Jobs.{produces}
 use Rattle.ks_run.specs.Told.{TellsLate, TellsCollision}
-use Rattle.ks_run.specs.Journals.{draft_in, placed_records, SettlesBytes, HasJournal, IsPlaced, IsInTime, IsWithoutCollision}
+use Rattle.ks_run.specs.Journals.{draft_in, placed_records, SettlesBytes, HasJournal, IsUndrained, IsInTime, IsWithoutCollision}
 use Rattle.ks_job_source.specs.declared.stop.Stop.{Stop}
 use Rattle.ks_job_source.specs.Stops.{stop_of}
 use Rattle.ks_job_source.specs.Texts.{bad_job_text}
-use Rattle.ks_job_source.specs.Reading.{Read, TookNoFault}
+use Rattle.ks_job_source.specs.Reading.{Read}
+use Rattle.ks_job_source.specs.Reading.{TookNoFault}
+use Rattle.ks_job_source.specs.Opening.{HoldsJob, HoldsFront, EndsJob, OpensAt}
+use Rattle.ks_job_source.specs.declared.rest.Standing.{Standing}
+use Rattle.ks_job_source.specs.declared.rest.JobEnd.{JobEnd}
+use Rattle.ks_job_source.specs.declared.rest.JobEnd.TheVariants.{Whole, Stopped, Failed}
+use Rattle.ks_job_source.proofs.Opened.{opened_and_read, front_of_whole}
+use Rattle.ks_feed.specs.Feeding.{FaultsBy}
 use Rattle.ks_output.specs.Texts.{read_fault_text}
-use Rattle.ks_run.specs.Settling.{SettlesItems}
+use Rattle.ks_run.specs.Settling.{SettlesJob, KeepsJob, TellsEnd, RunsJob}
 use Rattle.ks_run.specs.Answers.{IsRefused, IsJudged}
 use Rattle.ks_run.proofs.Told.{Tells, tells}
 
@@ -42,13 +47,6 @@ is_some_draft (Some d) = refl
 empty_history : (setup : Setup) → IsHistory setup []
 empty_history setup = record { legal = tt; faithful = tt }
 
-not_empty : {A : Type 0} (xs : List A) (y : A) (ys : List A) → [] ≡ xs ++ y ∷ ys → ⊥
-not_empty [] y ys e = absurd cc
-not_empty (x ∷ xs) y ys e = absurd cc
-
-none_placed : (test : PlacementTest) (setup : Setup) → ArePlaced test setup []
-none_placed test setup front w g a rest e = absurd (not_empty front _ rest e)
-
 abbrev bytes_of : Option (List ℕ) → List ℕ
 bytes_of None = []
 bytes_of (Some bytes) = bytes
@@ -56,6 +54,10 @@ bytes_of (Some bytes) = bytes
 are_known : (left : Option (List ℕ)) → IfSome left (λ b. b ≡ bytes_of left)
 are_known None = tt
 are_known (Some bytes) = refl
+
+none_placed : (test : PlacementTest) (setup : Setup) → ArePlaced test setup []
+none_placed test setup [] w g a rest e = absurd (cc)
+none_placed test setup (x ∷ front) w g a rest e = absurd (cc)
 
 nothing_kept : (rules : Rules) (placing : Placing) (left : Option (List ℕ)) → HasJournal rules placing left []
 nothing_kept rules placing left =
@@ -76,81 +78,139 @@ nothing_kept rules placing left =
 pub no_journal : (rules : Rules) (placing : Placing) (left : Option (List ℕ)) (journal : List Entry) → journal ≡ [] → HasJournal rules placing left journal
 no_journal rules placing left journal e = subst (HasJournal rules placing left) (sym e) (nothing_kept rules placing left)
 
+pub none_drained : (journal : List Entry) → journal ≡ [] → IsUndrained journal
+none_drained journal e = rw e refl
+
 is_topology : (o : Option DraftView) (d : DraftView) → o ≡ Some d → IfSome o (λ e. e ≡ d)
 is_topology o d h = rw h refl
-
-settled_journal : (rules : Rules) (placing : Placing) (left : Option (List ℕ)) (d : DraftView) (records : List Input) (journal : List Entry) → SettlesBytes rules left d records journal → IsPlaced rules placing d journal → HasJournal rules placing left journal
-settled_journal rules placing left d records journal h placed = record {
-  bytes = h.bytes;
-  known = h.known;
-  draft = d;
-  topology = is_topology (draft_in (whole h.bytes).items) d h.topology;
-  records = records;
-  inputs = h.inputs;
-  history = h.kept.history;
-  placed = placed;
-  front = ([], sym h.kept.produced ∙ sym (append-nil (produces journal)));
-}
 
 pub bad_job_read : (left : Option (List ℕ)) (stop : Stop) (text : List ℕ) → Read left (Err stop) → text ≡ bad_job_text stop → IsRefused left text
 bad_job_read left stop text h e = record { bytes = h.bytes; known = h.known; bad = (stop, h.ends, e) }
 
+-- ---- the journal of a job's run
+-- records of two lists, one after the other
+inputs_both : (is js : List ItemView) → records_of (is ++ js) ≡ records_of is ++ records_of js
+inputs_both [] js = refl
+inputs_both (TopologyAt line d ∷ is) js = inputs_both is js
+inputs_both (RecordTo t r ∷ is) js = ap (λ l. input_of t r ∷ l) (inputs_both is js)
+
+placed_both : (rules : Rules) (d : DraftView) (is js : List ItemView) → placed_records rules d (records_of (is ++ js)) ≡ placed_records rules d (records_of is) ++ placed_records rules d (records_of js)
+placed_both rules d is js = ap (placed_records rules d) (inputs_both is js) ∙ map-append _ (records_of is) (records_of js)
+
+-- some bytes have these records, and maybe more
+kept_of : (rules : Rules) (placing : Placing) (left : Option (List ℕ)) (bytes : List ℕ) (line : ℕ) (d : DraftView) (is more : List ItemView) (journal : List Entry) → IfSome left (λ b. b ≡ bytes) →
+    (whole bytes).items ≡ (TopologyAt line d ∷ is) ++ more → KeepsJob rules placing d (records_of is) journal → HasJournal rules placing left journal
+kept_of rules placing left bytes line d is more journal known items h = record {
+  bytes = bytes;
+  known = known;
+  draft = d;
+  topology = is_topology (draft_in (whole bytes).items) d (ap draft_in items);
+  records = records_of (is ++ more);
+  inputs = sym (ap records_of items);
+  history = h.history;
+  placed = h.placed;
+  front = (placed_records rules d (records_of more), placed_both rules d is more ∙ ap (λ l. l ++ placed_records rules d (records_of more)) (sym h.produced));
+}
+
 -- ---- what is judged
-pub judged_bad_job : (rules : Rules) (placing : Placing) (shown : Bool) (old new : Option (List ℕ)) (before now : ℕ) (text : List ℕ) (journal : List Entry) → now ≡ before → IsRefused old text → journal ≡ [] → IsJudged rules placing shown old new before now 2 text journal
-judged_bad_job rules placing shown old new before now text journal k h j =
-    record { read_fault = λ e. absurd (cc); bad_job = λ e. (k, h, j); settled = λ e. absurd (cc); late = λ e. absurd (cc); collision = λ e. absurd (cc); kept = no_journal rules placing old journal j; only = inr (inl refl) }
+module _ (rules : Rules) (placing : Placing) (shown : Bool) (old new : Option (List ℕ)) (before now : ℕ) where
+  pub judged_bad_job : (text : List ℕ) (status : ℕ) (journal : List Entry) → status ≡ 2 → now ≡ before → IsRefused old text → IsUndrained journal → HasJournal rules placing old journal →
+      IsJudged rules placing shown old new before now status text journal
+  judged_bad_job text status journal is k h j kept = subst (λ s. IsJudged rules placing shown old new before now s text journal) (sym is) (record {
+    read_fault = λ e. absurd (cc);
+    bad_job = λ e. (k, h, j);
+    settled = λ e. absurd (cc);
+    late = λ e. absurd (cc);
+    collision = λ e. absurd (cc);
+    kept = kept;
+    only = inr (inl refl);
+  })
 
-pub judged_read_fault : (rules : Rules) (placing : Placing) (shown : Bool) (old new : Option (List ℕ)) (before now : ℕ) (text : List ℕ) (journal : List Entry) → Rose before now → TookNoFault old new → text ≡ read_fault_text → journal ≡ [] →
-    IsJudged rules placing shown old new before now 6 text journal
-judged_read_fault rules placing shown old new before now text journal r t x j =
-    record { read_fault = λ e. (r, t, x, j); bad_job = λ e. absurd (cc); settled = λ e. absurd (cc); late = λ e. absurd (cc); collision = λ e. absurd (cc); kept = no_journal rules placing old journal j; only = inr (inr (inr (inr refl))) }
+  pub judged_read_fault : (text : List ℕ) (status : ℕ) (journal : List Entry) → status ≡ 6 → Rose before now → TookNoFault old new → text ≡ read_fault_text → IsUndrained journal → HasJournal rules placing old journal →
+      IsJudged rules placing shown old new before now status text journal
+  judged_read_fault text status journal is k h t j kept = subst (λ s. IsJudged rules placing shown old new before now s text journal) (sym is) (record {
+    read_fault = λ e. (k, h, t, j);
+    bad_job = λ e. absurd (cc);
+    settled = λ e. absurd (cc);
+    late = λ e. absurd (cc);
+    collision = λ e. absurd (cc);
+    kept = kept;
+    only = inr (inr (inr (inr refl)));
+  })
 
-judged_told : (rules : Rules) (placing : Placing) (shown : Bool) (old new : Option (List ℕ)) (before now : ℕ) (d : DraftView) (records : List Input) (status : ℕ) (text : List ℕ) (journal : List Entry) → now ≡ before → IsAtEnd new →
-    SettlesBytes rules old d records journal → IsPlaced rules placing d journal → Tells rules shown d records status text journal → IsJudged rules placing shown old new before now status text journal
-judged_told rules placing shown old new before now d records status text journal k z h placed (inl t) = subst (λ s. IsJudged rules placing shown old new before now s text journal) (sym t.0) (record {
-  read_fault = λ e. absurd (cc);
-  bad_job = λ e. absurd (cc);
-  settled = λ e. (k, z, record { draft = d; records = records; settles = h; query = t.1 });
-  late = λ e. absurd (cc);
-  collision = λ e. absurd (cc);
-  kept = settled_journal rules placing old d records journal h placed;
-  only = inl refl;
-})
-judged_told rules placing shown old new before now d records status text journal k z h placed (inr (inl t)) = subst (λ s. IsJudged rules placing shown old new before now s text journal) (sym t.0) (record {
-  read_fault = λ e. absurd (cc);
-  bad_job = λ e. absurd (cc);
-  settled = λ e. absurd (cc);
-  late = λ e. (k, z, record { draft = d; records = records; settles = h; late = t.1 });
-  collision = λ e. absurd (cc);
-  kept = settled_journal rules placing old d records journal h placed;
-  only = inr (inr (inl refl));
-})
-judged_told rules placing shown old new before now d records status text journal k z h placed (inr (inr t)) = subst (λ s. IsJudged rules placing shown old new before now s text journal) (sym t.0) (record {
-  read_fault = λ e. absurd (cc);
-  bad_job = λ e. absurd (cc);
-  settled = λ e. absurd (cc);
-  late = λ e. absurd (cc);
-  collision = λ e. (k, z, record { draft = d; records = records; settles = h; collision = t.1 });
-  kept = settled_journal rules placing old d records journal h placed;
-  only = inr (inr (inr (inl refl)));
-})
+  judged_told : (d : DraftView) (records : List Input) (status : ℕ) (text : List ℕ) (journal : List Entry) → now ≡ before → IsAtEnd new → HasJournal rules placing old journal →
+      SettlesBytes rules old d records journal → Tells rules shown d records status text journal → IsJudged rules placing shown old new before now status text journal
+  judged_told d records status text journal k z kept h (inl t) = subst (λ s. IsJudged rules placing shown old new before now s text journal) (sym t.0) (record {
+    read_fault = λ e. absurd (cc);
+    bad_job = λ e. absurd (cc);
+    settled = λ e. (k, z, record { draft = d; records = records; settles = h; query = t.1 });
+    late = λ e. absurd (cc);
+    collision = λ e. absurd (cc);
+    kept = kept;
+    only = inl refl;
+  })
+  judged_told d records status text journal k z kept h (inr (inl t)) = subst (λ s. IsJudged rules placing shown old new before now s text journal) (sym t.0) (record {
+    read_fault = λ e. absurd (cc);
+    bad_job = λ e. absurd (cc);
+    settled = λ e. absurd (cc);
+    late = λ e. (k, z, record { draft = d; records = records; settles = h; late = t.1 });
+    collision = λ e. absurd (cc);
+    kept = kept;
+    only = inr (inr (inl refl));
+  })
+  judged_told d records status text journal k z kept h (inr (inr t)) = subst (λ s. IsJudged rules placing shown old new before now s text journal) (sym t.0) (record {
+    read_fault = λ e. absurd (cc);
+    bad_job = λ e. absurd (cc);
+    settled = λ e. absurd (cc);
+    late = λ e. absurd (cc);
+    collision = λ e. (k, z, record { draft = d; records = records; settles = h; collision = t.1 });
+    kept = kept;
+    only = inr (inr (inr (inl refl)));
+  })
 
--- a job that was read to its end, and what its run answers
-pub judged_settled : (rules : Rules) (placing : Placing) (shown : Bool) (old new : Option (List ℕ)) (before now : ℕ) (r : Vec JobItem Global) (status : ℕ) (text : List ℕ) (journal : List Entry) → now ≡ before → IsAtEnd new → Read old (Ok r) →
-    SettlesItems rules placing shown (item_views r.items) status text journal → IsJudged rules placing shown old new before now status text journal
-judged_settled rules placing shown old new before now r status text journal k z h a = by (item_views r.items) h.ends.1 a
-  where
-    by : (is : List ItemView) → is ≡ (whole h.bytes).items → SettlesItems rules placing shown is status text journal → IsJudged rules placing shown old new before now status text journal
-    by [] i a = absurd a
-    by (RecordTo t r ∷ is) i a = absurd a
-    by (TopologyAt line d ∷ is) i a = judged_told rules placing shown old new before now d (records_of is) status text journal k z (record {
-      bytes = h.bytes;
-      known = h.known;
-      unstopped = h.ends.0;
-      topology = ap draft_in (sym i);
-      inputs = ap records_of i;
-      kept = a.kept;
-    }) a.placed (tells rules shown d (records_of is) status text journal a.kept a.told)
+  -- a job that was read to its end, and what its run answers
+  judged_whole : (d : DraftView) (is : List ItemView) (status : ℕ) (text : List ℕ) (journal : List Entry) → now ≡ before → IsAtEnd new → HoldsJob old None d is → KeepsJob rules placing d (records_of is) journal →
+      SettlesJob rules shown d (records_of is) status text journal → IsJudged rules placing shown old new before now status text journal
+  judged_whole d is status text journal k z h kept a =
+      judged_told d (records_of is) status text journal k z
+      (kept_of rules placing old h.bytes h.line d is [] journal h.known (h.items_are ∙ sym (append-nil (TopologyAt h.line d ∷ is))) kept)
+      (record {
+        bytes = h.bytes;
+        known = h.known;
+        unstopped = h.stops;
+        topology = ap draft_in h.items_are;
+        inputs = sym (ap records_of h.items_are);
+        kept = a.kept;
+      })
+      (tells rules shown d (records_of is) status text journal a.kept a.told)
+
+  -- one that was read to a fault
+  judged_stopped : (stop : Stop) (d : DraftView) (is : List ItemView) (status : ℕ) (text : List ℕ) (journal : List Entry) → now ≡ before → HoldsJob old (Some stop) d is → KeepsJob rules placing d (records_of is) journal →
+      (status ≡ 2) × (text ≡ bad_job_text stop) × IsUndrained journal → IsJudged rules placing shown old new before now status text journal
+  judged_stopped stop d is status text journal k h kept t =
+      judged_bad_job text status journal t.0 k (record { bytes = h.bytes; known = h.known; bad = (stop, h.stops, t.1) }) t.2
+      (kept_of rules placing old h.bytes h.line d is [] journal h.known (h.items_are ∙ sym (append-nil (TopologyAt h.line d ∷ is))) kept)
+
+  -- one of which the source failed
+  judged_failed : (r : Reader) (d : DraftView) (is : List ItemView) (status : ℕ) (text : List ℕ) (journal : List Entry) → Rose before now → HoldsFront old new r d is → KeepsJob rules placing d (records_of is) journal →
+      (status ≡ 6) × (text ≡ read_fault_text) × IsUndrained journal → IsJudged rules placing shown old new before now status text journal
+  judged_failed r d is status text journal k h kept t =
+      let front = front_of_whole old new r d is h in
+      judged_read_fault text status journal t.0 k (record { taken = h.taken; lost = h.lost; unstopped = h.unstopped }) t.1 t.2
+      (kept_of rules placing old front.bytes h.line d is front.more journal front.known front.items_are kept)
+
+  judged_end : (end : JobEnd) (d : DraftView) (is : List ItemView) (status : ℕ) (text : List ℕ) (journal : List Entry) → EndsJob old new end d is → FaultsBy end before now →
+      KeepsJob rules placing d (records_of is) journal → TellsEnd end rules shown d (records_of is) status text journal → IsJudged rules placing shown old new before now status text journal
+  judged_end Whole d is status text journal h k kept t = judged_whole d is status text journal k h.1 h.0 kept t
+  judged_end (Stopped stop) d is status text journal h k kept t = judged_stopped stop d is status text journal k h kept t
+  judged_end Failed d is status text journal h k kept t = judged_failed h.0 d is status text journal k h.1 kept t
+
+  -- the source failed or didn't, before a job was opened and since
+  pub judged_run : (mid : Option (List ℕ)) (opened : ℕ) (d : DraftView) (records : List ItemView) (standing : Standing) (status : ℕ) (text : List ℕ) (journal : List Entry) → opened ≡ before →
+      OpensAt old mid d records standing → RunsJob rules placing shown d records standing mid new opened now status text journal → IsJudged rules placing shown old new before now status text journal
+  judged_run mid opened d records standing status text journal same h r =
+      judged_end r.end d (records ++ r.items) status text journal (opened_and_read old mid new d records r.items standing r.end h r.reads)
+      (subst (λ n. FaultsBy r.end n now) same r.faults) r.kept r.told
 
 -- ---- jobs that are always answered by their query
 of_known : {x y : List ℕ} → Some x ≡ Some y → x ≡ y

@@ -8,19 +8,10 @@ use Rattle.ks_row.specs.declared.record.TaskId.{TaskId}
 use Rattle.ks_plan.specs.Drafts.{DraftView}
 use Rattle.ks_plan.specs.Plan.{plan_of}
 use Rattle.ks_plan.specs.Layout.{topics_of, parts_of_topic, tasks}
-use Rattle.ks_plan.specs.Infos.{inputs_by_sub}
+use Rattle.ks_plan.specs.Infos.{inputs_by_sub, changelog_numbers}
 use Rattle.ks_topo.specs.declared.built.Topology.{Topology}
 use Rattle.ks_topo.specs.Topologies.{draft_of}
 use Rattle.ks_plan.specs.Faults.{fault_of}
-use Rattle.ks_plan.specs.Infos.{changelog_numbers}
-use Rattle.ks_assign.specs.declared.clients.Placing.{Placing}
-use Rattle.ks_placement.specs.Groups.{good_by}
-use Rattle.ks_cluster.specs.Placed.{PlacementTest, ArePlaced}
-use Rattle.ks_commit.specs.Everything.{everything, IsGoodForAll}
-use Rattle.ks_task.specs.Placing.{placed_by}
-use Rattle.ks_task.proofs.Alone.{everything_is_good}
-use Rattle.ks_settle.specs.Drained.{drain_worker}
-use Rattle.ks_run.specs.Journals.{IsPlaced}
 use Rattle.ks_history.specs.declared.journal.Entry.{Entry}
 use Rattle.ks_history.specs.Machine.{TaskPlan}
 use Rattle.ks_history.specs.State.{Setup, IsSetup}
@@ -29,6 +20,22 @@ use Rattle.ks_history.specs.Settled.{IsSettled}
 use Rattle.ks_history.specs.Count.{records_in}
 use Rattle.ks_cluster.specs.View.{ClusterView, setup_from}
 use Rattle.ks_cluster.specs.View as kept
+use Rattle.ks_cluster.specs.Placed.{PlacementTest, ArePlaced}
+use Rattle.ks_assign.specs.declared.clients.Placing.{Placing}
+use Rattle.ks_commit.specs.Everything.{everything, IsGoodForAll}
+use Rattle.ks_placement.specs.Groups.{good_by}
+use Rattle.ks_task.specs.Placing.{placed_by}
+use Rattle.ks_task.proofs.Alone.{everything_is_good}
+use Rattle.ks_query.specs.Streams.{Input}
+use Rattle.ks_def_tasks.specs.Messages.{Rules}
+use Rattle.ks_feed.specs.declared.feeding.Intake.{Intake}
+use Rattle.ks_feed.specs.Feeding.{FaultsBy}
+use Rattle.ks_job_source.specs.declared.rest.JobEnd.{JobEnd}
+use Rattle.ks_job_source.specs.declared.rest.JobEnd.TheVariants as end
+use Rattle.ks_job_source.specs.declared.rest.JobRest.{JobRest}
+use Rattle.ks_job_source.specs.Opening.{IsReadable, StandsPast}
+use Rattle.ks_job_source.proofs.Opened.{all_records}
+use Rattle.ks_crew.specs.Ready.{HasWorked}
 use Rattle.ks_law_exactly_once.proofs.Replays.{is_run}
 use Rattle.ks_law_topology.specs.Work.{work_of, setup_of}
 use Rattle.ks_law_topology.proofs.Networks.{works_are_networks}
@@ -37,20 +44,17 @@ use Rattle.ks_nodes.specs.Rules.{HaveParts, rules_of}
 use Rattle.ks_law_kinds.specs.Fitting.{FitsPlan, FitsRules}
 use Rattle.ks_law_settled.specs.Jobs.{IsJob, produces}
 use Rattle.ks_law_settled.proofs.Parts.{have_parts as nodes_have_parts}
-use Rattle.ks_job.specs.Items.{ItemView, TopologyAt, RecordTo}
-use Rattle.ks_job.specs.Reader.{Reader, Reading, Faulty, whole}
-use Rattle.ks_law_inputs.specs.Records.{records_of, HavePartitions, AreRecords, IsJob as AreOfJob, Told}
-use Rattle.ks_law_inputs.proofs.Items.{job_items}
-use Rattle.ks_job_source.specs.declared.stop.Stop.TheVariants.{BadTopology}
-use Rattle.ks_job_source.specs.Stops.{topology_stop, line_stop}
+use Rattle.ks_job.specs.Items.{ItemView, item_views}
+use Rattle.ks_law_inputs.specs.Records.{records_of, HavePartitions, AreRecords}
 use Rattle.ks_shared.specs.declared.state.Frame.{Frame}
 use Rattle.ks_feed.specs.Placing.{placed_all, IsParted}
 use Rattle.ks_feed.specs.Producing.{IsFilled}
-use Rattle.ks_settle.specs.Drained.{Extends}
+use Rattle.ks_settle.specs.Drained.{Extends, drain_worker}
 use Rattle.ks_report.specs.Report.{IsOf}
 use Rattle.ks_task.proofs.Subs.{inputs_there}
 use Rattle.ks_run.specs.Told.{told, with_lines}
-use Rattle.ks_run.specs.Settling.{IsReadJob, split, SettlesJob}
+use Rattle.ks_run.specs.Journals.{placed_records, IsUndrained}
+use Rattle.ks_run.specs.Settling.{IsDrained, SettlesJob, IsWantedBy, IsEnded, IsLeft, EndsBy, KeepsJob, TellsEnd, RunsJob}
 use Rattle.ks_run.proofs.Counts.{counts_length, plan_count, have_parts}
 use Rattle.ks_run.proofs.Placed.{keys_have_parts, records_placed, records_fit, records_in_range}
 
@@ -60,6 +64,11 @@ setup_is hash d plan counts ts a b c = rw (a, b, c) refl
 
 pub setup_made : (hash : List ℕ → ℕ) (d : DraftView) (setup : Setup) → setup ≡ setup_of (rules_of hash) (plan_of d) → fault_of d ≡ None → IsSetup setup
 setup_made hash d setup e fine = subst IsSetup (sym e) (setups_are_made (rules_of hash) d fine)
+
+pub begun_is : {W : Type 0} (work : W) (c : ClusterView W) (kept counts : List ℕ) (ts all : List TaskId) → kept ≡ counts → ts ≡ all → c ≡ record { work = work; counts = kept; tasks = ts; journal = [] } →
+    c ≡ record { work = work; counts = counts; tasks = all; journal = [] }
+begun_is work c kept counts ts all a b e =
+    subst (λ l. c ≡ record { work = work; counts = counts; tasks = l; journal = [] }) b (subst (λ l. c ≡ record { work = work; counts = l; tasks = ts; journal = [] }) a e)
 
 -- ---- a topology and its records before they are run
 pub record IsRunnable (hash : List ℕ → ℕ) (d : DraftView) (is : List ItemView) : Type 0 where
@@ -94,36 +103,21 @@ pub records_ready : (hash : List ℕ → ℕ) (d : DraftView) (plan : TaskPlan) 
 records_ready hash d plan is a h =
     subst (λ s. AreRecords s is) (sym (ap (λ q. q.sources) a)) (subst (λ n. AreRecords n is) (sym (counts_length d)) h)
 
+pub past_ready : (hash : List ℕ → ℕ) (d : DraftView) (plan : TaskPlan) (rest : JobRest) → plan ≡ work_of (rules_of hash) (plan_of d) → StandsPast (length d.topics) rest.taken rest.standing → StandsPast plan.sources rest.taken rest.standing
+past_ready hash d plan rest a h =
+    subst (λ s. StandsPast s rest.taken rest.standing) (sym (ap (λ q. q.sources) a)) (subst (λ n. StandsPast n rest.taken rest.standing) (sym (counts_length d)) h)
+
 pub filled_setup : {W : Type 0} (plan : W → TaskPlan) (old new : ClusterView W) (records : List (PartId × Rec)) → IsFilled old new records → kept.setup_of plan new ≡ kept.setup_of plan old
 filled_setup {W = W} plan old new records h = ap (λ (f : Frame W). setup_from (plan f.work) f.counts f.tasks) h.frame
 
 pub drained_setup : {W : Type 0} (plan : W → TaskPlan) (old new : ClusterView W) → Extends old new → kept.setup_of plan new ≡ kept.setup_of plan old
 drained_setup plan old new h = rw (ap (λ c. c.work) h.same, ap (λ c. c.counts) h.same, ap (λ c. c.tasks) h.same) refl
 
-pub filled_wanted : {W : Type 0} (good : W → PlacementTest) (old new : ClusterView W) (records : List (PartId × Rec)) → IsFilled old new records → good new.work ≡ good old.work
-filled_wanted {W = W} good old new records h = ap (λ (f : Frame W). good f.work) h.frame
-
-drained_wanted : {W : Type 0} (good : W → PlacementTest) (begun filled drained : ClusterView W) (records : List (PartId × Rec)) → IsFilled begun filled records → Extends filled drained → good drained.work ≡ good begun.work
-drained_wanted good begun filled drained records f h = ap (λ c. good c.work) h.same ∙ filled_wanted good begun filled records f
-
--- the drain's own assignment, of every task at the one member, is good
-pub alone_ready : (test : PlacementTest) (placing : Placing) (d : DraftView) (ts : List TaskId) → test ≡ good_by (changelog_numbers (plan_of d)) (tasks (plan_of d)) placing → ts ≡ tasks (plan_of d) → fault_of d ≡ None → 1 ≤ placing.threads →
-    IsGoodForAll test (drain_worker ∷ []) (everything drain_worker ts)
-alone_ready test placing d ts wanted named fine threads =
-    subst (λ t. IsGoodForAll t (drain_worker ∷ []) (everything drain_worker ts)) (sym wanted)
-    (subst (λ us. IsGoodForAll (placed_by (plan_of d) (Some placing)) (drain_worker ∷ []) (everything drain_worker us)) (sym named) (everything_is_good d (Some placing) drain_worker fine threads (omega arith)))
-
 -- ---- what a drained cluster has come to
-pub record IsDrained (setup : Setup) (journal : List Entry) : Type 0 where
-  pub history : IsHistory setup journal
-  pub few : records_in setup journal < 2 ^ 48
-  pub settled : IsSettled setup (at setup journal)
-
-answered : (hash : List ℕ → ℕ) (placing : Placing) (shown : Bool) (d : DraftView) (is : List ItemView) (setup : Setup) (status : ℕ) (text : List ℕ) (journal : List Entry) → IsRunnable hash d is →
+answered : (hash : List ℕ → ℕ) (shown : Bool) (d : DraftView) (is : List ItemView) (setup : Setup) (status : ℕ) (text : List ℕ) (journal : List Entry) → IsRunnable hash d is →
     setup ≡ setup_of (rules_of hash) (plan_of d) → produces journal ≡ placed_all (map (parts_of_topic (plan_of d)) (topics_of (plan_of d))) is → IsDrained setup journal →
-    ArePlaced (good_by (changelog_numbers (plan_of d)) (tasks (plan_of d)) placing) setup journal →
-    (status, text) ≡ with_lines shown journal (told (rules_of hash) d (at setup journal)) → SettlesJob (rules_of hash) placing shown d (records_of is) status text journal
-answered hash placing shown d is setup status text journal ready e made drained placed told_is =
+    (status, text) ≡ with_lines shown journal (told (rules_of hash) d (at setup journal)) → SettlesJob (rules_of hash) shown d (records_of is) status text journal
+answered hash shown d is setup status text journal ready e made drained told_is =
     let rules = rules_of hash in
     let right = setup_of rules (plan_of d) in
     let here : IsDrained right journal = subst (λ s. IsDrained s journal) e drained in
@@ -136,22 +130,18 @@ answered hash placing shown d is setup status text journal ready e made drained 
         run = is_run right journal (works_are_networks rules (plan_of d)) here.history;
         few = here.few;
       };
-      placed = subst (λ s. ArePlaced (good_by (changelog_numbers (plan_of d)) (tasks (plan_of d)) placing) s journal) e placed;
       told = told_is ∙ ap (λ s. with_lines shown journal (told rules d (at s journal))) e;
     }
 
-pub settled_answers : {W : Type 0} (hash : List ℕ → ℕ) (placing : Placing) (shown : Bool) (d : DraftView) (plan : W → TaskPlan) (good : W → PlacementTest) (is : List ItemView) (begun filled drained : ClusterView W) (counts : List ℕ) (status : ℕ) (text : List ℕ) (journal : List Entry) →
-    IsRunnable hash d is → kept.setup_of plan begun ≡ setup_of (rules_of hash) (plan_of d) → good begun.work ≡ good_by (changelog_numbers (plan_of d)) (tasks (plan_of d)) placing →
-    counts ≡ map (parts_of_topic (plan_of d)) (topics_of (plan_of d)) → IsFilled begun filled (placed_all counts is) → Extends filled drained → IsDrained (kept.setup_of plan drained) drained.journal → ArePlaced (good drained.work) (kept.setup_of plan drained) drained.journal →
-    (status, text) ≡ with_lines shown drained.journal (told (rules_of hash) d (kept.state_of plan drained)) → journal ≡ drained.journal → SettlesJob (rules_of hash) placing shown d (records_of is) status text journal
-settled_answers {W = W} hash placing shown d plan good is begun filled drained counts status text journal ready start wanted counts_are filling draining done placed told_is handed =
+pub settled_answers : {W : Type 0} (hash : List ℕ → ℕ) (shown : Bool) (d : DraftView) (plan : W → TaskPlan) (is : List ItemView) (begun filled drained : ClusterView W) (counts : List ℕ) (status : ℕ) (text : List ℕ) (journal : List Entry) →
+    IsRunnable hash d is → kept.setup_of plan begun ≡ setup_of (rules_of hash) (plan_of d) →
+    counts ≡ map (parts_of_topic (plan_of d)) (topics_of (plan_of d)) → IsFilled begun filled (placed_all counts is) → Extends filled drained → IsDrained (kept.setup_of plan drained) drained.journal →
+    (status, text) ≡ with_lines shown drained.journal (told (rules_of hash) d (kept.state_of plan drained)) → journal ≡ drained.journal → SettlesJob (rules_of hash) shown d (records_of is) status text journal
+settled_answers hash shown d plan is begun filled drained counts status text journal ready start counts_are filling draining done told_is handed =
     let setup = drained_setup plan filled drained draining ∙ (filled_setup plan begun filled (placed_all counts is) filling ∙ start) in
     let made : produces drained.journal ≡ placed_all (map (parts_of_topic (plan_of d)) (topics_of (plan_of d))) is =
     draining.produces ∙ (filling.produced ∙ ap (λ cs. placed_all cs is) counts_are) in
-    let test : good drained.work ≡ good_by (changelog_numbers (plan_of d)) (tasks (plan_of d)) placing = drained_wanted good begun filled drained (placed_all counts is) filling draining ∙ wanted in
-    let well = subst (λ t. ArePlaced t (kept.setup_of plan drained) drained.journal) test placed in
-    subst (λ j. SettlesJob (rules_of hash) placing shown d (records_of is) status text j) (sym handed)
-    (answered hash placing shown d is (kept.setup_of plan drained) status text drained.journal ready setup made done well told_is)
+    subst (λ j. SettlesJob (rules_of hash) shown d (records_of is) status text j) (sym handed) (answered hash shown d is (kept.setup_of plan drained) status text drained.journal ready setup made done told_is)
 
 -- the report and the tables are those of the topology
 pub is_of : (hash : List ℕ → ℕ) (d : DraftView) (t : Topology) (setup : Setup) → draft_of t ≡ d → fault_of d ≡ None → setup ≡ setup_of (rules_of hash) (plan_of d) → IsOf t setup
@@ -161,44 +151,82 @@ is_of hash d t setup same fine e = subst (IsOf t) (sym e) (record {
   inputs = λ sub. ap (λ x. get_or (inputs_by_sub (plan_of x)) sub []) same ∙ inputs_there d fine sub;
 })
 
--- ---- a job that was read to its end
-none_of : {A : Type 0} (a b : Option A) → option_or a b ≡ None → (a ≡ None) × (b ≡ None)
-none_of None b e = (refl, e)
-none_of (Some x) b e = absurd (cc)
+-- ---- what a run keeps of its job
+module _ {W : Type 0} (plan : W → TaskPlan) (good : W → PlacementTest) (rules : Rules) (placing : Placing) (d : DraftView) where
+  pub keeps_job : (c : ClusterView W) (records : List Input) (journal : List Entry) → kept.setup_of plan c ≡ setup_of rules (plan_of d) → IsWantedBy good c.work d placing → IsHistory (kept.setup_of plan c) c.journal →
+      ArePlaced (good c.work) (kept.setup_of plan c) c.journal → produces c.journal ≡ placed_records rules d records → journal ≡ c.journal → KeepsJob rules placing d records journal
+  keeps_job c records journal setup wanted history placed made handed = subst (KeepsJob rules placing d records) (sym handed) (record {
+    history = subst (λ s. IsHistory s c.journal) setup history;
+    placed = subst (λ s. ArePlaced (good_by (changelog_numbers (plan_of d)) (tasks (plan_of d)) placing) s c.journal) setup (subst (λ t. ArePlaced t (kept.setup_of plan c) c.journal) wanted placed);
+    produced = made;
+  })
 
-unmapped : {A B : Type 0} (f : A → B) (o : Option A) → option_map f o ≡ None → o ≡ None
-unmapped f None e = refl
-unmapped f (Some x) e = absurd (cc)
+-- the drain's own assignment, of every task at the one member, is good
+pub alone_ready : (test : PlacementTest) (placing : Placing) (d : DraftView) (ts : List TaskId) → test ≡ good_by (changelog_numbers (plan_of d)) (tasks (plan_of d)) placing → ts ≡ tasks (plan_of d) → fault_of d ≡ None → 1 ≤ placing.threads →
+    IsGoodForAll test (drain_worker ∷ []) (everything drain_worker ts)
+alone_ready test placing d ts wanted named fine threads =
+    subst (λ t. IsGoodForAll t (drain_worker ∷ []) (everything drain_worker ts)) (sym wanted)
+    (subst (λ us. IsGoodForAll (placed_by (plan_of d) (Some placing)) (drain_worker ∷ []) (everything drain_worker us)) (sym named) (everything_is_good d (Some placing) drain_worker fine threads (omega arith)))
 
-no_split : (r : Reader) (is : List ItemView) → line_stop r ≡ None → Told r is → AreOfJob is → split is ≡ None → ⊥
-no_split (Reading s begun) [] l t j e = t
-no_split (Reading s begun) (TopologyAt line d ∷ is) l t j e = absurd (cc)
-no_split (Reading s begun) (RecordTo topic r ∷ is) l t j e = j
-no_split (Faulty n k) is l t j e = absurd (cc)
+-- ---- the end of a run
+module _ {W : Type 0} (hash : List ℕ → ℕ) (plan : W → TaskPlan) (good : W → PlacementTest) (placing : Placing) (shown : Bool) (d : DraftView) (begun filled : ClusterView W) (intake : Intake) (left now : Option (List ℕ)) (e : JobEnd)
+    (start : kept.setup_of plan begun ≡ setup_of (rules_of hash) (plan_of d)) (wanted : IsWantedBy good begun.work d placing) (counts : intake.counts.items ≡ map (parts_of_topic (plan_of d)) (topics_of (plan_of d)))
+    (job : IsReadable d (item_views intake.records.items) intake.rest) (work : HasWorked begun filled intake left now e) where
+  abbrev its_items : List ItemView
+  its_items = item_views intake.records.items ++ work.items
 
-pub job_splits : (is : List ItemView) → IsReadJob is → split is ≡ None → ⊥
-job_splits is h e =
-    let m = whole h.bytes in
-    let w = job_items h.bytes in
-    no_split m.reader m.items (none_of (topology_stop m.items) (line_stop m.reader) h.unstopped).1 w.told w.job (ap split (sym h.items_are) ∙ e)
+  its_records : AreRecords (length d.topics) its_items
+  its_records = all_records (length d.topics) intake.rest.taken intake.rest.standing left now e (item_views intake.records.items) work.items job.past job.records_are work.ends
 
-pub record JobParts (d : DraftView) (rest : List ItemView) : Type 0 where
-  pub fine : fault_of d ≡ None
-  pub partitions : HavePartitions d.topics
-  pub records : AreRecords (length d.topics) rest
+  pub filled_start : kept.setup_of plan filled ≡ setup_of (rules_of hash) (plan_of d)
+  filled_start = filled_setup plan begun filled (placed_all intake.counts.items its_items) work.filled ∙ start
 
-parts_of_items : (is : List ItemView) (d : DraftView) (rest : List ItemView) → topology_stop is ≡ None → AreOfJob is → split is ≡ Some (d, rest) → JobParts d rest
-parts_of_items [] d rest u j e = absurd (cc)
-parts_of_items (TopologyAt line f ∷ is) d rest u j e =
-    let fine : fault_of f ≡ None = unmapped (BadTopology line) (fault_of f) u in
-    let same : (f, is) ≡ (d, rest) = some_same e in
-    subst (λ x. JobParts x.0 x.1) same (record { fine = fine; partitions = j.0; records = j.1 })
-  where
-    some_same : {A : Type 0} {x y : A} → Some x ≡ Some y → x ≡ y
-    some_same k = cc
-parts_of_items (RecordTo topic r ∷ is) d rest u j e = absurd j
+  pub filled_wanted : IsWantedBy good filled.work d placing
+  filled_wanted = ap (λ (f : Frame W). good f.work) work.filled.frame ∙ wanted
 
-pub job_parts : (is : List ItemView) (d : DraftView) (rest : List ItemView) → IsReadJob is → split is ≡ Some (d, rest) → JobParts d rest
-job_parts is d rest h e =
-    let m = whole h.bytes in
-    parts_of_items m.items d rest (none_of (topology_stop m.items) (line_stop m.reader) h.unstopped).0 (job_items h.bytes).job (ap split (sym h.items_are) ∙ e)
+  filled_made : produces filled.journal ≡ placed_records (rules_of hash) d (records_of its_items)
+  filled_made = work.filled.produced ∙ (ap (λ cs. placed_all cs its_items) counts ∙ records_placed hash d its_items its_records)
+
+  -- a run that was cut short
+  cut_short : (before after status : ℕ) (text : List ℕ) (journal : List Entry) → FaultsBy e before after → IsLeft plan good filled journal → (IsUndrained journal → TellsEnd e (rules_of hash) shown d (records_of its_items) status text journal) →
+      RunsJob (rules_of hash) placing shown d (item_views intake.records.items) intake.rest.standing left now before after status text journal
+  cut_short before after status text journal faults h told = record {
+    end = e;
+    items = work.items;
+    reads = work.ends;
+    faults = faults;
+    kept = keeps_job plan good (rules_of hash) placing d filled (records_of its_items) journal filled_start filled_wanted h.history h.placed filled_made h.handed;
+    told = told (subst IsUndrained (sym h.handed) work.filled.undrained);
+  }
+
+  -- one that was drained
+  module _ (fine : fault_of d ≡ None) (spelled : FitsPlan (plan_of d)) (hashes : FitsRules (rules_of hash)) where
+    ready : IsRunnable hash d its_items
+    ready = record { fine = fine; spelled = spelled; hashes = hashes; partitions = job.partitions; records = its_records }
+
+    ran_whole : (before after status : ℕ) (text : List ℕ) (journal : List Entry) → e ≡ end.Whole → FaultsBy e before after → IsEnded plan good (rules_of hash) shown d filled status text journal →
+        RunsJob (rules_of hash) placing shown d (item_views intake.records.items) intake.rest.standing left now before after status text journal
+    ran_whole before after status text journal whole faults h =
+        let setup = drained_setup plan filled h.drained h.more ∙ filled_start in
+        record {
+          end = e;
+          items = work.items;
+          reads = work.ends;
+          faults = faults;
+          kept = keeps_job plan good (rules_of hash) placing d h.drained (records_of its_items) journal setup (ap (λ c. good c.work) h.more.same ∙ filled_wanted) h.done.history h.placed (h.more.produces ∙ filled_made) h.handed;
+          told = subst (λ x. TellsEnd x (rules_of hash) shown d (records_of its_items) status text journal) (sym whole)
+              (settled_answers hash shown d plan its_items begun filled h.drained intake.counts.items status text journal ready start counts work.filled h.more h.done h.told h.handed);
+        }
+
+-- one of any end
+pub ran_so : {W : Type 0} (hash : List ℕ → ℕ) (plan : W → TaskPlan) (good : W → PlacementTest) (placing : Placing) (shown : Bool) (d : DraftView) (begun filled : ClusterView W) (intake : Intake) (left now : Option (List ℕ)) (e : JobEnd) →
+    kept.setup_of plan begun ≡ setup_of (rules_of hash) (plan_of d) → IsWantedBy good begun.work d placing → intake.counts.items ≡ map (parts_of_topic (plan_of d)) (topics_of (plan_of d)) →
+    IsReadable d (item_views intake.records.items) intake.rest → HasWorked begun filled intake left now e → fault_of d ≡ None → FitsPlan (plan_of d) → FitsRules (rules_of hash) →
+    (before after status : ℕ) (text : List ℕ) (journal : List Entry) → FaultsBy e before after → EndsBy plan good (rules_of hash) shown d filled e status text journal →
+    RunsJob (rules_of hash) placing shown d (item_views intake.records.items) intake.rest.standing left now before after status text journal
+ran_so hash plan good placing shown d begun filled intake left now end.Whole start wanted counts job work fine spelled hashes before after status text journal faults h =
+    ran_whole hash plan good placing shown d begun filled intake left now end.Whole start wanted counts job work fine spelled hashes before after status text journal refl faults h
+ran_so hash plan good placing shown d begun filled intake left now (end.Stopped stop) start wanted counts job work fine spelled hashes before after status text journal faults h =
+    cut_short hash plan good placing shown d begun filled intake left now (end.Stopped stop) start wanted counts job work before after status text journal faults h.2 (λ u. (h.0, h.1, u))
+ran_so hash plan good placing shown d begun filled intake left now end.Failed start wanted counts job work fine spelled hashes before after status text journal faults h =
+    cut_short hash plan good placing shown d begun filled intake left now end.Failed start wanted counts job work before after status text journal faults h.2 (λ u. (h.0, h.1, u))

@@ -1,5 +1,5 @@
 -- What a run answers, and why.
-use Rattle.std.specs.Prelude.{◌≡◌, ◌⊎◌, ℕ, Bool, List, [], Option, Some, None, IfSome}
+use Rattle.std.specs.Prelude.{◌≡◌, ◌⊎◌, ℕ, Bool, List, Option, Some, None, IfSome}
 use Rattle.std.specs.Io.KnownBytes.{IsAtEnd}
 use Rattle.ks_edge.specs.Causes.{Rose}
 use Rattle.ks_assign.specs.declared.clients.Placing.{Placing}
@@ -11,7 +11,7 @@ use Rattle.ks_job_source.specs.Stops.{stop_of}
 use Rattle.ks_job_source.specs.Reading.{TookNoFault}
 use Rattle.ks_output.specs.Texts.{read_fault_text}
 use Rattle.ks_job_source.specs.Texts.{bad_job_text}
-use Rattle.ks_run.specs.Journals.{IsSettledRun, IsLateRun, IsCollidedRun, HasJournal}
+use Rattle.ks_run.specs.Journals.{IsSettledRun, IsLateRun, IsCollidedRun, HasJournal, IsUndrained}
 
 -- the bytes are no job that can be run, for this reason
 abbrev pub IsStopped : List ℕ → Stop → Type 0
@@ -30,8 +30,8 @@ pub record IsRefused (left : Option (List ℕ)) (text : List ℕ) : Type 0 where
 -- what a job's run answers, with its text and its journal: by the bytes that the source has left before and after, where they are
 -- known, and its count of faults before and after
 pub record IsJudged (rules : Rules) (placing : Placing) (shown : Bool) (old new : Option (List ℕ)) (before now : ℕ) (status : ℕ) (text : List ℕ) (journal : List Entry) : Type 0 where
-  pub read_fault : status ≡ 6 → Rose before now × TookNoFault old new × (text ≡ read_fault_text) × (journal ≡ [])
-  pub bad_job : status ≡ 2 → (now ≡ before) × IsRefused old text × (journal ≡ [])
+  pub read_fault : status ≡ 6 → Rose before now × TookNoFault old new × (text ≡ read_fault_text) × IsUndrained journal
+  pub bad_job : status ≡ 2 → (now ≡ before) × IsRefused old text × IsUndrained journal
   pub settled : status ≡ 0 → (now ≡ before) × IsAtEnd new × IsSettledRun rules shown old text journal
   pub late : status ≡ 3 → (now ≡ before) × IsAtEnd new × IsLateRun rules shown old text journal
   pub collision : status ≡ 5 → (now ≡ before) × IsAtEnd new × IsCollidedRun rules shown old text journal

@@ -2,12 +2,12 @@
 use Rattle.std.specs.Prelude.{◌≡◌, ℕ, Bool, false, List, [], Option, Some, None}
 use Rattle.ks_assign.specs.declared.clients.Placing.{Placing}
 use Rattle.ks_crew.specs.Members.{placing_of}
-use Rattle.ks_words.specs.Grammar.{usual}
 use Rattle.ks_def_tasks.specs.Messages.{Rules}
 use Rattle.ks_history.specs.declared.journal.Entry.{Entry}
 use Rattle.ks_output.specs.Texts.{bad_words_text}
 use Rattle.ks_words.specs.declared.command.Command.{Command}
 use Rattle.ks_words.specs.declared.command.Command.TheVariants.{Run, Load}
+use Rattle.ks_words.specs.Grammar.{usual}
 use Rattle.ks_words.specs.Load.{load_text}
 use Rattle.ks_edge.specs.Causes.{Rose}
 use Rattle.ks_run.specs.Answers.{IsJudged}

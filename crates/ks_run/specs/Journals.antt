@@ -1,12 +1,9 @@
 -- A run's tables and its journal, by the job.
-use Rattle.std.specs.Prelude.{◌≡◌, ◌<◌, ◌^◌, ℕ, Bool, List, [], ◌∷◌, ◌++◌, map, Option, Some, None, IfSome}
+use Rattle.std.specs.Prelude.{◌≡◌, ◌<◌, ◌^◌, ℕ, Bool, List, [], ◌∷◌, ◌++◌, filter, map, Option, Some, None, IfSome}
 use Rattle.ks_plan.specs.Drafts.{DraftView}
 use Rattle.ks_plan.specs.Plan.{plan_of}
 use Rattle.ks_plan.specs.Layout.{tasks}
 use Rattle.ks_plan.specs.Infos.{changelog_numbers}
-use Rattle.ks_assign.specs.declared.clients.Placing.{Placing}
-use Rattle.ks_placement.specs.Groups.{good_by}
-use Rattle.ks_cluster.specs.Placed.{ArePlaced}
 use Rattle.ks_query.specs.Streams.{Input}
 use Rattle.ks_query.specs.Grace.{IsWithinGrace}
 use Rattle.ks_def_tasks.specs.Messages.{Rules}
@@ -16,6 +13,10 @@ use Rattle.ks_history.specs.Count.{records_in}
 use Rattle.ks_history.specs.Settled.{IsSettled as IsAtRest}
 use Rattle.ks_row.specs.declared.record.Rec.{Rec}
 use Rattle.ks_row.specs.declared.record.PartId.{PartId}
+use Rattle.ks_assign.specs.declared.clients.Placing.{Placing}
+use Rattle.ks_placement.specs.Groups.{good_by}
+use Rattle.ks_cluster.specs.Placed.{ArePlaced}
+use Rattle.ks_feed.specs.Producing.{begins_drain}
 use Rattle.ks_law_exactly_once.specs.Law.{IsRun}
 use Rattle.ks_law_topology.specs.Work.{setup_of}
 use Rattle.ks_job.specs.Items.{ItemView, TopologyAt, RecordTo}
@@ -100,8 +101,8 @@ abbrev pub IsPlaced : Rules → Placing → DraftView → List Entry → Type 0
 IsPlaced rules placing d journal =
     ArePlaced (good_by (changelog_numbers (plan_of d)) (tasks (plan_of d)) placing) (setup_of rules (plan_of d)) journal
 
--- a journal that is legal and faithful, has good assignments alone, and has produced a front of the records that some bytes have before
--- their first faulty line; the bytes are those that the source has left where it tells them
+-- a journal that is legal and faithful, has good assignments alone, and has produced a front of the records that some bytes have before their
+-- first faulty line; the bytes are those that the source has left where it tells them
 pub record HasJournal (rules : Rules) (placing : Placing) (left : Option (List ℕ)) (journal : List Entry) : Type 0 where
   pub bytes : List ℕ
   pub known : IfSome left (λ b. b ≡ bytes)
@@ -112,3 +113,7 @@ pub record HasJournal (rules : Rules) (placing : Placing) (left : Option (List �
   pub history : IsHistory (setup_of rules (plan_of draft)) journal
   pub placed : IsPlaced rules placing draft journal
   pub front : (rest : List (PartId × Rec)) × (placed_records rules draft records ≡ produces journal ++ rest)
+
+-- the drain was left out: no `init` and no `join` of the caller's own number, with which it begins
+abbrev pub IsUndrained : List Entry → Type 0
+IsUndrained journal = filter begins_drain journal ≡ []

@@ -6,14 +6,14 @@ ghost use Rattle.ks_hash.specs.Murmur3.{murmur3_of};
 ghost use Rattle.ks_nodes.specs.Rules.{rules_of};
 ghost use Rattle.ks_output.specs.Bytes.{AppendsFront};
 ghost use Rattle.ks_output.specs.Texts.{bad_words_text, read_fault_text};
+ghost use Rattle.ks_crew.specs.Members.{placing_of};
 ghost use Rattle.ks_words.specs.Grammar.{words_of, command_of};
 ghost use Rattle.ks_words.specs.Load.{load_text};
 ghost use Rattle.ks_words.specs.Ranges.{HasRanges, IsWithin};
 ghost use Rattle.ks_job_source.specs.Reading.{TookNoFault};
 ghost use Rattle.ks_run.specs.Answers.{IsRefused, IsStatus};
-ghost use Rattle.ks_crew.specs.Members.{placing_of};
 ghost use Rattle.ks_run.specs.Commands.{HasValidJob, IsRun, IsJudgedBy, IsLoadJudged, placing_by, job_bytes, journal_of};
-ghost use Rattle.ks_run.specs.Journals.{IsSettledRun, IsLateRun, IsCollidedRun, HasJournal, IsWithoutCollision};
+ghost use Rattle.ks_run.specs.Journals.{IsSettledRun, IsLateRun, IsCollidedRun, HasJournal, IsUndrained, IsWithoutCollision};
 
 use crate::loading::TextSource;
 use crate::runs::{Ended, run_job};
@@ -27,15 +27,15 @@ use std::alloc::Global;
 use std::sync::Wait;
 use std::thread::Threads;
 
-// The same settings, without the journal's lines: `load` has none.
-fn without_journal(settings: Settings) -> Settings
+// The same settings, with the journal printed where it is shown.
+fn with_journal(settings: Settings, shown: bool) -> Settings
     requires { HasRanges settings }
     ensures ranges { HasRanges result }
     ensures placing { placing_of result ≡ placing_of settings }
-    ensures journal { result.journal ≡ false }
+    ensures journal { result.journal ≡ shown }
 {
     Settings {
-        journal: false,
+        journal: shown,
         ..settings
     }
 }
@@ -86,7 +86,7 @@ fn run_load<R: Threads + Wait + Sync, K: Sink>(
     ensures words { result.status ≡ 1 → ⊥ }
     ensures bad_job { result.status ≡ 2 → ((text : List ℕ) × IsRefused (Some (load_text orders)) text
         × Appends (K.held out.old) (K.held out.new) text)
-        × (result.journal ≡ []) }
+        × IsUndrained result.journal }
     ensures settled { result.status ≡ 0 → ((text : List ℕ) × IsSettledRun (rules_of murmur3_of) false (Some (load_text orders)) text result.journal
         × Appends (K.held out.old) (K.held out.new) text) }
     ensures late { result.status ≡ 3 → ((text : List ℕ) × IsLateRun (rules_of murmur3_of) false (Some (load_text orders)) text result.journal
@@ -110,12 +110,12 @@ fn run_load<R: Threads + Wait + Sync, K: Sink>(
         };
     };
     let mut source = TextSource::new(text);
-    let settings = without_journal(settings);
+    let settings = with_journal(settings, false);
     run_job::<Murmur3, R, TextSource, K>(rt, alloc, &settings, &mut source, out, gates)
 }
 
 // Runs a command, or refuses the words that name none.
-fn run_command<R: Threads + Wait + Sync, S: Source, K: Sink>(
+fn run_command<R: Threads + Wait + Sync, S: Source + Send, K: Sink>(
     rt: &R,
     alloc: Global,
     command: Option<Command>,
@@ -133,11 +133,11 @@ fn run_command<R: Threads + Wait + Sync, S: Source, K: Sink>(
         × Rose (S.faults input.old) (S.faults input.new)
         × TookNoFault (S.left input.old) (S.left input.new)
         × Appends (K.held out.old) (K.held out.new) read_fault_text
-        × (result.journal ≡ []) }
+        × IsUndrained result.journal }
     ensures bad_job { result.status ≡ 2 → (S.faults input.new ≡ S.faults input.old)
         × ((text : List ℕ) × IsRefused (job_bytes command (S.left input.old)) text
         × Appends (K.held out.old) (K.held out.new) text)
-        × (result.journal ≡ []) }
+        × IsUndrained result.journal }
     ensures settled { result.status ≡ 0 → (S.faults input.new ≡ S.faults input.old)
         × (IsRun command → IsAtEnd (S.left input.new))
         × ((text : List ℕ) × IsSettledRun (rules_of murmur3_of) (journal_of command) (job_bytes command (S.left input.old)) text result.journal
@@ -179,7 +179,7 @@ fn run_command<R: Threads + Wait + Sync, S: Source, K: Sink>(
 
 /// Runs the command that the words name, by `run_job` with Murmur3: `run` the job that the source holds, `load N` the load job of N orders,
 /// which asks no source. `--journal` has the journal's lines of `run` printed last. Words that aren't in the grammar have status 1: `bad words` is written, the source is as it was, and the journal is empty.
-pub fn top<R: Threads + Wait + Sync, S: Source, K: Sink>(
+pub fn top<R: Threads + Wait + Sync, S: Source + Send, K: Sink>(
     rt: &R,
     alloc: Global,
     words: &[String],
@@ -196,11 +196,11 @@ pub fn top<R: Threads + Wait + Sync, S: Source, K: Sink>(
         × Rose (S.faults input.old) (S.faults input.new)
         × TookNoFault (S.left input.old) (S.left input.new)
         × Appends (K.held out.old) (K.held out.new) read_fault_text
-        × (result.journal ≡ []) }
+        × IsUndrained result.journal }
     ensures bad_job { result.status ≡ 2 → (S.faults input.new ≡ S.faults input.old)
         × ((text : List ℕ) × IsRefused (job_bytes (command_of (words_of words.now)) (S.left input.old)) text
         × Appends (K.held out.old) (K.held out.new) text)
-        × (result.journal ≡ []) }
+        × IsUndrained result.journal }
     ensures settled { result.status ≡ 0 → (S.faults input.new ≡ S.faults input.old)
         × (IsRun (command_of (words_of words.now)) → IsAtEnd (S.left input.new))
         × ((text : List ℕ) × IsSettledRun (rules_of murmur3_of) (journal_of (command_of (words_of words.now))) (job_bytes (command_of (words_of words.now)) (S.left input.old)) text result.journal

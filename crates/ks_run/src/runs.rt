@@ -1,5 +1,5 @@
 //! A run of a job.
-ghost use Rattle.std.specs.Prelude.{◌≡◌, ◌⊎◌, ℕ, List, [], false, length};
+ghost use Rattle.std.specs.Prelude.{◌≡◌, ◌⊎◌, ℕ, List, false, length};
 ghost use Rattle.std.specs.Io.KnownBytes.{Appends, IsAtEnd};
 ghost use Rattle.ks_edge.specs.Causes.{Rose};
 ghost use Rattle.ks_nodes.specs.Rules.{rules_of};
@@ -7,7 +7,7 @@ ghost use Rattle.ks_output.specs.Bytes.{AppendsFront};
 ghost use Rattle.ks_output.specs.Texts.{read_fault_text};
 ghost use Rattle.ks_crew.specs.Members.{placing_of};
 ghost use Rattle.ks_words.specs.Ranges.{HasRanges};
-ghost use Rattle.ks_run.specs.Journals.{IsSettledRun, IsLateRun, IsCollidedRun, HasJournal, IsInTime, IsWithoutCollision};
+ghost use Rattle.ks_run.specs.Journals.{IsSettledRun, IsLateRun, IsCollidedRun, HasJournal, IsUndrained, IsInTime, IsWithoutCollision};
 ghost use Rattle.ks_job_source.specs.Reading.{TookNoFault};
 ghost use Rattle.ks_run.specs.Answers.{IsRefused, IsJudged, IsStatus};
 
@@ -36,22 +36,23 @@ pub struct Ended {
 /// | Status | Comes | Written | Journal |
 /// |---|---|---|---|
 /// | 0 | the source did not fail and was read to its end, its bytes are a job, no two rows of a left key of a join on a foreign key have one hash, and nothing was late | `settled`, and the tables in the order of `print`: the topology's query over the job's records | has produced the job's records, is settled, and its replay is one uncrashed run |
-/// | 2 | the bytes have a faulty line, or a topology with a fault, before the source failed | `bad job line L: FAULT`, the first such line | empty |
+/// | 2 | the bytes have a faulty line, or a topology with a fault, before the source failed | `bad job line L: FAULT`, the first such line | has produced a front of the records before it, and isn't drained |
 /// | 3 | as 0, but so many pairs of a record and a window were late, which comes only where the records are not within grace | `late N`, and the tables as the changelogs keep them: each is the query's but those of windowed counts, which lack exactly the late pairs | as of 0 |
 /// | 5 | as 0, but two decided records of a left key in one partition have rows that differ and one hash, whatever was late | `collision NODE KEY FIRST SECOND`: the join, the key, and the offsets of the first two such records | as of 0 |
-/// | 6 | the source failed before that | `read fault` | empty |
+/// | 6 | the source failed before that | `read fault` | as of 2 |
 /// | 7 | the sink failed, in place of each of these | a front of what they write | as theirs |
 /// | 8 | there was no memory, in a worker or elsewhere | nothing | |
 ///
 /// So a job whose records are within grace is answered by its query, unless a device fails, memory runs out, or rows of one key have one
 /// hash.
 ///
-/// The records are taken and committed by so many workers, each in a thread of its own: `threads` of them for each of so many
-/// `instances`, with `standbys` of each task; and then by the drain (`ks_crew`, `ks_settle`). The worker w is told its acts by the gate w, which begins for it with `chaos` and `interval`, and has the
-/// turns of `stop`; gates that are left over are dropped unasked.
+/// The source is read until the topology is whole. Then each record is produced as soon as its line is, while the workers run, each in a thread of its own: `threads` of them for each of so many
+/// `instances`, with `standbys` of each task. They take and commit the records, and what they leave the drain does (`ks_crew`, `ks_settle`); where a line is faulty or the source fails there is none.
+/// With `stop` the source is read whole first. The worker w is told its acts by the gate w, which begins for it with `chaos` and `interval`, and has the
+/// turns of `stop`; gates that are left over are dropped unasked. The journal is empty where the topology isn't known, or is refused.
 /// With `journal` the journal's lines come last under statuses 0, 3 and 5 (`ks_journal`). A line is whole at its line feed, at its byte 65,537, or at the end of the input; the source isn't asked again once a
 /// faulty line is whole, nor after its end. The text is built whole before its first byte is written.
-pub fn run_job<H: Hash128 + Send + Sync, R: Threads + Wait + Sync, S: Source, K: Sink>(
+pub fn run_job<H: Hash128 + Send + Sync, R: Threads + Wait + Sync, S: Source + Send, K: Sink>(
     rt: &R,
     alloc: Global,
     settings: &Settings,
@@ -66,11 +67,11 @@ pub fn run_job<H: Hash128 + Send + Sync, R: Threads + Wait + Sync, S: Source, K:
     ensures read_fault { result.status ≡ 6 → Rose (S.faults input.old) (S.faults input.new)
         × TookNoFault (S.left input.old) (S.left input.new)
         × Appends (K.held out.old) (K.held out.new) read_fault_text
-        × (result.journal ≡ []) }
+        × IsUndrained result.journal }
     ensures bad_job { result.status ≡ 2 → (S.faults input.new ≡ S.faults input.old)
         × ((text : List ℕ) × IsRefused (S.left input.old) text
         × Appends (K.held out.old) (K.held out.new) text)
-        × (result.journal ≡ []) }
+        × IsUndrained result.journal }
     ensures settled { result.status ≡ 0 → (S.faults input.new ≡ S.faults input.old)
         × IsAtEnd (S.left input.new)
         × ((text : List ℕ) × IsSettledRun (rules_of H.hash_of) settings.now.journal (S.left input.old) text result.journal

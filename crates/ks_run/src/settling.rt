@@ -1,39 +1,42 @@
 //! Runs a job's tasks over its records, until nothing is left to take.
-ghost use Rattle.std.specs.Prelude.{◌≡◌, ◌++◌, ◌<◌, ◌^◌, IfOk, OnOk, None, Some, length, option_map};
+ghost use Rattle.std.specs.Prelude.{◌≡◌, ◌++◌, ◌<◌, ◌^◌, [], IfOk, OnOk, length, map};
 ghost use Rattle.ks_plan.specs.Drafts.{draft_view};
+ghost use Rattle.ks_plan.specs.Infos.{topic_infos};
+ghost use Rattle.ks_plan.specs.Layout.{tasks};
 ghost use Rattle.ks_topo.specs.Topologies.{draft_of, plan_in};
 ghost use Rattle.ks_history.specs.History.{IsHistory};
+ghost use Rattle.ks_history.specs.State.{IsSetup};
 ghost use Rattle.ks_history.specs.Count.{records_in};
-ghost use Rattle.ks_plan.specs.Infos.{changelog_numbers};
-ghost use Rattle.ks_plan.specs.Layout.{tasks};
-ghost use Rattle.ks_placement.specs.Groups.{good_by};
+ghost use Rattle.ks_cluster.specs.View.{setup_from, setup_of};
 ghost use Rattle.ks_cluster.specs.Placed.{ArePlaced};
-ghost use Rattle.ks_crew.specs.Members.{placing_of};
-ghost use Rattle.ks_cluster.specs.View.{setup_of};
 ghost use Rattle.ks_job.specs.Items.{item_views};
-ghost use Rattle.ks_law_inputs.specs.Records.{HavePartitions, AreRecords, records_of};
-ghost use Rattle.ks_law_topology.specs.Work.{work_of};
+ghost use Rattle.ks_job_source.specs.Opening.{IsReadable};
+ghost use Rattle.ks_law_inputs.specs.Records.{HavePartitions};
+ghost use Rattle.ks_law_topology.specs.Work.{work_of, setup_of as topology_setup};
 ghost use Rattle.ks_law_kinds.specs.Fitting.{FitsRules};
 ghost use Rattle.ks_nodes.specs.Rules.{rules_of};
 ghost use Rattle.ks_words.specs.Ranges.{HasRanges};
+ghost use Rattle.ks_crew.specs.Members.{placing_of};
 ghost use Rattle.ks_run.specs.Told.{lines_of, with_lines};
 ghost use Rattle.ks_run.specs.Verdict.{told_as};
-ghost use Rattle.ks_run.specs.Settling.{IsReadJob, split, SettlesJob, SettlesItems};
+ghost use Rattle.ks_run.specs.Settling.{IsWantedBy, AreWanted, IsEnded, IsLeft, EndsBy, RunsJob};
 
 use crate::answer::Answer;
+use crate::status::{BAD_JOB, READ_FAULT};
 use crate::verdict::{Verdict, judge, print_verdict};
 use ks_cluster::{Cluster, Work};
 use ks_crew::{Crew, placing_of, run_crew};
-use ks_edge::Gate;
-use ks_feed::counts_of;
+use ks_edge::{Gate, Source};
+use ks_feed::{Intake, counts_of};
 use ks_hash::Hash128;
 use ks_history::Entry;
-use ks_job::JobItem;
+use ks_job_source::{JobEnd, OpenJob, print_bad_job};
 use ks_journal::push_journal;
 use ks_law_kinds::topology_fits;
+use ks_output::print_read_fault;
 use ks_settle::drain;
 use ks_task::TaskWork;
-use ks_topo::{Draft, Topology, share_topology};
+use ks_topo::{Topology, share_topology};
 use std::alloc::{AllocError, Global};
 use std::sync::Wait;
 use std::thread::{Threads, join};
@@ -81,82 +84,146 @@ fn hashes_fit<H: Hash128>()
     ensures { FitsRules (rules_of H.hash_of) }
 {}
 
-// The run of a job's tasks.
-fn settle<H: Hash128 + Send + Sync, R: Threads + Wait + Sync, W: Work + Send + Sync>(
+// The answer of a run that was cut short, and wasn't drained.
+fn end_undrained<R: Threads + Sync, W: Work + Send>(
+    rt: &R,
+    cluster: Cluster<W>,
+    status: u8,
+    text: Vec<u8>,
+) -> Answer
+    ensures made { (result.status ≡ status) × (result.text.items ≡ text.items) }
+    ensures left { IsLeft W.plan W.good cluster result.journal }
+{
+    Answer {
+        status,
+        text,
+        journal: cluster.into_journal_wide(rt),
+    }
+}
+
+// The answer of a run whose records were all fed: the cluster is brought to rest.
+fn end_settled<H: Hash128 + Send + Sync, R: Threads + Sync, W: Work + Send + Sync>(
     rt: &R,
     alloc: Global,
     topology: &Topology,
-    work: W,
-    records: Vec<JobItem>,
-    crew: Crew<Box<dyn Gate + Send>>,
+    mut cluster: Cluster<W>,
+    shown: bool,
 ) -> Result<Answer, AllocError>
-    requires settings { HasRanges crew.settings }
-    requires gates { length crew.gates.items ≡ 16 }
-    requires work { W.plan work ≡ work_of (rules_of H.hash_of) (plan_in topology.now) }
-    requires wanted { W.good work ≡ good_by (changelog_numbers (plan_in topology.now))
-        (tasks (plan_in topology.now)) (placing_of crew.settings) }
+    requires setup { setup_of W.plan cluster ≡ topology_setup (rules_of H.hash_of) (plan_in topology.now) }
+    requires placing { AreWanted W.good cluster.work (draft_of topology.now) }
     requires partitions { HavePartitions (draft_of topology.now).topics }
-    requires records { AreRecords (length (draft_of topology.now).topics) (item_views records.items) }
-    ensures { IfOk result (λ a. SettlesJob (rules_of H.hash_of) (placing_of crew.settings) crew.settings.journal (draft_of topology.now) (records_of (item_views records.items)) a.status a.text.items a.journal) }
+    ensures { IfOk result (λ a. IsEnded W.plan W.good (rules_of H.hash_of) shown (draft_of topology.now) cluster a.status a.text.items a.journal) }
 {
-    // Its names and constants can be written, and it is well formed: the law on settled journals asks for both.
-    topology_fits(topology);
-    hashes_fit::<H>();
     let _nodes = topology.nodes();
-    let counts = counts_of(alloc, topology.topics())?;
-    let kept = Vec::from_slice(alloc, counts.as_slice())?;
-    let tasks = Vec::from_slice(alloc, topology.tasks())?;
-    let empty = Cluster::new(alloc, work, kept, tasks)?;
-    let shown = crew.settings.journal;
-    let mut cluster = run_crew::<H, R, W>(
-        rt,
-        alloc,
-        topology,
-        empty,
-        counts.as_slice(),
-        records,
-        crew,
-    )?;
     drain::<H, R, W>(rt, alloc, topology, &mut cluster)?;
     let verdict = judge::<H, R, W>(rt, alloc, topology, &cluster)?;
     end_run(rt, alloc, cluster, verdict, shown)
 }
 
-// The topology of a job, and its other items.
-fn split_job(items: Vec<JobItem>) -> Option<(Draft, Vec<JobItem>)>
-    ensures { option_map (λ p. (draft_view p.0, item_views p.1.items)) result ≡ split (item_views items.items) }
+// The answer of a run by how reading its job ended: a cluster is brought to rest only where all of the job was read.
+fn end_by<H: Hash128 + Send + Sync, R: Threads + Sync, W: Work + Send + Sync>(
+    rt: &R,
+    alloc: Global,
+    topology: &Topology,
+    cluster: Cluster<W>,
+    end: JobEnd,
+    shown: bool,
+) -> Result<Answer, AllocError>
+    requires setup { setup_of W.plan cluster ≡ topology_setup (rules_of H.hash_of) (plan_in topology.now) }
+    requires placing { AreWanted W.good cluster.work (draft_of topology.now) }
+    requires partitions { HavePartitions (draft_of topology.now).topics }
+    ensures { IfOk result (λ a. EndsBy W.plan W.good (rules_of H.hash_of) shown (draft_of topology.now) cluster end
+        a.status a.text.items a.journal) }
 {
-    let mut items = items;
-    if items.is_empty() {
-        return None;
-    }
-    match items.remove(0) {
-        JobItem::Topology { line: _, draft } => Some((draft, items)),
-        JobItem::Input { .. } => None,
+    match end {
+        JobEnd::Whole => end_settled::<H, R, W>(rt, alloc, topology, cluster, shown),
+        JobEnd::Stopped(stop) => {
+            let text = print_bad_job(alloc, &stop)?;
+            Ok(end_undrained(rt, cluster, BAD_JOB, text))
+        }
+        JobEnd::Failed => {
+            let text = print_read_fault(alloc)?;
+            Ok(end_undrained(rt, cluster, READ_FAULT, text))
+        }
     }
 }
 
-/// The run of a job that was read to its end, by this crew; the text has the journal's lines where the crew's settings say so. Want of
-/// memory, also in a worker, is the one error.
-pub fn settle_job<H: Hash128 + Send + Sync, R: Threads + Wait + Sync>(
+// A new cluster of the tasks of a topology, whose topics have these partition counts.
+fn begin<W: Work>(
+    alloc: Global,
+    topology: &Topology,
+    work: W,
+    counts: &[u8],
+) -> Result<Cluster<W>, AllocError>
+    requires { IsSetup (setup_from (W.plan work) counts.now (tasks (plan_in topology.now))) }
+    ensures { IfOk result (λ c. c ≡ record { work = work; counts = counts.now; tasks = tasks (plan_in topology.now); journal = [] }) }
+{
+    let kept = Vec::from_slice(alloc, counts)?;
+    let names = Vec::from_slice(alloc, topology.tasks())?;
+    Cluster::new(alloc, work, kept, names)
+}
+
+// The run of a job's tasks.
+fn settle<H: Hash128 + Send + Sync, R: Threads + Wait + Sync, W: Work + Send + Sync, S: Source>(
     rt: &R,
     alloc: Global,
-    items: Vec<JobItem>,
+    topology: &Topology,
+    work: W,
+    intake: Intake,
+    input: &mut S,
     crew: Crew<Box<dyn Gate + Send>>,
 ) -> Result<Answer, AllocError>
     requires settings { HasRanges crew.settings }
     requires gates { length crew.gates.items ≡ 16 }
-    requires read { IsReadJob (item_views items.items) }
-    ensures { IfOk result (λ a. SettlesItems (rules_of H.hash_of) (placing_of crew.settings) crew.settings.journal (item_views items.items) a.status a.text.items a.journal) }
+    requires work { W.plan work ≡ work_of (rules_of H.hash_of) (plan_in topology.now) }
+    requires placing { IsWantedBy W.good work (draft_of topology.now) (placing_of crew.settings) }
+    requires counts { intake.counts.items ≡ map (λ i. i.parts) (topic_infos (draft_of topology.now)) }
+    requires job { IsReadable (draft_of topology.now) (item_views intake.records.items) intake.rest }
+    ensures { IfOk result (λ a. RunsJob (rules_of H.hash_of) (placing_of crew.settings) crew.settings.journal (draft_of topology.now) (item_views intake.records.items) intake.rest.standing (S.left input.old) (S.left input.new) (S.faults input.old) (S.faults input.new) a.status a.text.items a.journal) }
 {
-    let Some((draft, records)) = split_job(items) else {
-        unreachable!()
+    // Its names and constants can be written, and it is well formed: the law on settled journals asks for both.
+    topology_fits(topology);
+    hashes_fit::<H>();
+    let _nodes = topology.nodes();
+    let empty = begin(alloc, topology, work, intake.counts.as_slice())?;
+    let shown = crew.settings.journal;
+    let Ok((cluster, end)) = run_crew::<H, R, W, S>(rt, alloc, topology, empty, intake, input, crew)
+    else {
+        return Err(AllocError);
     };
+    end_by::<H, R, W>(rt, alloc, topology, cluster, end, shown)
+}
+
+/// The run of a job that was opened, by this crew; the text has the journal's lines where the crew's settings say so. Want of
+/// memory, also in a worker, is the one error.
+pub fn settle_job<H: Hash128 + Send + Sync, R: Threads + Wait + Sync, S: Source>(
+    rt: &R,
+    alloc: Global,
+    job: OpenJob,
+    input: &mut S,
+    crew: Crew<Box<dyn Gate + Send>>,
+) -> Result<Answer, AllocError>
+    requires settings { HasRanges crew.settings }
+    requires gates { length crew.gates.items ≡ 16 }
+    requires job { IsReadable (draft_view job.draft) (item_views job.records.items) job.rest }
+    ensures { IfOk result (λ a. RunsJob (rules_of H.hash_of) (placing_of crew.settings) crew.settings.journal (draft_view job.draft) (item_views job.records.items) job.rest.standing (S.left input.old) (S.left input.new) (S.faults input.old) (S.faults input.new) a.status a.text.items a.journal) }
+{
+    let OpenJob {
+        draft,
+        records,
+        rest,
+    } = job;
     let Ok(topology) = Topology::build(alloc, draft)? else {
         unreachable!()
     };
     share_topology();
     let placing = placing_of(&crew.settings);
     let work = TaskWork::<H>::new(&topology, Some(placing));
-    settle::<H, R, TaskWork<H>>(rt, alloc, &topology, work, records, crew)
+    let counts = counts_of(alloc, topology.topics())?;
+    let intake = Intake {
+        counts,
+        records,
+        rest,
+    };
+    settle::<H, R, TaskWork<H>, S>(rt, alloc, &topology, work, intake, input, crew)
 }

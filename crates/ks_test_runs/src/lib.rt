@@ -8,6 +8,8 @@ mod devices;
 #[cfg(test)]
 mod endless;
 #[cfg(test)]
+mod feeding;
+#[cfg(test)]
 mod meeting;
 #[cfg(test)]
 mod rows;

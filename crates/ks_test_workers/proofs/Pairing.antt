@@ -27,7 +27,7 @@ use Rattle.ks_worker_turn.specs.Placing.{PlacesBy}
 use Rattle.ks_worker.specs.Beginning.{MayRun, HasRoomForTurns}
 use Rattle.ks_worker.proofs.Beginning.{new_may_act}
 use Rattle.ks_worker_state.specs.declared.state.WorkerState.{WorkerState}
-use Rattle.ks_test_workers.specs.declared.actor.Actor.{Actor}
+use Rattle.ks_test_workers.specs.declared.actors.Actor.{Actor}
 use Rattle.ks_test_workers.specs.Pairs.{pass_key, IsEnlisted, MayPlay, IsReady}
 
 pub two_items : {A : Type 0} (all rest none : List A) (a b : A) → all ≡ a ∷ rest → rest ≡ b ∷ none → length all ≡ 2 → all ≡ a ∷ b ∷ []

@@ -18,7 +18,7 @@ use Rattle.ks_placement.specs.Groups.{good_by}
 use Rattle.ks_feed.specs.Placing.{IsParted}
 use Rattle.ks_worker_state.specs.declared.state.WorkerState.{WorkerState}
 use Rattle.ks_worker.specs.Beginning.{IsNew, MayRun}
-use Rattle.ks_test_workers.specs.declared.actor.Actor.{Actor}
+use Rattle.ks_test_workers.specs.declared.actors.Actor.{Actor}
 
 -- what a lock is closed by: a pass's lock, whether it holds the value, and its number
 abbrev pub pass_key : {E F : Type 0} → PassView E F → TableId × Bool × ℕ

@@ -4,7 +4,6 @@ ghost use Rattle.ks_topo.specs.Topologies.{draft_of};
 ghost use Rattle.ks_worker.specs.Beginning.{MayRun};
 ghost use Rattle.ks_test_workers.specs.Pairs.{pass_key, IsEnlisted};
 
-use crate::actor::Actor;
 use ks_assign::Placing;
 use ks_cluster::Work;
 use ks_edge::{Act, Gate};
@@ -16,6 +15,13 @@ use ks_worker::Worker;
 use std::alloc::{AllocError, Global};
 use std::sync::Wait;
 use std::sync::atomic::AtomicBool;
+
+/// A worker, and how many more turns and acts it has at most.
+#[derive(Drop)]
+pub struct Actor<W: Work, G: Gate> {
+    pub worker: Worker<W, G>,
+    pub left: u64,
+}
 
 /// A worker of this number that did nothing yet, whose gate begins for it.
 pub fn new_actor<W: Work, G: Gate>(

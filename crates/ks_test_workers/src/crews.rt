@@ -6,8 +6,7 @@ ghost use Rattle.ks_growing.specs.Passes.{Each, IsFresh, IsPass};
 ghost use Rattle.ks_shared.specs.Calls.{frame_of};
 ghost use Rattle.ks_test_workers.specs.Pairs.{pass_key, IsEnlisted, MayPlay, IsReady};
 
-use crate::actor::Actor;
-use crate::actors::new_actor;
+use crate::actors::{Actor, new_actor};
 use crate::scenes::{Does, Move, Scene, Who};
 use crate::telling::told;
 use ks_cluster::{Cluster, Work};

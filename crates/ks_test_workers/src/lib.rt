@@ -1,9 +1,7 @@
 //! Tests of workers on one thread, each of which takes a turn or does an act where a scene says so. The crate has nothing else.
 #![tactic(auto)]
 
-mod actor;
-#[cfg(test)]
-mod actors;
+pub mod actors;
 #[cfg(test)]
 mod crews;
 #[cfg(test)]

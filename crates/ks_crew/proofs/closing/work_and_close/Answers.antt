@@ -1,11 +1,21 @@
-use Rattle.ks_crew.proofs.Passes.{closing, first_is}
+use Rattle.std.proofs.Common.{◌∙◌, ap, sym, subst, filter}
+use Rattle.ks_growing.specs.Passes.{IsPass}
+use Rattle.ks_shared.specs.Reserved.{is_callers}
+use Rattle.ks_feed.proofs.Produced.{still_first}
+use Rattle.ks_crew.proofs.Passes.{closed, passes_after, members_after}
 use Rattle.ks_crew.proofs.closing.work_and_close.Goals as goal
 
-pub close-requires : goal.close-requires
-close-requires g c =
-    let all = closing c.args.shared.growing.id c.args.shared.growing.passes c.args.members.len (λ m. m.worker.state.session.client.pass) c.args.first c.args.members.items _ _ c.in_ok-passes.passes.items c.in_ok-passes.ensures c.as_mut_slice.ensures.value c.args.members.ok.0
-    c.work_together.ensures c.requires.first c.requires.passes c.requires.all in
-    record { count = (all.0, all.1); passes = all.2 }
+pub close_with-requires : goal.close_with-requires
+close_with-requires g c =
+    let lock = c.args.shared.growing.id in
+    let fed = c.feed_and_work.new.feeder in
+    record {
+      first = subst (IsPass lock 0) (sym c.into_pass.ensures) (still_first lock c.args.feeder.pass fed.pass _ c.in_ok-end.ensures.fed.produced c.requires.feed.pass);
+      passes = passes_after lock (λ m. m.worker.state.session.client.pass) c.args.members.items c.feed_and_work.new.members.items c.feed_and_work.ensures.keys c.requires.passes;
+      all = members_after (λ m. m.worker.state.session.client.pass) c.args.members.items c.feed_and_work.new.members.items c.args.shared.growing.passes c.feed_and_work.ensures.keys c.requires.all;
+    }
 
-pub returns : goal.returns
-returns g c = record { frame = c.close.ensures.frame; reserved = c.close.ensures.reserved c.args.first (first_is _ _ _ c.in_ok-passes.ensures) }
+pub returns-clause-fed : goal.returns-clause-fed
+returns-clause-fed g c =
+    closed c.args.shared.growing.first c.in_ok-cluster.cluster c.args.feeder c.feed_and_work.new.feeder _ _ c.in_ok-end.end c.in_ok-end.ensures.fed c.in_ok-cluster.ensures.frame
+    (c.in_ok-cluster.ensures.reserved ∙ ap (λ p. filter is_callers p.seen) c.into_pass.ensures)

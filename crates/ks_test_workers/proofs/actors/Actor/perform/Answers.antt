@@ -1,7 +1,7 @@
 use Rattle.std.proofs.Common.{arith}
 use Rattle.ks_topo.specs.Topologies.{draft_of}
 use Rattle.ks_test_workers.proofs.Going.{counted_cut, goes_on}
-use Rattle.ks_test_workers.proofs.actor.Actor.perform.Goals as goal
+use Rattle.ks_test_workers.proofs.actors.Actor.perform.Goals as goal
 
 pub returns-clause-may : goal.returns-clause-may
 returns-clause-may g c =

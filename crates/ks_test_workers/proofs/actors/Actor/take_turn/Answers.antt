@@ -1,7 +1,7 @@
 use Rattle.std.proofs.Common.{arith}
 use Rattle.ks_topo.specs.Topologies.{draft_of}
 use Rattle.ks_test_workers.proofs.Going.{may_once, goes_on}
-use Rattle.ks_test_workers.proofs.actor.Actor.take_turn.Goals as goal
+use Rattle.ks_test_workers.proofs.actors.Actor.take_turn.Goals as goal
 
 pub run-requires : goal.run-requires
 run-requires g c =

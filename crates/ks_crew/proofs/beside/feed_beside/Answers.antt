@@ -1,0 +1,22 @@
+use Rattle.std.proofs.Common.{rules, sym, subst, length, ◌<◌}
+use Rattle.std.specs.List.{All}
+use Rattle.ks_topo.specs.Topologies.{draft_of}
+use Rattle.ks_worker.specs.Beginning.{MayRun}
+use Rattle.ks_crew.specs.Members.{HaveKeys}
+use Rattle.ks_crew.proofs.Passes.{keys_back}
+use Rattle.ks_crew.proofs.beside.feed_beside.Goals as goal
+
+pub join_mut-end-requires-after_bounds : goal.join_mut-end-requires-after_bounds
+join_mut-end-requires-after_bounds g c κs within = (
+  (
+    subst (λ l. (0 < length l) × All (λ m. MayRun g.W.Work.plan g.W.Work.good g.H.Hash128.hash_of c.args.shared.now.growing.id (draft_of c.args.topology.now) m.worker.placing c.args.shift.turns m.worker.state) l)
+        (sym c.as_mut_slice-slice.ensures.value) (c.requires.some, c.requires.may),
+    (search rules, search rules, search rules, search rules, search rules),
+  ),
+  (c.requires.feed, (search rules, search rules, search rules)),
+)
+
+pub returns-clause-keys : goal.returns-clause-keys
+returns-clause-keys g c =
+    let keys : HaveKeys (λ m. m.worker.state.session.client.pass) c.as_mut_slice-slice.result.now c.slice-1.given.0 = search rules in
+    keys_back (λ m. m.worker.state.session.client.pass) c.args.members.now.items c.as_mut_slice-slice.result.now _ c.args.members.now.len c.as_mut_slice-slice.ensures.value c.args.members.now.ok.0 keys

@@ -1,0 +1,150 @@
+//! A feed beside the workers.
+ghost use Rattle.std.specs.Prelude.{◌≡◌, ◌<◌, ℕ, length, IfOk, slice_get, option_map};
+ghost use Rattle.std.specs.List.{All};
+ghost use Rattle.ks_topo.specs.Topologies.{draft_of};
+ghost use Rattle.ks_worker.specs.Beginning.{MayRun};
+ghost use Rattle.ks_feed.specs.Feeding.{MayFeed, FaultsBy, HasFed};
+ghost use Rattle.ks_crew.specs.Members.{HaveKeys, pass_key};
+
+use crate::working::{CrewMember, Shift, work_together};
+use ks_cluster::Work;
+use ks_edge::{Gate, Source};
+use ks_feed::{Feeder, feed};
+use ks_hash::Hash128;
+use ks_job_source::JobEnd;
+use ks_shared::Shared;
+use ks_topo::{Topology, share_topology};
+use std::alloc::{AllocError, Global};
+use std::sync::Wait;
+use std::sync::atomic::{AtomicBool, Ordering};
+use std::thread;
+use std::thread::Threads;
+
+// The whole feed; clears the flag when it ends, whatever came.
+fn feed_while<R: Threads + Wait + Sync, W: Work, S: Source>(
+    rt: &R,
+    alloc: Global,
+    shared: &Shared<W>,
+    input: &mut S,
+    feeder: &mut Feeder<W>,
+    feeding: &AtomicBool,
+) -> Result<JobEnd, AllocError>
+    requires may { MayFeed W.plan shared.now.growing.id feeder.old }
+    ensures fed { IfOk result (λ e. HasFed feeder.old feeder.new (S.left input.old) (S.left input.new) e) }
+    ensures faults { IfOk result (λ e. FaultsBy e (S.faults input.old) (S.faults input.new)) }
+{
+    let end = feed(rt, alloc, shared, input, feeder);
+    feeding.store(false, Ordering::SeqCst);
+    end
+}
+
+// All records are fed, and then the workers take their turns.
+fn feed_first<
+    H: Hash128 + Sync,
+    R: Threads + Wait + Sync,
+    W: Work + Send + Sync,
+    G: Gate + Send,
+    S: Source,
+>(
+    rt: &R,
+    alloc: Global,
+    topology: &Topology,
+    shared: &Shared<W>,
+    input: &mut S,
+    feeder: &mut Feeder<W>,
+    members: &mut Vec<CrewMember<W, G>>,
+    shift: Shift,
+) -> Result<JobEnd, AllocError>
+    requires some { 0 < length members.old.items }
+    requires may { All (λ m. MayRun W.plan W.good H.hash_of shared.now.growing.id (draft_of topology.now)
+        m.worker.placing shift.turns m.worker.state) members.old.items }
+    requires feed { MayFeed W.plan shared.now.growing.id feeder.old }
+    ensures keys { HaveKeys (λ m. m.worker.state.session.client.pass) members.old.items members.new.items }
+    ensures fed { IfOk result (λ e. HasFed feeder.old feeder.new (S.left input.old) (S.left input.new) e) }
+    ensures faults { IfOk result (λ e. FaultsBy e (S.faults input.old) (S.faults input.new)) }
+{
+    let feeding = AtomicBool::new(false);
+    let end = feed_while(rt, alloc, shared, input, feeder, &feeding)?;
+    let members = members.as_mut_slice();
+    work_together::<H, R, W, G>(rt, alloc, topology, shared, members, shift.turns, &feeding);
+    Ok(end)
+}
+
+// The workers take their turns while the records are fed.
+fn feed_beside<
+    H: Hash128 + Sync,
+    R: Threads + Wait + Sync,
+    W: Work + Send + Sync,
+    G: Gate + Send,
+    S: Source,
+>(
+    rt: &R,
+    alloc: Global,
+    topology: &Topology,
+    shared: &Shared<W>,
+    input: &mut S,
+    feeder: &mut Feeder<W>,
+    members: &mut Vec<CrewMember<W, G>>,
+    shift: Shift,
+) -> Result<JobEnd, AllocError>
+    requires some { 0 < length members.old.items }
+    requires may { All (λ m. MayRun W.plan W.good H.hash_of shared.now.growing.id (draft_of topology.now)
+        m.worker.placing shift.turns m.worker.state) members.old.items }
+    requires feed { MayFeed W.plan shared.now.growing.id feeder.old }
+    ensures keys { HaveKeys (λ m. m.worker.state.session.client.pass) members.old.items members.new.items }
+    ensures fed { IfOk result (λ e. HasFed feeder.old feeder.new (S.left input.old) (S.left input.new) e) }
+    ensures faults { IfOk result (λ e. FaultsBy e (S.faults input.old) (S.faults input.new)) }
+{
+    share_topology();
+    let feeding = AtomicBool::new(true);
+    let flag = &feeding;
+    let turns = shift.turns;
+    let slice = members.as_mut_slice();
+    let (_, end) = thread::join_mut(
+        rt,
+        &mut ||
+            requires { (0 < length slice.now)
+                × All (λ m. MayRun W.plan W.good H.hash_of shared.now.growing.id (draft_of topology.now)
+                m.worker.placing turns m.worker.state) slice.now }
+            ensures { HaveKeys (λ m. m.worker.state.session.client.pass) slice.entry.now slice.exit.now }
+        { work_together::<H, R, W, G>(rt, alloc, topology, shared, slice, turns, flag) },
+        &mut || -> Result<JobEnd, AllocError>
+            requires { MayFeed W.plan shared.now.growing.id feeder.now }
+            ensures { IfOk result (λ e. HasFed feeder.entry.now feeder.exit.now (S.left input.entry.now) (S.left input.exit.now) e)
+                × IfOk result (λ e. FaultsBy e (S.faults input.entry.now) (S.faults input.exit.now)) }
+        { feed_while(rt, alloc, shared, input, feeder, flag) },
+    );
+    end
+}
+
+/// Feeds the records of a job while the workers take their turns, or before where they wait.
+pub fn feed_and_work<
+    H: Hash128 + Sync,
+    R: Threads + Wait + Sync,
+    W: Work + Send + Sync,
+    G: Gate + Send,
+    S: Source,
+>(
+    rt: &R,
+    alloc: Global,
+    topology: &Topology,
+    shared: &Shared<W>,
+    input: &mut S,
+    feeder: &mut Feeder<W>,
+    members: &mut Vec<CrewMember<W, G>>,
+    shift: Shift,
+) -> Result<JobEnd, AllocError>
+    requires some { 0 < length members.old.items }
+    requires may { All (λ m. MayRun W.plan W.good H.hash_of shared.now.growing.id (draft_of topology.now)
+        m.worker.placing shift.turns m.worker.state) members.old.items }
+    requires feed { MayFeed W.plan shared.now.growing.id feeder.old }
+    ensures keys { HaveKeys (λ m. m.worker.state.session.client.pass) members.old.items members.new.items }
+    ensures fed { IfOk result (λ e. HasFed feeder.old feeder.new (S.left input.old) (S.left input.new) e) }
+    ensures faults { IfOk result (λ e. FaultsBy e (S.faults input.old) (S.faults input.new)) }
+{
+    if shift.waits {
+        feed_first::<H, R, W, G, S>(rt, alloc, topology, shared, input, feeder, members, shift)
+    } else {
+        feed_beside::<H, R, W, G, S>(rt, alloc, topology, shared, input, feeder, members, shift)
+    }
+}
