@@ -27,15 +27,15 @@ use std::alloc::Global;
 use std::sync::Wait;
 use std::thread::Threads;
 
-// The same settings, with the journal printed where it is shown.
-fn with_journal(settings: Settings, shown: bool) -> Settings
+// The same settings, but the journal isn't printed.
+fn without_journal(settings: Settings) -> Settings
     requires { HasRanges settings }
     ensures ranges { HasRanges result }
     ensures placing { placing_of result ≡ placing_of settings }
-    ensures journal { result.journal ≡ shown }
+    ensures journal { result.journal ≡ false }
 {
     Settings {
-        journal: shown,
+        journal: false,
         ..settings
     }
 }
@@ -110,7 +110,7 @@ fn run_load<R: Threads + Wait + Sync, K: Sink>(
         };
     };
     let mut source = TextSource::new(text);
-    let settings = with_journal(settings, false);
+    let settings = without_journal(settings);
     run_job::<Murmur3, R, TextSource, K>(rt, alloc, &settings, &mut source, out, gates)
 }
 
