@@ -25,7 +25,8 @@ use Rattle.ks_job_source.specs.declared.rest.JobEnd.{JobEnd}
 use Rattle.ks_job_source.specs.declared.rest.JobEnd.TheVariants as end
 use Rattle.ks_job_source.specs.Stops.{topology_stop, line_stop, stop_of}
 use Rattle.ks_job_source.specs.Steps.{StepsOn, StepsPast, GoesFurther, GoesPast}
-use Rattle.ks_job_source.specs.Opening.{from, ended, ReadsOn, ReadsOut, GoesOn, EndsFrom, standing_after, standing_ended, IsPast, StandsPast, IsReading, HoldsJob, HoldsFront, EndsJob, OpensAt}
+use Rattle.ks_job_source.specs.Opening.{from, ended, ReadsOn, ReadsOut, GoesOn, EndsFrom, IsPast, StandsPast, IsReading, HoldsJob, HoldsFront, EndsJob, OpensAt}
+use Rattle.ks_job_source.specs.Splitting.{standing_after, standing_ended}
 use Rattle.ks_job_source.proofs.Machines.{few_bytes}
 use Rattle.ks_job_source.proofs.Taking.{took_more, lost_as_much}
 

@@ -26,7 +26,8 @@ use Rattle.ks_job_source.specs.declared.rest.JobRest.{JobRest}
 use Rattle.ks_job_source.specs.declared.opening.OpenJob.{OpenJob}
 use Rattle.ks_job_source.specs.Reading.{machine_of, Ends, Read}
 use Rattle.ks_job_source.specs.Stops.{topology_stop, line_stop, stop_of}
-use Rattle.ks_job_source.specs.Opening.{split, Parts, Opens, IsReadable, OpensAt, StandsPast, HoldsJob}
+use Rattle.ks_job_source.specs.Opening.{Opens, IsReadable, OpensAt, StandsPast, HoldsJob}
+use Rattle.ks_job_source.specs.Splitting.{split, Parts}
 use Rattle.ks_job_source.proofs.Opened.{front_items, rest_of, known_all, faulty_on}
 use Rattle.ks_job.specs.declared.judge.JobItem.{JobItem}
 use Rattle.ks_job_source.proofs.Machines.{unrefused}

@@ -3,3 +3,4 @@ pub mod Reading
 pub mod Texts
 pub mod Opening
 pub mod Steps
+pub mod Splitting

@@ -3,12 +3,10 @@ use Rattle.std.specs.Prelude.{◌≡◌, ℕ, ◌≤◌, List, [], ◌∷◌, le
 use Rattle.std.specs.Io.KnownBytes.{Consumes, IsAtEnd}
 use Rattle.ks_plan.specs.Drafts.{DraftView, draft_view}
 use Rattle.ks_plan.specs.Faults.{fault_of}
-use Rattle.ks_job.specs.Items.{ItemView, TopologyAt, RecordTo, item_views}
+use Rattle.ks_job.specs.Items.{ItemView, TopologyAt, item_views}
 use Rattle.ks_job.specs.Reader.{Reader, Machine, after, end_of, so_far, whole}
-use Rattle.ks_job.specs.Reader as readers
 use Rattle.ks_law_inputs.specs.Records.{HavePartitions, AreRecords}
 use Rattle.ks_job_source.specs.declared.stop.Stop.{Stop}
-use Rattle.ks_job_source.specs.declared.stop.Stop.TheVariants.{BadLine, BadTopology}
 use Rattle.ks_job_source.specs.declared.rest.Standing.{Standing}
 use Rattle.ks_job_source.specs.declared.rest.Standing.TheVariants.{Reading, Whole, Stopped, Lost}
 use Rattle.ks_job_source.specs.declared.rest.JobEnd.{JobEnd}
@@ -62,15 +60,7 @@ EndsFrom (Stopped stop) old now (end.Stopped other) items = (items ≡ []) × (o
 EndsFrom (Stopped stop) old now end.Failed items = ⊥
 EndsFrom Lost old now e items = ⊥
 
--- where reading stands after a piece and after the end of the input
-abbrev pub standing_after : Reader → Standing
-standing_after (readers.Reading s begun) = Reading (Some (readers.Reading s begun))
-standing_after (readers.Faulty n k) = Stopped (BadLine n k)
-
-abbrev pub standing_ended : Reader → Standing
-standing_ended (readers.Reading s begun) = Whole
-standing_ended (readers.Faulty n k) = Stopped (BadLine n k)
-
+-- how reading has ended, where it has
 abbrev pub end_at : Standing → Option JobEnd
 end_at (Reading r) = None
 end_at Whole = Some end.Whole
@@ -147,25 +137,3 @@ pub record IsOpened (first now : Option (List ℕ)) (d : DraftView) (records : L
 abbrev pub Opens : Option (List ℕ) → Option (List ℕ) → Result OpenJob Stop → Type 0
 Opens first now (Ok job) = IsOpened first now (draft_view job.draft) (item_views job.records.items) job.rest
 Opens first now (Err stop) = Read first (Err stop)
-
--- ---- the items so far
--- a topology first, and the others
-abbrev pub split : List ItemView → Option (DraftView × List ItemView)
-split [] = None
-split (TopologyAt line d ∷ is) = Some (d, is)
-split (RecordTo t r ∷ is) = None
-
--- where reading stands by why it stops, if it does, and the reader, which is none after the end of the input; a topology that is refused isn't opened
-abbrev pub stand_by : Option Stop → Option (Option Reader) → Result Standing Stop
-stand_by (Some (BadTopology line fault)) reader = Err (BadTopology line fault)
-stand_by (Some (BadLine line kind)) reader = Ok (Stopped (BadLine line kind))
-stand_by None (Some r) = Ok (Reading r)
-stand_by None None = Ok Whole
-
-abbrev pub Parts : Option Stop → Option (Option Reader) → List ItemView → List ℕ → Result OpenJob Stop → Type 0
-Parts stop reader is buf (Ok job) =
-    (split is ≡ Some (draft_view job.draft, item_views job.records.items))
-    × (stand_by stop reader ≡ Ok job.rest.standing)
-    × (job.rest.taken ≡ 0)
-    × (job.rest.buf.items ≡ buf)
-Parts stop reader is buf (Err s) = stop ≡ Some s

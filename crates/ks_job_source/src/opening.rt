@@ -4,8 +4,9 @@ ghost use Rattle.ks_edge.specs.Causes.{Rose};
 ghost use Rattle.ks_plan.specs.Drafts.{draft_view};
 ghost use Rattle.ks_job.specs.Items.{item_views};
 ghost use Rattle.ks_job_source.specs.declared.rest.Standing.TheVariants.{Whole};
-ghost use Rattle.ks_job_source.specs.Opening.{split, stand_by, Parts, Opens};
+ghost use Rattle.ks_job_source.specs.Opening.{Opens};
 ghost use Rattle.ks_job_source.specs.Reading.{TookNoFault};
+ghost use Rattle.ks_job_source.specs.Splitting.{split, stand_by, Parts};
 
 use crate::reading::{PIECE, ReadError, end_items, feed_piece, read_by, zeros};
 use crate::rest::{JobRest, Standing};

@@ -4,7 +4,8 @@ ghost use Rattle.std.specs.Io.KnownBytes.{Keeps};
 ghost use Rattle.ks_edge.specs.Causes.{Rose};
 ghost use Rattle.ks_job.specs.Items.{item_views};
 ghost use Rattle.ks_job.specs.Reader.{after, end_of};
-ghost use Rattle.ks_job_source.specs.Opening.{from, standing_after, standing_ended, end_at, IsReading};
+ghost use Rattle.ks_job_source.specs.Opening.{from, end_at, IsReading};
+ghost use Rattle.ks_job_source.specs.Splitting.{standing_after, standing_ended};
 ghost use Rattle.ks_job_source.specs.Steps.{StepsOn, StepsPast, GoesFurther, GoesPast};
 
 use crate::reading::ReadError;
