@@ -1,12 +1,13 @@
 //! A feed beside the workers.
-ghost use Rattle.std.specs.Prelude.{◌≡◌, ◌<◌, ℕ, length, IfOk, slice_get, option_map};
+ghost use Rattle.std.specs.Prelude.{◌<◌, length, IfOk};
 ghost use Rattle.std.specs.List.{All};
 ghost use Rattle.ks_topo.specs.Topologies.{draft_of};
 ghost use Rattle.ks_worker.specs.Beginning.{MayRun};
 ghost use Rattle.ks_feed.specs.Feeding.{MayFeed, FaultsBy, HasFed};
-ghost use Rattle.ks_crew.specs.Members.{HaveKeys, pass_key};
+ghost use Rattle.ks_crew.specs.Members.{HaveKeys};
+ghost use Rattle.ks_crew.specs.Working.{MayWork};
 
-use crate::working::{CrewMember, Shift, work_together};
+use crate::working::{Team, work_together};
 use ks_cluster::Work;
 use ks_edge::{Gate, Source};
 use ks_feed::{Feeder, feed};
@@ -52,21 +53,20 @@ fn feed_first<
     shared: &Shared<W>,
     input: &mut S,
     feeder: &mut Feeder<W>,
-    members: &mut Vec<CrewMember<W, G>>,
-    shift: Shift,
+    team: &mut Team<W, G>,
 ) -> Result<JobEnd, AllocError>
-    requires some { 0 < length members.old.items }
-    requires may { All (λ m. MayRun W.plan W.good H.hash_of shared.now.growing.id (draft_of topology.now)
-        m.worker.placing shift.turns m.worker.state) members.old.items }
-    requires feed { MayFeed W.plan shared.now.growing.id feeder.old }
-    ensures keys { HaveKeys (λ m. m.worker.state.session.client.pass) members.old.items members.new.items }
+    requires { MayWork W.plan W.good H.hash_of shared.now.growing.id (draft_of topology.now)
+        team.old feeder.old }
+    ensures keys { HaveKeys (λ m. m.worker.state.session.client.pass)
+        team.old.members.items team.new.members.items }
     ensures fed { IfOk result (λ e. HasFed feeder.old feeder.new (S.left input.old) (S.left input.new) e) }
     ensures faults { IfOk result (λ e. FaultsBy e (S.faults input.old) (S.faults input.new)) }
 {
     let feeding = AtomicBool::new(false);
     let end = feed_while(rt, alloc, shared, input, feeder, &feeding)?;
-    let members = members.as_mut_slice();
-    work_together::<H, R, W, G>(rt, alloc, topology, shared, members, shift.turns, &feeding);
+    let turns = team.turns;
+    let members = team.members.as_mut_slice();
+    work_together::<H, R, W, G>(rt, alloc, topology, shared, members, turns, &feeding);
     Ok(end)
 }
 
@@ -84,22 +84,20 @@ fn feed_beside<
     shared: &Shared<W>,
     input: &mut S,
     feeder: &mut Feeder<W>,
-    members: &mut Vec<CrewMember<W, G>>,
-    shift: Shift,
+    team: &mut Team<W, G>,
 ) -> Result<JobEnd, AllocError>
-    requires some { 0 < length members.old.items }
-    requires may { All (λ m. MayRun W.plan W.good H.hash_of shared.now.growing.id (draft_of topology.now)
-        m.worker.placing shift.turns m.worker.state) members.old.items }
-    requires feed { MayFeed W.plan shared.now.growing.id feeder.old }
-    ensures keys { HaveKeys (λ m. m.worker.state.session.client.pass) members.old.items members.new.items }
+    requires { MayWork W.plan W.good H.hash_of shared.now.growing.id (draft_of topology.now)
+        team.old feeder.old }
+    ensures keys { HaveKeys (λ m. m.worker.state.session.client.pass)
+        team.old.members.items team.new.members.items }
     ensures fed { IfOk result (λ e. HasFed feeder.old feeder.new (S.left input.old) (S.left input.new) e) }
     ensures faults { IfOk result (λ e. FaultsBy e (S.faults input.old) (S.faults input.new)) }
 {
     share_topology();
     let feeding = AtomicBool::new(true);
     let flag = &feeding;
-    let turns = shift.turns;
-    let slice = members.as_mut_slice();
+    let turns = team.turns;
+    let slice = team.members.as_mut_slice();
     let (_, end) = thread::join_mut(
         rt,
         &mut ||
@@ -131,20 +129,18 @@ pub fn feed_and_work<
     shared: &Shared<W>,
     input: &mut S,
     feeder: &mut Feeder<W>,
-    members: &mut Vec<CrewMember<W, G>>,
-    shift: Shift,
+    team: &mut Team<W, G>,
 ) -> Result<JobEnd, AllocError>
-    requires some { 0 < length members.old.items }
-    requires may { All (λ m. MayRun W.plan W.good H.hash_of shared.now.growing.id (draft_of topology.now)
-        m.worker.placing shift.turns m.worker.state) members.old.items }
-    requires feed { MayFeed W.plan shared.now.growing.id feeder.old }
-    ensures keys { HaveKeys (λ m. m.worker.state.session.client.pass) members.old.items members.new.items }
+    requires { MayWork W.plan W.good H.hash_of shared.now.growing.id (draft_of topology.now)
+        team.old feeder.old }
+    ensures keys { HaveKeys (λ m. m.worker.state.session.client.pass)
+        team.old.members.items team.new.members.items }
     ensures fed { IfOk result (λ e. HasFed feeder.old feeder.new (S.left input.old) (S.left input.new) e) }
     ensures faults { IfOk result (λ e. FaultsBy e (S.faults input.old) (S.faults input.new)) }
 {
-    if shift.waits {
-        feed_first::<H, R, W, G, S>(rt, alloc, topology, shared, input, feeder, members, shift)
+    if team.waits {
+        feed_first::<H, R, W, G, S>(rt, alloc, topology, shared, input, feeder, team)
     } else {
-        feed_beside::<H, R, W, G, S>(rt, alloc, topology, shared, input, feeder, members, shift)
+        feed_beside::<H, R, W, G, S>(rt, alloc, topology, shared, input, feeder, team)
     }
 }

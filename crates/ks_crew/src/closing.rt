@@ -1,17 +1,16 @@
 //! A crew that works, and then closes the lock.
-ghost use Rattle.std.specs.Prelude.{◌≡◌, ◌+◌, ◌<◌, ◌∷◌, filter, length, map, IfOk};
-ghost use Rattle.std.specs.List.{All};
+ghost use Rattle.std.specs.Prelude.{◌≡◌, ◌+◌, ◌∷◌, filter, length, map, IfOk};
 ghost use Rattle.ks_topo.specs.Topologies.{draft_of};
-ghost use Rattle.ks_worker.specs.Beginning.{MayRun};
 ghost use Rattle.ks_growing.specs.Passes.{IsPass};
 ghost use Rattle.ks_shared.specs.Calls.{frame_of};
 ghost use Rattle.ks_shared.specs.Reserved.{is_callers};
-ghost use Rattle.ks_feed.specs.Feeding.{MayFeed, FaultsBy};
+ghost use Rattle.ks_feed.specs.Feeding.{FaultsBy};
 ghost use Rattle.ks_crew.specs.Members.{ArePasses};
 ghost use Rattle.ks_crew.specs.Ready.{HasClosed};
+ghost use Rattle.ks_crew.specs.Working.{MayWork};
 
 use crate::beside::feed_and_work;
-use crate::working::{CrewMember, Shift};
+use crate::working::{CrewMember, Team};
 use ks_cluster::{Cluster, Work};
 use ks_edge::{Gate, Source};
 use ks_feed::Feeder;
@@ -87,15 +86,12 @@ pub fn work_and_close<
     shared: Shared<W>,
     input: &mut S,
     mut feeder: Feeder<W>,
-    mut members: Vec<CrewMember<W, G>>,
-    shift: Shift,
+    mut team: Team<W, G>,
 ) -> Result<(Cluster<W>, JobEnd), AllocError>
-    requires some { 0 < length members.items }
-    requires may { All (λ m. MayRun W.plan W.good H.hash_of shared.growing.id (draft_of topology.now)
-        m.worker.placing shift.turns m.worker.state) members.items }
-    requires feed { MayFeed W.plan shared.growing.id feeder }
-    requires passes { ArePasses shared.growing.id (map (λ m. m.worker.state.session.client.pass) members.items) }
-    requires all { length members.items + 1 ≡ shared.growing.passes }
+    requires may { MayWork W.plan W.good H.hash_of shared.growing.id (draft_of topology.now) team feeder }
+    requires passes { ArePasses shared.growing.id
+        (map (λ m. m.worker.state.session.client.pass) team.members.items) }
+    requires all { length team.members.items + 1 ≡ shared.growing.passes }
     ensures fed { IfOk result (λ r. HasClosed shared.growing.first r.0 feeder (S.left input.old) (S.left input.new) r.1) }
     ensures faults { IfOk result (λ r. FaultsBy r.1 (S.faults input.old) (S.faults input.new)) }
 {
@@ -106,9 +102,9 @@ pub fn work_and_close<
         &shared,
         input,
         &mut feeder,
-        &mut members,
-        shift,
+        &mut team,
     )?;
+    let Team { members, .. } = team;
     let cluster = close_with(alloc, shared, feeder.into_pass(), members)?;
     Ok((cluster, end))
 }

@@ -9,7 +9,7 @@ ghost use Rattle.ks_crew.specs.Ready.{IsReady, HasWorked};
 use crate::boxed_gate::{BoxedGate, box_gates};
 use crate::closing::work_and_close;
 use crate::enlisting::enlist;
-use crate::working::Shift;
+use crate::working::Team;
 use ks_cluster::{Cluster, Work};
 use ks_edge::{Gate, Source};
 use ks_feed::{Feeder, Intake, split_first};
@@ -94,11 +94,12 @@ fn run_gated<
         pass,
     };
     let members = enlist(alloc, &settings, gates, others)?;
-    let shift = Shift {
+    let team = Team {
+        members,
         turns: turns_of(&settings),
         waits: settings.stop.is_some(),
     };
-    work_and_close::<H, R, W, G, S>(rt, alloc, topology, shared, input, feeder, members, shift)
+    work_and_close::<H, R, W, G, S>(rt, alloc, topology, shared, input, feeder, team)
 }
 
 /// Puts a new cluster under a lock with a pass for the caller and one for each worker, feeds it all records of a job, lets the workers take their turns meanwhile, each

@@ -24,9 +24,10 @@ pub struct CrewMember<W: Work, G: Gate> {
     pub is_starved: bool,
 }
 
-/// How the workers of a run work.
-#[derive(Clone, Copy)]
-pub struct Shift {
+/// The workers of a run, and how they work.
+#[derive(Drop)]
+pub struct Team<W: Work, G: Gate> {
+    pub members: Vec<CrewMember<W, G>>,
     /// The most turns of each.
     pub turns: u64,
     /// Whether they begin only once all records are fed.

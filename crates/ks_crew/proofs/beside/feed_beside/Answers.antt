@@ -9,7 +9,7 @@ use Rattle.ks_crew.proofs.beside.feed_beside.Goals as goal
 pub join_mut-end-requires-after_bounds : goal.join_mut-end-requires-after_bounds
 join_mut-end-requires-after_bounds g c κs within = (
   (
-    subst (λ l. (0 < length l) × All (λ m. MayRun g.W.Work.plan g.W.Work.good g.H.Hash128.hash_of c.args.shared.now.growing.id (draft_of c.args.topology.now) m.worker.placing c.args.shift.turns m.worker.state) l)
+    subst (λ l. (0 < length l) × All (λ m. MayRun g.W.Work.plan g.W.Work.good g.H.Hash128.hash_of c.args.shared.now.growing.id (draft_of c.args.topology.now) m.worker.placing c.args.team.now.turns m.worker.state) l)
         (sym c.as_mut_slice-slice.ensures.value) (c.requires.some, c.requires.may),
     (search rules, search rules, search rules, search rules, search rules),
   ),
@@ -19,4 +19,4 @@ join_mut-end-requires-after_bounds g c κs within = (
 pub returns-clause-keys : goal.returns-clause-keys
 returns-clause-keys g c =
     let keys : HaveKeys (λ m. m.worker.state.session.client.pass) c.as_mut_slice-slice.result.now c.slice-1.given.0 = search rules in
-    keys_back (λ m. m.worker.state.session.client.pass) c.args.members.now.items c.as_mut_slice-slice.result.now _ c.args.members.now.len c.as_mut_slice-slice.ensures.value c.args.members.now.ok.0 keys
+    keys_back (λ m. m.worker.state.session.client.pass) c.args.team.now.members.items c.as_mut_slice-slice.result.now _ c.args.team.now.members.len c.as_mut_slice-slice.ensures.value c.args.team.now.members.ok.0 keys

@@ -10,9 +10,9 @@ close_with-requires g c =
     let lock = c.args.shared.growing.id in
     let fed = c.feed_and_work.new.feeder in
     record {
-      first = subst (IsPass lock 0) (sym c.into_pass.ensures) (still_first lock c.args.feeder.pass fed.pass _ c.in_ok-end.ensures.fed.produced c.requires.feed.pass);
-      passes = passes_after lock (λ m. m.worker.state.session.client.pass) c.args.members.items c.feed_and_work.new.members.items c.feed_and_work.ensures.keys c.requires.passes;
-      all = members_after (λ m. m.worker.state.session.client.pass) c.args.members.items c.feed_and_work.new.members.items c.args.shared.growing.passes c.feed_and_work.ensures.keys c.requires.all;
+      first = subst (IsPass lock 0) (sym c.into_pass.ensures) (still_first lock c.args.feeder.pass fed.pass _ c.in_ok-end.ensures.fed.produced c.requires.may.feed.pass);
+      passes = passes_after lock (λ m. m.worker.state.session.client.pass) c.args.team.members.items c.feed_and_work.new.team.members.items c.feed_and_work.ensures.keys c.requires.passes;
+      all = members_after (λ m. m.worker.state.session.client.pass) c.args.team.members.items c.feed_and_work.new.team.members.items c.args.shared.growing.passes c.feed_and_work.ensures.keys c.requires.all;
     }
 
 pub returns-clause-fed : goal.returns-clause-fed

@@ -27,27 +27,21 @@ enlist-requires-clause-instances g c =
     let long = others_long c.in-Ok.passes.items c.split_first-pass.result.1.items c.split_first-pass.result.0 c.count_workers.result c.split_first-pass.ensures c.in-Ok.ensures.count in
     omega (arith, long, c.count_workers.ensures.instances)
 
-pub work_and_close-requires-clause-some : goal.work_and_close-requires-clause-some
-work_and_close-requires-clause-some g c κs within =
-    let others = c.split_first-pass.result.1.items in
-    let long = others_long c.in-Ok.passes.items others c.split_first-pass.result.0 c.count_workers.result c.split_first-pass.ensures c.in-Ok.ensures.count in
-    let many = members_long (λ m. m.worker.state.session.client.pass) c.in_ok-members.members.items others c.count_workers.result c.in_ok-members.ensures.passes long in
-    omega (arith, many, c.count_workers.ensures.some)
-
 pub work_and_close-requires-clause-may : goal.work_and_close-requires-clause-may
 work_and_close-requires-clause-may g c κs within =
     let lock = c.in-Ok.shared.growing.id in
     let others = c.split_first-pass.result.1.items in
+    let long = others_long c.in-Ok.passes.items others c.split_first-pass.result.0 c.count_workers.result c.split_first-pass.ensures c.in-Ok.ensures.count in
+    let many = members_long (λ m. m.worker.state.session.client.pass) c.in_ok-members.members.items others c.count_workers.result c.in_ok-members.ensures.passes long in
     let fresh = others_fresh lock c.args.cluster.journal (frame_of c.args.cluster) c.in-Ok.passes.items others c.split_first-pass.result.0 c.split_first-pass.ensures c.in-Ok.ensures.fresh in
-    all_may_run g.W.Work.plan g.W.Work.good g.H.Hash128.hash_of (draft_of c.args.topology.now) c.args.cluster lock (placing_of c.args.crew.settings) c.turns_of.result c.requires.ready.new c.requires.ready.topology
-    c.requires.ready.wanted c.requires.settings.threads.0 c.nodes-nodes.ensures.well_formed c.requires.ready.nodes c.turns_of.ensures
-    (λ m. m.worker.state) (λ m. m.worker.placing) c.in_ok-members.members.items others c.in_ok-members.ensures.passes fresh c.in_ok-members.ensures.enlisted c.in_ok-members.ensures.placing
-
-pub work_and_close-requires-clause-feed : goal.work_and_close-requires-clause-feed
-work_and_close-requires-clause-feed g c κs within =
-    let lock = c.in-Ok.shared.growing.id in
-    let fresh = first_fresh lock c.args.cluster.journal (frame_of c.args.cluster) c.in-Ok.passes.items _ c.split_first-pass.result.0 c.split_first-pass.ensures c.in-Ok.ensures.fresh in
-    fresh_feeder g.W.Work.plan lock c.args.cluster _ fresh c.requires.ready.counts_are c.requires.ready.parts c.requires.ready.records c.requires.ready.past c.requires.ready.room
+    let first = first_fresh lock c.args.cluster.journal (frame_of c.args.cluster) c.in-Ok.passes.items _ c.split_first-pass.result.0 c.split_first-pass.ensures c.in-Ok.ensures.fresh in
+    record {
+      some = omega (arith, many, c.count_workers.ensures.some);
+      may = all_may_run g.W.Work.plan g.W.Work.good g.H.Hash128.hash_of (draft_of c.args.topology.now) c.args.cluster lock (placing_of c.args.crew.settings) c.turns_of.result c.requires.ready.new c.requires.ready.topology
+          c.requires.ready.wanted c.requires.settings.threads.0 c.nodes-nodes.ensures.well_formed c.requires.ready.nodes c.turns_of.ensures
+          (λ m. m.worker.state) (λ m. m.worker.placing) c.in_ok-members.members.items others c.in_ok-members.ensures.passes fresh c.in_ok-members.ensures.enlisted c.in_ok-members.ensures.placing;
+      feed = fresh_feeder g.W.Work.plan lock c.args.cluster _ first c.requires.ready.counts_are c.requires.ready.parts c.requires.ready.records c.requires.ready.past c.requires.ready.room;
+    }
 
 pub work_and_close-requires-clause-passes : goal.work_and_close-requires-clause-passes
 work_and_close-requires-clause-passes g c κs within =
