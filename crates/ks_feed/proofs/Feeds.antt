@@ -10,6 +10,7 @@ use Rattle.ks_history.specs.Machine.{TaskPlan}
 use Rattle.ks_growing.specs.Passes.{PassView}
 use Rattle.ks_shared.specs.declared.state.Frame.{Frame}
 use Rattle.ks_shared.specs.Calls.{setup_in}
+use Rattle.ks_job.specs.declared.judge.JobItem.{JobItem}
 use Rattle.ks_job.specs.Items.{ItemView, TopologyAt, RecordTo, item_views}
 use Rattle.ks_job.specs.Reader.{Reader, after}
 use Rattle.ks_law_inputs.specs.Records.{AreRecords}
@@ -221,6 +222,11 @@ module _ {W : Type 0} (plan : W → TaskPlan) (lock : TableId) where
       left_at topics count Lost i p = absurd i
 
 -- ---- the records that came with the topology, and then the others
+-- what was handed on is what the feeder had
+pub first_fed : {W : Type 0} (old : Feeder W) (new : PassView Entry (Frame W)) (counts : List ℕ) (items : List JobItem) → counts ≡ old.counts.items → items ≡ old.records.items →
+    HasProduced old.pass new (placed_all counts (item_views items)) → HasProduced old.pass new (placed_all old.counts.items (item_views old.records.items))
+first_fed old new counts items same all h = subst (λ is. HasProduced old.pass new (placed_all old.counts.items (item_views is))) all (subst (λ cs. HasProduced old.pass new (placed_all cs (item_views items))) same h)
+
 pub fed_both : {W : Type 0} (old mid new : Feeder W) (left now : Option (List ℕ)) (e : JobEnd) → HasProduced old.pass mid.pass (placed_all old.counts.items (item_views old.records.items)) → mid.counts.items ≡ old.counts.items →
     mid.records.items ≡ [] → mid.rest.standing ≡ old.rest.standing → HasFed mid new left now e → HasFed old new left now e
 fed_both old mid new left now e h counts none standing k = record {

@@ -28,7 +28,8 @@ use Rattle.ks_worker.specs.Beginning.{MayRun, HasRoomForTurns}
 use Rattle.ks_worker.proofs.Beginning.{new_may_act}
 use Rattle.ks_worker_state.specs.declared.state.WorkerState.{WorkerState}
 use Rattle.ks_test_workers.specs.declared.actors.Actor.{Actor}
-use Rattle.ks_test_workers.specs.Pairs.{pass_key, IsEnlisted, MayPlay, IsReady}
+use Rattle.ks_crew.specs.Members.{pass_key, IsEnlisted}
+use Rattle.ks_test_workers.specs.Pairs.{MayPlay, IsReady}
 
 pub two_items : {A : Type 0} (all rest none : List A) (a b : A) → all ≡ a ∷ rest → rest ≡ b ∷ none → length all ≡ 2 → all ≡ a ∷ b ∷ []
 two_items all rest [] a b e f n = e ∙ ap (λ l. a ∷ l) f

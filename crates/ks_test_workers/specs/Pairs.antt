@@ -1,5 +1,5 @@
 -- Two workers at one cluster.
-use Rattle.std.specs.Prelude.{◌≡◌, ◌≤◌, ◌<◌, ℕ, Bool, List, []}
+use Rattle.std.specs.Prelude.{◌≡◌, ◌≤◌, ◌<◌, ℕ, List, []}
 use Rattle.atomic_table.specs.Seated.{TableId}
 use Rattle.ks_assign.specs.declared.clients.Placing.{Placing}
 use Rattle.ks_plan.specs.Drafts.{DraftView}
@@ -11,27 +11,12 @@ use Rattle.ks_cluster.specs.Placed.{PlacementTest}
 use Rattle.ks_cluster.specs.View.{ClusterView, setup_of}
 use Rattle.ks_law_topology.specs.Work.{setup_of as topology_setup}
 use Rattle.ks_nodes.specs.Rules.{HaveParts, rules_of}
-use Rattle.ks_growing.specs.Passes.{PassView}
 use Rattle.ks_job.specs.Items.{ItemView}
 use Rattle.ks_law_inputs.specs.Records.{AreRecords}
 use Rattle.ks_placement.specs.Groups.{good_by}
 use Rattle.ks_feed.specs.Placing.{IsParted}
-use Rattle.ks_worker_state.specs.declared.state.WorkerState.{WorkerState}
-use Rattle.ks_worker.specs.Beginning.{IsNew, MayRun}
+use Rattle.ks_worker.specs.Beginning.{MayRun}
 use Rattle.ks_test_workers.specs.declared.actors.Actor.{Actor}
-
--- what a lock is closed by: a pass's lock, whether it holds the value, and its number
-abbrev pub pass_key : {E F : Type 0} → PassView E F → TableId × Bool × ℕ
-pass_key p = (p.lock, p.holds, p.number)
-
--- a worker that has done nothing yet, with a gate that has counted nothing
-pub record IsEnlisted {W G : Type 0} (s : WorkerState W G) : Type 0 where
-  pub uncounted : s.session.client.gate ≡ record { asked = 0; stops = 0; calls = 0; cuts = 0 }
-  pub number : ℕ
-  pub instance : ℕ
-  pub few : number ≤ 15
-  pub small : instance ≤ 3
-  pub new : IsNew number instance s
 
 -- it may take all the turns that it has left
 abbrev pub MayPlay : {W G : Type 0} → (W → TaskPlan) → (W → PlacementTest) → (List ℕ → ℕ) → TableId → DraftView → Actor W G → Type 0

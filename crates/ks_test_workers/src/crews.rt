@@ -4,7 +4,8 @@ ghost use Rattle.ks_topo.specs.Topologies.{draft_of};
 ghost use Rattle.ks_job.specs.Items.{item_views};
 ghost use Rattle.ks_growing.specs.Passes.{Each, IsFresh, IsPass};
 ghost use Rattle.ks_shared.specs.Calls.{frame_of};
-ghost use Rattle.ks_test_workers.specs.Pairs.{pass_key, IsEnlisted, MayPlay, IsReady};
+ghost use Rattle.ks_crew.specs.Members.{pass_key, IsEnlisted};
+ghost use Rattle.ks_test_workers.specs.Pairs.{MayPlay, IsReady};
 
 use crate::actors::{Actor, new_actor};
 use crate::scenes::{Does, Move, Scene, Who};

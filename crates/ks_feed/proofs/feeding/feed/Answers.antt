@@ -4,16 +4,13 @@ use Rattle.ks_job_source.specs.Opening.{IsReading, StandsPast}
 use Rattle.ks_job.specs.Items.{item_views}
 use Rattle.ks_shared.specs.Calls.{setup_in}
 use Rattle.ks_feed.specs.Placing.{placed_all}
-use Rattle.ks_feed.specs.Producing.{HasProduced}
-use Rattle.ks_feed.proofs.Feeds.{fed_both, fed_before, may_still, reads_on}
+use Rattle.ks_feed.proofs.Feeds.{first_fed, fed_both, fed_before, may_still, reads_on}
 use Rattle.ks_feed.proofs.feeding.feed.Goals as goal
 
 pub returns-in-Some-clause-fed : goal.returns-in-Some-clause-fed
 returns-in-Some-clause-fed g c =
     let old = c.args.feeder.now in
-    let first : HasProduced old.pass c.produce_all.new.pass (placed_all old.counts.items (item_views old.records.items)) =
-    subst (λ l. HasProduced old.pass c.produce_all.new.pass (placed_all l (item_views old.records.items))) c.deref.ensures.value
-    (subst (λ v. HasProduced old.pass c.produce_all.new.pass (placed_all c.deref.result.now (item_views v.items))) c.replace-records.ensures.value c.in_ok-produce_all.ensures.ok) in
+    let first = first_fed old c.produce_all.new.pass c.deref.result.now c.replace-records.result.items c.deref.ensures.value (ap (λ v. v.items) c.replace-records.ensures.value) c.in_ok-produce_all.ensures.ok in
     fed_before old _ (g.S.Source.left c.args.input.now) c.in-Some.end first (sym c.end.ensures.end ∙ c.in-Some.is)
 
 pub feed_rest-requires-clause-may : goal.feed_rest-requires-clause-may
@@ -21,9 +18,7 @@ feed_rest-requires-clause-may g c κs within =
     let old = c.args.feeder.now in
     let same = c.end.ensures.kept c.in-None.is in
     let topics = (setup_in g.W.Work.plan old.pass.frame).plan.sources in
-    let first : HasProduced old.pass c.produce_all.new.pass (placed_all old.counts.items (item_views old.records.items)) =
-    subst (λ l. HasProduced old.pass c.produce_all.new.pass (placed_all l (item_views old.records.items))) c.deref.ensures.value
-    (subst (λ v. HasProduced old.pass c.produce_all.new.pass (placed_all c.deref.result.now (item_views v.items))) c.replace-records.ensures.value c.in_ok-produce_all.ensures.ok) in
+    let first = first_fed old c.produce_all.new.pass c.deref.result.now c.replace-records.result.items c.deref.ensures.value (ap (λ v. v.items) c.replace-records.ensures.value) c.in_ok-produce_all.ensures.ok in
     may_still g.W.Work.plan c.args.shared.now.growing.id old _ (placed_all old.counts.items (item_views old.records.items)) c.requires first refl
     (ap (λ v. v.items) c.replace-records.ensures.after ∙ c.new.ensures.items)
     (subst (λ r. StandsPast topics r.taken r.standing) (sym same) c.requires.past)
@@ -37,9 +32,7 @@ feed_rest-requires-clause-reading g c κs within =
 pub returns-in-None-clause-fed : goal.returns-in-None-clause-fed
 returns-in-None-clause-fed g c =
     let old = c.args.feeder.now in
-    let first : HasProduced old.pass c.produce_all.new.pass (placed_all old.counts.items (item_views old.records.items)) =
-    subst (λ l. HasProduced old.pass c.produce_all.new.pass (placed_all l (item_views old.records.items))) c.deref.ensures.value
-    (subst (λ v. HasProduced old.pass c.produce_all.new.pass (placed_all c.deref.result.now (item_views v.items))) c.replace-records.ensures.value c.in_ok-produce_all.ensures.ok) in
+    let first = first_fed old c.produce_all.new.pass c.deref.result.now c.replace-records.result.items c.deref.ensures.value (ap (λ v. v.items) c.replace-records.ensures.value) c.in_ok-produce_all.ensures.ok in
     IfOk-weaker c.feed_rest.result _ _
     (λ e k. fed_both old (record { counts = old.counts; records = c.replace-records.new.dest; rest = c.end.new.self; pass = c.produce_all.new.pass }) c.feed_rest.new.feeder (g.S.Source.left c.args.input.now) (g.S.Source.left c.feed_rest.new.input) e
     first refl (ap (λ v. v.items) c.replace-records.ensures.after ∙ c.new.ensures.items) (ap (λ r. r.standing) (c.end.ensures.kept c.in-None.is)) k) c.feed_rest.ensures.fed
