@@ -1,11 +1,12 @@
 -- The journal of a run, by what the run answers.
-use Rattle.std.proofs.Common.{◌≡◌, ◌⊎◌, inl, inr, ℕ, Bool, List, [], ◌∷◌, ◌++◌, refl, sym, ap, subst, ◌∙◌, append-nil}
+use Rattle.std.proofs.Common.{◌≡◌, ◌⊎◌, inl, inr, ℕ, Bool, true, List, [], ◌∷◌, ◌++◌, refl, sym, ap, subst, ◌∙◌, append-nil}
 use Rattle.std.specs.Prelude.{Option, Some, None, IfSome, Ok, Err}
 use Rattle.std.proofs.lemmas.List.{map-append}
 use Rattle.std.specs.Io.KnownBytes.{IsAtEnd}
 use Rattle.ks_edge.specs.Causes.{Rose}
 use Rattle.ks_plan.specs.Drafts.{DraftView}
 use Rattle.ks_plan.specs.Plan.{plan_of}
+use Rattle.ks_plan.specs.Faults.{fault_of}
 use Rattle.ks_query.specs.Streams.{Input}
 use Rattle.ks_query.specs.Grace.{IsWithinGrace}
 use Rattle.ks_def_tasks.specs.Messages.{Rules}
@@ -19,14 +20,15 @@ use Rattle.ks_job.specs.Reader.{Reader, whole}
 use Rattle.ks_law_inputs.specs.Records.{input_of, records_of}
 use Rattle.ks_law_settled.specs.Jobs.{produces}
 use Rattle.ks_run.specs.Told.{TellsLate, TellsCollision}
-use Rattle.ks_run.specs.Journals.{draft_in, placed_records, SettlesBytes, HasJournal, IsUndrained, IsInTime, IsWithoutCollision}
+use Rattle.ks_run.specs.Journals.{draft_in, placed_records, SettlesBytes, HasJournal, TookFront, IsUndrained, IsEmptyIf, IsInTime, IsWithoutCollision}
 use Rattle.ks_job_source.specs.declared.stop.Stop.{Stop}
 use Rattle.ks_job_source.specs.Stops.{stop_of}
 use Rattle.ks_job_source.specs.Texts.{bad_job_text}
 use Rattle.ks_job_source.specs.Reading.{Read}
 use Rattle.ks_job_source.specs.Reading.{TookNoFault}
-use Rattle.ks_job_source.specs.Opening.{HoldsJob, HoldsFront, EndsJob, OpensAt}
+use Rattle.ks_job_source.specs.Opening.{HoldsJob, HoldsFront, EndsFrom, EndsJob, OpensAt}
 use Rattle.ks_job_source.specs.declared.rest.Standing.{Standing}
+use Rattle.ks_job_source.specs.declared.rest.Standing.TheVariants as standings
 use Rattle.ks_job_source.specs.declared.rest.JobEnd.{JobEnd}
 use Rattle.ks_job_source.specs.declared.rest.JobEnd.TheVariants.{Whole, Stopped, Failed}
 use Rattle.ks_job_source.proofs.Opened.{opened_and_read, front_of_whole}
@@ -73,6 +75,7 @@ nothing_kept rules placing left =
       history = empty_history _;
       placed = none_placed _ _;
       front = (placed_records rules d (records_of items), refl);
+      unopened = λ none. refl;
     }
 
 pub no_journal : (rules : Rules) (placing : Placing) (left : Option (List ℕ)) (journal : List Entry) → journal ≡ [] → HasJournal rules placing left journal
@@ -80,6 +83,9 @@ no_journal rules placing left journal e = subst (HasJournal rules placing left) 
 
 pub none_drained : (journal : List Entry) → journal ≡ [] → IsUndrained journal
 none_drained journal e = rw e refl
+
+not_some : {A : Type 0} {o : Option A} {x : A} → o ≡ None → o ≡ Some x → ⊥
+not_some e f = absurd (cc)
 
 is_topology : (o : Option DraftView) (d : DraftView) → o ≡ Some d → IfSome o (λ e. e ≡ d)
 is_topology o d h = rw h refl
@@ -98,9 +104,9 @@ placed_both : (rules : Rules) (d : DraftView) (is js : List ItemView) → placed
 placed_both rules d is js = ap (placed_records rules d) (inputs_both is js) ∙ map-append _ (records_of is) (records_of js)
 
 -- some bytes have these records, and maybe more
-kept_of : (rules : Rules) (placing : Placing) (left : Option (List ℕ)) (bytes : List ℕ) (line : ℕ) (d : DraftView) (is more : List ItemView) (journal : List Entry) → IfSome left (λ b. b ≡ bytes) →
+kept_of : (rules : Rules) (placing : Placing) (left : Option (List ℕ)) (bytes : List ℕ) (line : ℕ) (d : DraftView) (is more : List ItemView) (journal : List Entry) → fault_of d ≡ None → IfSome left (λ b. b ≡ bytes) →
     (whole bytes).items ≡ (TopologyAt line d ∷ is) ++ more → KeepsJob rules placing d (records_of is) journal → HasJournal rules placing left journal
-kept_of rules placing left bytes line d is more journal known items h = record {
+kept_of rules placing left bytes line d is more journal fine known items h = record {
   bytes = bytes;
   known = known;
   draft = d;
@@ -110,15 +116,22 @@ kept_of rules placing left bytes line d is more journal known items h = record {
   history = h.history;
   placed = h.placed;
   front = (placed_records rules d (records_of more), placed_both rules d is more ∙ ap (λ l. l ++ placed_records rules d (records_of more)) (sym h.produced));
+  unopened = λ none. absurd (none d (ap draft_in items) fine);
 }
 
+-- a job that was read whole ends as one
+ends_whole : (mid new : Option (List ℕ)) (end : JobEnd) (items : List ItemView) → EndsFrom standings.Whole mid new end items → end ≡ Whole
+ends_whole mid new Whole items h = refl
+ends_whole mid new (Stopped stop) items h = absurd h
+ends_whole mid new Failed items h = absurd h
+
 -- ---- what is judged
-module _ (rules : Rules) (placing : Placing) (shown : Bool) (old new : Option (List ℕ)) (before now : ℕ) where
-  pub judged_bad_job : (text : List ℕ) (status : ℕ) (journal : List Entry) → status ≡ 2 → now ≡ before → IsRefused old text → IsUndrained journal → HasJournal rules placing old journal →
-      IsJudged rules placing shown old new before now status text journal
-  judged_bad_job text status journal is k h j kept = subst (λ s. IsJudged rules placing shown old new before now s text journal) (sym is) (record {
+module _ (rules : Rules) (placing : Placing) (shown ahead : Bool) (old new : Option (List ℕ)) (before now : ℕ) where
+  pub judged_bad_job : (text : List ℕ) (status : ℕ) (journal : List Entry) → status ≡ 2 → now ≡ before → IsRefused old text → IsUndrained journal → IsEmptyIf ahead journal → HasJournal rules placing old journal →
+      IsJudged rules placing shown ahead old new before now status text journal
+  judged_bad_job text status journal is k h j empty kept = subst (λ s. IsJudged rules placing shown ahead old new before now s text journal) (sym is) (record {
     read_fault = λ e. absurd (cc);
-    bad_job = λ e. (k, h, j);
+    bad_job = λ e. (k, h, j, empty);
     settled = λ e. absurd (cc);
     late = λ e. absurd (cc);
     collision = λ e. absurd (cc);
@@ -126,10 +139,10 @@ module _ (rules : Rules) (placing : Placing) (shown : Bool) (old new : Option (L
     only = inr (inl refl);
   })
 
-  pub judged_read_fault : (text : List ℕ) (status : ℕ) (journal : List Entry) → status ≡ 6 → Rose before now → TookNoFault old new → text ≡ read_fault_text → IsUndrained journal → HasJournal rules placing old journal →
-      IsJudged rules placing shown old new before now status text journal
-  judged_read_fault text status journal is k h t j kept = subst (λ s. IsJudged rules placing shown old new before now s text journal) (sym is) (record {
-    read_fault = λ e. (k, h, t, j);
+  pub judged_read_fault : (text : List ℕ) (status : ℕ) (journal : List Entry) → status ≡ 6 → Rose before now → TookFront old new journal → text ≡ read_fault_text → IsUndrained journal → IsEmptyIf ahead journal → HasJournal rules placing old journal →
+      IsJudged rules placing shown ahead old new before now status text journal
+  judged_read_fault text status journal is k h t j empty kept = subst (λ s. IsJudged rules placing shown ahead old new before now s text journal) (sym is) (record {
+    read_fault = λ e. (k, h, t, j, empty);
     bad_job = λ e. absurd (cc);
     settled = λ e. absurd (cc);
     late = λ e. absurd (cc);
@@ -139,8 +152,8 @@ module _ (rules : Rules) (placing : Placing) (shown : Bool) (old new : Option (L
   })
 
   judged_told : (d : DraftView) (records : List Input) (status : ℕ) (text : List ℕ) (journal : List Entry) → now ≡ before → IsAtEnd new → HasJournal rules placing old journal →
-      SettlesBytes rules old d records journal → Tells rules shown d records status text journal → IsJudged rules placing shown old new before now status text journal
-  judged_told d records status text journal k z kept h (inl t) = subst (λ s. IsJudged rules placing shown old new before now s text journal) (sym t.0) (record {
+      SettlesBytes rules old d records journal → Tells rules shown d records status text journal → IsJudged rules placing shown ahead old new before now status text journal
+  judged_told d records status text journal k z kept h (inl t) = subst (λ s. IsJudged rules placing shown ahead old new before now s text journal) (sym t.0) (record {
     read_fault = λ e. absurd (cc);
     bad_job = λ e. absurd (cc);
     settled = λ e. (k, z, record { draft = d; records = records; settles = h; query = t.1 });
@@ -149,7 +162,7 @@ module _ (rules : Rules) (placing : Placing) (shown : Bool) (old new : Option (L
     kept = kept;
     only = inl refl;
   })
-  judged_told d records status text journal k z kept h (inr (inl t)) = subst (λ s. IsJudged rules placing shown old new before now s text journal) (sym t.0) (record {
+  judged_told d records status text journal k z kept h (inr (inl t)) = subst (λ s. IsJudged rules placing shown ahead old new before now s text journal) (sym t.0) (record {
     read_fault = λ e. absurd (cc);
     bad_job = λ e. absurd (cc);
     settled = λ e. absurd (cc);
@@ -158,7 +171,7 @@ module _ (rules : Rules) (placing : Placing) (shown : Bool) (old new : Option (L
     kept = kept;
     only = inr (inr (inl refl));
   })
-  judged_told d records status text journal k z kept h (inr (inr t)) = subst (λ s. IsJudged rules placing shown old new before now s text journal) (sym t.0) (record {
+  judged_told d records status text journal k z kept h (inr (inr t)) = subst (λ s. IsJudged rules placing shown ahead old new before now s text journal) (sym t.0) (record {
     read_fault = λ e. absurd (cc);
     bad_job = λ e. absurd (cc);
     settled = λ e. absurd (cc);
@@ -169,11 +182,11 @@ module _ (rules : Rules) (placing : Placing) (shown : Bool) (old new : Option (L
   })
 
   -- a job that was read to its end, and what its run answers
-  judged_whole : (d : DraftView) (is : List ItemView) (status : ℕ) (text : List ℕ) (journal : List Entry) → now ≡ before → IsAtEnd new → HoldsJob old None d is → KeepsJob rules placing d (records_of is) journal →
-      SettlesJob rules shown d (records_of is) status text journal → IsJudged rules placing shown old new before now status text journal
-  judged_whole d is status text journal k z h kept a =
+  judged_whole : (d : DraftView) (is : List ItemView) (status : ℕ) (text : List ℕ) (journal : List Entry) → fault_of d ≡ None → now ≡ before → IsAtEnd new → HoldsJob old None d is → KeepsJob rules placing d (records_of is) journal →
+      SettlesJob rules shown d (records_of is) status text journal → IsJudged rules placing shown ahead old new before now status text journal
+  judged_whole d is status text journal fine k z h kept a =
       judged_told d (records_of is) status text journal k z
-      (kept_of rules placing old h.bytes h.line d is [] journal h.known (h.items_are ∙ sym (append-nil (TopologyAt h.line d ∷ is))) kept)
+      (kept_of rules placing old h.bytes h.line d is [] journal fine h.known (h.items_are ∙ sym (append-nil (TopologyAt h.line d ∷ is))) kept)
       (record {
         bytes = h.bytes;
         known = h.known;
@@ -185,31 +198,32 @@ module _ (rules : Rules) (placing : Placing) (shown : Bool) (old new : Option (L
       (tells rules shown d (records_of is) status text journal a.kept a.told)
 
   -- one that was read to a fault
-  judged_stopped : (stop : Stop) (d : DraftView) (is : List ItemView) (status : ℕ) (text : List ℕ) (journal : List Entry) → now ≡ before → HoldsJob old (Some stop) d is → KeepsJob rules placing d (records_of is) journal →
-      (status ≡ 2) × (text ≡ bad_job_text stop) × IsUndrained journal → IsJudged rules placing shown old new before now status text journal
-  judged_stopped stop d is status text journal k h kept t =
-      judged_bad_job text status journal t.0 k (record { bytes = h.bytes; known = h.known; bad = (stop, h.stops, t.1) }) t.2
-      (kept_of rules placing old h.bytes h.line d is [] journal h.known (h.items_are ∙ sym (append-nil (TopologyAt h.line d ∷ is))) kept)
+  judged_stopped : (stop : Stop) (d : DraftView) (is : List ItemView) (status : ℕ) (text : List ℕ) (journal : List Entry) → fault_of d ≡ None → IsEmptyIf ahead journal → now ≡ before → HoldsJob old (Some stop) d is → KeepsJob rules placing d (records_of is) journal →
+      (status ≡ 2) × (text ≡ bad_job_text stop) × IsUndrained journal → IsJudged rules placing shown ahead old new before now status text journal
+  judged_stopped stop d is status text journal fine empty k h kept t =
+      judged_bad_job text status journal t.0 k (record { bytes = h.bytes; known = h.known; bad = (stop, h.stops, t.1) }) t.2 empty
+      (kept_of rules placing old h.bytes h.line d is [] journal fine h.known (h.items_are ∙ sym (append-nil (TopologyAt h.line d ∷ is))) kept)
 
   -- one of which the source failed
-  judged_failed : (r : Reader) (d : DraftView) (is : List ItemView) (status : ℕ) (text : List ℕ) (journal : List Entry) → Rose before now → HoldsFront old new r d is → KeepsJob rules placing d (records_of is) journal →
-      (status ≡ 6) × (text ≡ read_fault_text) × IsUndrained journal → IsJudged rules placing shown old new before now status text journal
-  judged_failed r d is status text journal k h kept t =
+  judged_failed : (r : Reader) (d : DraftView) (is : List ItemView) (status : ℕ) (text : List ℕ) (journal : List Entry) → fault_of d ≡ None → IsEmptyIf ahead journal → Rose before now → HoldsFront old new r d is → KeepsJob rules placing d (records_of is) journal →
+      (status ≡ 6) × (text ≡ read_fault_text) × IsUndrained journal → IsJudged rules placing shown ahead old new before now status text journal
+  judged_failed r d is status text journal fine empty k h kept t =
       let front = front_of_whole old new r d is h in
-      judged_read_fault text status journal t.0 k (record { taken = h.taken; lost = h.lost; unstopped = h.unstopped }) t.1 t.2
-      (kept_of rules placing old front.bytes h.line d is front.more journal front.known front.items_are kept)
+      judged_read_fault text status journal t.0 k (record { taken = h.taken; lost = h.lost; unstopped = h.unstopped }, λ none. absurd (not_some none (ap (λ m. draft_in m.items) h.stands))) t.1 t.2 empty
+      (kept_of rules placing old front.bytes h.line d is front.more journal fine front.known front.items_are kept)
 
-  judged_end : (end : JobEnd) (d : DraftView) (is : List ItemView) (status : ℕ) (text : List ℕ) (journal : List Entry) → EndsJob old new end d is → FaultsBy end before now →
-      KeepsJob rules placing d (records_of is) journal → TellsEnd end rules shown d (records_of is) status text journal → IsJudged rules placing shown old new before now status text journal
-  judged_end Whole d is status text journal h k kept t = judged_whole d is status text journal k h.1 h.0 kept t
-  judged_end (Stopped stop) d is status text journal h k kept t = judged_stopped stop d is status text journal k h kept t
-  judged_end Failed d is status text journal h k kept t = judged_failed h.0 d is status text journal k h.1 kept t
+  judged_end : (end : JobEnd) (d : DraftView) (is : List ItemView) (status : ℕ) (text : List ℕ) (journal : List Entry) → fault_of d ≡ None → (ahead ≡ true → end ≡ Whole) → EndsJob old new end d is → FaultsBy end before now →
+      KeepsJob rules placing d (records_of is) journal → TellsEnd end rules shown d (records_of is) status text journal → IsJudged rules placing shown ahead old new before now status text journal
+  judged_end Whole d is status text journal fine empty h k kept t = judged_whole d is status text journal fine k h.1 h.0 kept t
+  judged_end (Stopped stop) d is status text journal fine empty h k kept t = judged_stopped stop d is status text journal fine (λ w. absurd (cc (empty w))) k h kept t
+  judged_end Failed d is status text journal fine empty h k kept t = judged_failed h.0 d is status text journal fine (λ w. absurd (cc (empty w))) k h.1 kept t
 
   -- the source failed or didn't, before a job was opened and since
-  pub judged_run : (mid : Option (List ℕ)) (opened : ℕ) (d : DraftView) (records : List ItemView) (standing : Standing) (status : ℕ) (text : List ℕ) (journal : List Entry) → opened ≡ before →
-      OpensAt old mid d records standing → RunsJob rules placing shown d records standing mid new opened now status text journal → IsJudged rules placing shown old new before now status text journal
-  judged_run mid opened d records standing status text journal same h r =
-      judged_end r.end d (records ++ r.items) status text journal (opened_and_read old mid new d records r.items standing r.end h r.reads)
+  pub judged_run : (mid : Option (List ℕ)) (opened : ℕ) (d : DraftView) (records : List ItemView) (standing : Standing) (status : ℕ) (text : List ℕ) (journal : List Entry) → fault_of d ≡ None → (ahead ≡ true → standing ≡ standings.Whole) → opened ≡ before →
+      OpensAt old mid d records standing → RunsJob rules placing shown d records standing mid new opened now status text journal → IsJudged rules placing shown ahead old new before now status text journal
+  judged_run mid opened d records standing status text journal fine stood same h r =
+      judged_end r.end d (records ++ r.items) status text journal fine
+      (λ e. ends_whole mid new r.end r.items (subst (λ s. EndsFrom s mid new r.end r.items) (stood e) r.reads)) (opened_and_read old mid new d records r.items standing r.end h r.reads)
       (subst (λ n. FaultsBy r.end n now) same r.faults) r.kept r.told
 
 -- ---- jobs that are always answered by their query
@@ -219,9 +233,6 @@ of_known e = cc
 known_is : (left : Option (List ℕ)) (bytes known : List ℕ) → left ≡ Some bytes → IfSome left (λ b. b ≡ known) → known ≡ bytes
 known_is None bytes known e k = absurd (cc)
 known_is (Some b) bytes known e k = sym k ∙ of_known e
-
-not_some : {A : Type 0} {o : Option A} {x : A} → o ≡ None → o ≡ Some x → ⊥
-not_some e f = absurd (cc)
 
 module _ (rules : Rules) (shown : Bool) (left : Option (List ℕ)) (valid : IsInTime left) where
   none_refused : (text : List ℕ) → IsRefused left text → ⊥
@@ -241,9 +252,9 @@ module _ (rules : Rules) (shown : Bool) (left : Option (List ℕ)) (valid : IsIn
     none_collide alone text t = not_some (alone valid.bytes valid.known d topology) t.first
 
 -- a device's count of faults did not rise, all that else could have been answered
-pub judged_query : (rules : Rules) (placing : Placing) (shown : Bool) (old new : Option (List ℕ)) (before now status : ℕ) (text : List ℕ) (journal : List Entry) → IsInTime old → IsWithoutCollision rules old journal → (Rose before now → ⊥) →
-    IsJudged rules placing shown old new before now status text journal → status ≡ 0
-judged_query rules placing shown old new before now status text journal valid alone calm h = by h.only
+pub judged_query : (rules : Rules) (placing : Placing) (shown ahead : Bool) (old new : Option (List ℕ)) (before now status : ℕ) (text : List ℕ) (journal : List Entry) → IsInTime old → IsWithoutCollision rules old journal → (Rose before now → ⊥) →
+    IsJudged rules placing shown ahead old new before now status text journal → status ≡ 0
+judged_query rules placing shown ahead old new before now status text journal valid alone calm h = by h.only
   where
     by : (status ≡ 0) ⊎ (status ≡ 2) ⊎ (status ≡ 3) ⊎ (status ≡ 5) ⊎ (status ≡ 6) → status ≡ 0
     by (inl e) = e

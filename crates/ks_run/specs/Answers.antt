@@ -8,10 +8,9 @@ use Rattle.ks_history.specs.declared.journal.Entry.{Entry}
 use Rattle.ks_job.specs.Reader.{whole}
 use Rattle.ks_job_source.specs.declared.stop.Stop.{Stop}
 use Rattle.ks_job_source.specs.Stops.{stop_of}
-use Rattle.ks_job_source.specs.Reading.{TookNoFault}
 use Rattle.ks_output.specs.Texts.{read_fault_text}
 use Rattle.ks_job_source.specs.Texts.{bad_job_text}
-use Rattle.ks_run.specs.Journals.{IsSettledRun, IsLateRun, IsCollidedRun, HasJournal, IsUndrained}
+use Rattle.ks_run.specs.Journals.{IsSettledRun, IsLateRun, IsCollidedRun, HasJournal, TookFront, IsUndrained, IsEmptyIf}
 
 -- the bytes are no job that can be run, for this reason
 abbrev pub IsStopped : List ℕ → Stop → Type 0
@@ -28,10 +27,10 @@ pub record IsRefused (left : Option (List ℕ)) (text : List ℕ) : Type 0 where
   pub bad : IsBadJob bytes text
 
 -- what a job's run answers, with its text and its journal: by the bytes that the source has left before and after, where they are
--- known, and its count of faults before and after
-pub record IsJudged (rules : Rules) (placing : Placing) (shown : Bool) (old new : Option (List ℕ)) (before now : ℕ) (status : ℕ) (text : List ℕ) (journal : List Entry) : Type 0 where
-  pub read_fault : status ≡ 6 → Rose before now × TookNoFault old new × (text ≡ read_fault_text) × IsUndrained journal
-  pub bad_job : status ≡ 2 → (now ≡ before) × IsRefused old text × IsUndrained journal
+-- known, and its count of faults before and after; where reading a job that is read ahead of its run ends in a fault, the journal is empty
+pub record IsJudged (rules : Rules) (placing : Placing) (shown ahead : Bool) (old new : Option (List ℕ)) (before now : ℕ) (status : ℕ) (text : List ℕ) (journal : List Entry) : Type 0 where
+  pub read_fault : status ≡ 6 → Rose before now × TookFront old new journal × (text ≡ read_fault_text) × IsUndrained journal × IsEmptyIf ahead journal
+  pub bad_job : status ≡ 2 → (now ≡ before) × IsRefused old text × IsUndrained journal × IsEmptyIf ahead journal
   pub settled : status ≡ 0 → (now ≡ before) × IsAtEnd new × IsSettledRun rules shown old text journal
   pub late : status ≡ 3 → (now ≡ before) × IsAtEnd new × IsLateRun rules shown old text journal
   pub collision : status ≡ 5 → (now ≡ before) × IsAtEnd new × IsCollidedRun rules shown old text journal

@@ -1,5 +1,5 @@
 -- What a run answers, by the words.
-use Rattle.std.specs.Prelude.{◌≡◌, ℕ, Bool, false, List, [], Option, Some, None}
+use Rattle.std.specs.Prelude.{◌≡◌, ℕ, Bool, false, List, [], Option, Some, None, is_some}
 use Rattle.ks_assign.specs.declared.clients.Placing.{Placing}
 use Rattle.ks_crew.specs.Members.{placing_of}
 use Rattle.ks_def_tasks.specs.Messages.{Rules}
@@ -36,6 +36,12 @@ abbrev pub journal_of : Option Command → Bool
 journal_of (Some (Run settings)) = settings.journal
 journal_of _ = false
 
+-- whether the job is read whole ahead of its run
+abbrev pub is_read_ahead : Option Command → Bool
+is_read_ahead None = false
+is_read_ahead (Some (Run settings)) = is_some settings.stop
+is_read_ahead (Some (Load orders settings)) = is_some settings.stop
+
 -- how the workers form clients, and what is wanted of an assignment
 abbrev pub placing_by : Option Command → Placing
 placing_by None = placing_of usual
@@ -43,12 +49,13 @@ placing_by (Some (Run settings)) = placing_of settings
 placing_by (Some (Load orders settings)) = placing_of settings
 
 -- what the load job's run answers; no source is asked
-abbrev pub IsLoadJudged : Rules → Placing → ℕ → ℕ → List ℕ → List Entry → Type 0
-IsLoadJudged rules placing orders status text journal = (left : Option (List ℕ)) × IsJudged rules placing false (Some (load_text orders)) left 0 0 status text journal
+abbrev pub IsLoadJudged : Rules → Placing → Bool → ℕ → ℕ → List ℕ → List Entry → Type 0
+IsLoadJudged rules placing ahead orders status text journal =
+    (left : Option (List ℕ)) × IsJudged rules placing false ahead (Some (load_text orders)) left 0 0 status text journal
 
 -- what is answered to a command, with its text and its journal: by the bytes that the source has left before and after, where they are
 -- known, and its count of faults before and after
 abbrev pub IsJudgedBy : Option Command → Rules → Option (List ℕ) → Option (List ℕ) → ℕ → ℕ → ℕ → List ℕ → List Entry → Type 0
 IsJudgedBy None rules old new before now status text journal = (status ≡ 1) × (text ≡ bad_words_text) × (journal ≡ [])
-IsJudgedBy (Some (Run settings)) rules old new before now status text journal = IsJudged rules (placing_of settings) settings.journal old new before now status text journal
-IsJudgedBy (Some (Load orders settings)) rules old new before now status text journal = IsLoadJudged rules (placing_of settings) orders status text journal
+IsJudgedBy (Some (Run settings)) rules old new before now status text journal = IsJudged rules (placing_of settings) settings.journal (is_some settings.stop) old new before now status text journal
+IsJudgedBy (Some (Load orders settings)) rules old new before now status text journal = IsLoadJudged rules (placing_of settings) (is_some settings.stop) orders status text journal

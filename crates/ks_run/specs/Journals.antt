@@ -1,7 +1,8 @@
 -- A run's tables and its journal, by the job.
-use Rattle.std.specs.Prelude.{◌≡◌, ◌<◌, ◌^◌, ℕ, Bool, List, [], ◌∷◌, ◌++◌, filter, map, Option, Some, None, IfSome}
+use Rattle.std.specs.Prelude.{◌≡◌, ◌<◌, ◌^◌, ℕ, Bool, true, List, [], ◌∷◌, ◌++◌, filter, map, Option, Some, None, IfSome}
 use Rattle.ks_plan.specs.Drafts.{DraftView}
 use Rattle.ks_plan.specs.Plan.{plan_of}
+use Rattle.ks_plan.specs.Faults.{fault_of}
 use Rattle.ks_plan.specs.Layout.{tasks}
 use Rattle.ks_plan.specs.Infos.{changelog_numbers}
 use Rattle.ks_query.specs.Streams.{Input}
@@ -20,12 +21,13 @@ use Rattle.ks_feed.specs.Producing.{begins_drain}
 use Rattle.ks_law_exactly_once.specs.Law.{IsRun}
 use Rattle.ks_law_topology.specs.Work.{setup_of}
 use Rattle.ks_job.specs.Items.{ItemView, TopologyAt, RecordTo}
-use Rattle.ks_job.specs.Reader.{whole}
+use Rattle.ks_job.specs.Reader.{so_far, whole}
 use Rattle.ks_law_inputs.specs.Records.{records_of}
 use Rattle.ks_law_settled.specs.Collision.{first_pair}
 use Rattle.ks_law_settled.specs.Jobs.{IsJob, produced_of, produces}
 use Rattle.ks_law_settled.specs.Settled.{end_of}
 use Rattle.ks_job_source.specs.Stops.{stop_of}
+use Rattle.ks_job_source.specs.Reading.{TookNoFault}
 use Rattle.ks_run.specs.Told.{TellsQuery, TellsLate, TellsCollision}
 
 -- the topology is the first item
@@ -101,8 +103,12 @@ abbrev pub IsPlaced : Rules → Placing → DraftView → List Entry → Type 0
 IsPlaced rules placing d journal =
     ArePlaced (good_by (changelog_numbers (plan_of d)) (tasks (plan_of d)) placing) (setup_of rules (plan_of d)) journal
 
+-- these items have no topology that is well formed
+abbrev pub HasNoTopology : List ItemView → Type 0
+HasNoTopology items = (d : DraftView) → draft_in items ≡ Some d → fault_of d ≡ None → ⊥
+
 -- a journal that is legal and faithful, has good assignments alone, and has produced a front of the records that some bytes have before their
--- first faulty line; the bytes are those that the source has left where it tells them
+-- first faulty line; it is empty where these have no topology that is well formed. The bytes are those that the source has left where it tells them
 pub record HasJournal (rules : Rules) (placing : Placing) (left : Option (List ℕ)) (journal : List Entry) : Type 0 where
   pub bytes : List ℕ
   pub known : IfSome left (λ b. b ≡ bytes)
@@ -113,7 +119,17 @@ pub record HasJournal (rules : Rules) (placing : Placing) (left : Option (List �
   pub history : IsHistory (setup_of rules (plan_of draft)) journal
   pub placed : IsPlaced rules placing draft journal
   pub front : (rest : List (PartId × Rec)) × (placed_records rules draft records ≡ produces journal ++ rest)
+  pub unopened : HasNoTopology (whole bytes).items → journal ≡ []
+
+-- the source lost some bytes that had nothing to stop at; where they have no topology yet the journal is empty
+abbrev pub TookFront : Option (List ℕ) → Option (List ℕ) → List Entry → Type 0
+TookFront old new journal =
+    (front : TookNoFault old new) × (draft_in (so_far front.taken).items ≡ None → journal ≡ [])
 
 -- the drain was left out: no `init` and no `join` of the caller's own number, with which it begins
 abbrev pub IsUndrained : List Entry → Type 0
 IsUndrained journal = filter begins_drain journal ≡ []
+
+-- it is empty, under this condition
+abbrev pub IsEmptyIf : Bool → List Entry → Type 0
+IsEmptyIf condition journal = condition ≡ true → journal ≡ []

@@ -1,5 +1,5 @@
 //! The top call: from the words to a run.
-ghost use Rattle.std.specs.Prelude.{◌≡◌, ◌≢◌, ◌⊎◌, ◌<◌, ◌≤◌, ℕ, List, false, Some, None, IfSome, [], length};
+ghost use Rattle.std.specs.Prelude.{◌≡◌, ◌≢◌, ◌⊎◌, ◌<◌, ◌≤◌, ℕ, List, false, Some, None, IfSome, [], length, is_some};
 ghost use Rattle.std.specs.Io.KnownBytes.{Appends, IsAtEnd};
 ghost use Rattle.ks_edge.specs.Causes.{Rose};
 ghost use Rattle.ks_hash.specs.Murmur3.{murmur3_of};
@@ -10,10 +10,9 @@ ghost use Rattle.ks_crew.specs.Members.{placing_of};
 ghost use Rattle.ks_words.specs.Grammar.{words_of, command_of};
 ghost use Rattle.ks_words.specs.Load.{load_text};
 ghost use Rattle.ks_words.specs.Ranges.{HasRanges, IsWithin};
-ghost use Rattle.ks_job_source.specs.Reading.{TookNoFault};
 ghost use Rattle.ks_run.specs.Answers.{IsRefused, IsStatus};
-ghost use Rattle.ks_run.specs.Commands.{HasValidJob, IsRun, IsJudgedBy, IsLoadJudged, placing_by, job_bytes, journal_of};
-ghost use Rattle.ks_run.specs.Journals.{IsSettledRun, IsLateRun, IsCollidedRun, HasJournal, IsUndrained, IsWithoutCollision};
+ghost use Rattle.ks_run.specs.Commands.{HasValidJob, IsRun, IsJudgedBy, IsLoadJudged, is_read_ahead, placing_by, job_bytes, journal_of};
+ghost use Rattle.ks_run.specs.Journals.{IsSettledRun, IsLateRun, IsCollidedRun, HasJournal, TookFront, IsUndrained, IsEmptyIf, IsWithoutCollision};
 
 use crate::loading::TextSource;
 use crate::runs::{Ended, run_job};
@@ -33,6 +32,7 @@ fn without_journal(settings: Settings) -> Settings
     ensures ranges { HasRanges result }
     ensures placing { placing_of result ≡ placing_of settings }
     ensures journal { result.journal ≡ false }
+    ensures stop { result.stop ≡ settings.stop }
 {
     Settings {
         journal: false,
@@ -46,6 +46,7 @@ fn refuse_words<K: Sink>(alloc: Global, out: &mut K) -> Ended
     ensures write_fault { result.status ≡ 7 → Rose (K.faults out.old) (K.faults out.new) × AppendsFront (K.held out.old) (K.held out.new) bad_words_text }
     ensures written { (result.status ≡ 7 → ⊥) → K.faults out.new ≡ K.faults out.old }
     ensures memory { result.status ≡ 8 → out.new ≡ out.old }
+    ensures forgotten { result.status ≡ 8 → result.journal ≡ [] }
     ensures only { (result.status ≡ 1) ⊎ (result.status ≡ 7) ⊎ (result.status ≡ 8) }
     ensures journal { result.journal ≡ [] }
 {
@@ -86,7 +87,8 @@ fn run_load<R: Threads + Wait + Sync, K: Sink>(
     ensures words { result.status ≡ 1 → ⊥ }
     ensures bad_job { result.status ≡ 2 → ((text : List ℕ) × IsRefused (Some (load_text orders)) text
         × Appends (K.held out.old) (K.held out.new) text)
-        × IsUndrained result.journal }
+        × IsUndrained result.journal
+        × IsEmptyIf (is_some settings.stop) result.journal }
     ensures settled { result.status ≡ 0 → ((text : List ℕ) × IsSettledRun (rules_of murmur3_of) false (Some (load_text orders)) text result.journal
         × Appends (K.held out.old) (K.held out.new) text) }
     ensures late { result.status ≡ 3 → ((text : List ℕ) × IsLateRun (rules_of murmur3_of) false (Some (load_text orders)) text result.journal
@@ -94,13 +96,14 @@ fn run_load<R: Threads + Wait + Sync, K: Sink>(
     ensures collision { result.status ≡ 5 → ((text : List ℕ) × IsCollidedRun (rules_of murmur3_of) false (Some (load_text orders)) text result.journal
         × Appends (K.held out.old) (K.held out.new) text) }
     ensures write_fault { result.status ≡ 7 → Rose (K.faults out.old) (K.faults out.new)
-        × ((status : ℕ) × (text : List ℕ) × IsLoadJudged (rules_of murmur3_of) (placing_of settings) orders status text result.journal
+        × ((status : ℕ) × (text : List ℕ) × IsLoadJudged (rules_of murmur3_of) (placing_of settings) (is_some settings.stop) orders status text result.journal
         × AppendsFront (K.held out.old) (K.held out.new) text) }
     ensures journal { (result.status ≡ 8 → ⊥) → HasJournal (rules_of murmur3_of) (placing_of settings) (Some (load_text orders)) result.journal }
     ensures complete { IsWithoutCollision (rules_of murmur3_of) (Some (load_text orders)) result.journal
         → (Rose (K.faults out.old) (K.faults out.new) → ⊥) → (result.status ≡ 0) ⊎ (result.status ≡ 8) }
     ensures written { (result.status ≡ 7 → ⊥) → K.faults out.new ≡ K.faults out.old }
     ensures memory { result.status ≡ 8 → out.new ≡ out.old }
+    ensures forgotten { result.status ≡ 8 → result.journal ≡ [] }
     ensures only { IsStatus result.status }
 {
     let Ok(text) = load_job(alloc, orders) else {
@@ -131,13 +134,15 @@ fn run_command<R: Threads + Wait + Sync, S: Source + Send, K: Sink>(
     ensures good_words { (result.status ≡ 0) ⊎ (result.status ≡ 2) ⊎ (result.status ≡ 3) ⊎ (result.status ≡ 5) ⊎ (result.status ≡ 6) → command ≢ None }
     ensures read_fault { result.status ≡ 6 → IsRun command
         × Rose (S.faults input.old) (S.faults input.new)
-        × TookNoFault (S.left input.old) (S.left input.new)
+        × TookFront (S.left input.old) (S.left input.new) result.journal
         × Appends (K.held out.old) (K.held out.new) read_fault_text
-        × IsUndrained result.journal }
+        × IsUndrained result.journal
+        × IsEmptyIf (is_read_ahead command) result.journal }
     ensures bad_job { result.status ≡ 2 → (S.faults input.new ≡ S.faults input.old)
         × ((text : List ℕ) × IsRefused (job_bytes command (S.left input.old)) text
         × Appends (K.held out.old) (K.held out.new) text)
-        × IsUndrained result.journal }
+        × IsUndrained result.journal
+        × IsEmptyIf (is_read_ahead command) result.journal }
     ensures settled { result.status ≡ 0 → (S.faults input.new ≡ S.faults input.old)
         × (IsRun command → IsAtEnd (S.left input.new))
         × ((text : List ℕ) × IsSettledRun (rules_of murmur3_of) (journal_of command) (job_bytes command (S.left input.old)) text result.journal
@@ -164,6 +169,7 @@ fn run_command<R: Threads + Wait + Sync, S: Source + Send, K: Sink>(
     ensures unasked { (IsRun command → ⊥) → input.new ≡ input.old }
     ensures written { (result.status ≡ 7 → ⊥) → K.faults out.new ≡ K.faults out.old }
     ensures memory { result.status ≡ 8 → out.new ≡ out.old }
+    ensures forgotten { result.status ≡ 8 → result.journal ≡ [] }
     ensures only { IsStatus result.status }
 {
     match command {
@@ -194,13 +200,15 @@ pub fn top<R: Threads + Wait + Sync, S: Source + Send, K: Sink>(
     ensures good_words { (result.status ≡ 0) ⊎ (result.status ≡ 2) ⊎ (result.status ≡ 3) ⊎ (result.status ≡ 5) ⊎ (result.status ≡ 6) → command_of (words_of words.now) ≢ None }
     ensures read_fault { result.status ≡ 6 → IsRun (command_of (words_of words.now))
         × Rose (S.faults input.old) (S.faults input.new)
-        × TookNoFault (S.left input.old) (S.left input.new)
+        × TookFront (S.left input.old) (S.left input.new) result.journal
         × Appends (K.held out.old) (K.held out.new) read_fault_text
-        × IsUndrained result.journal }
+        × IsUndrained result.journal
+        × IsEmptyIf (is_read_ahead (command_of (words_of words.now))) result.journal }
     ensures bad_job { result.status ≡ 2 → (S.faults input.new ≡ S.faults input.old)
         × ((text : List ℕ) × IsRefused (job_bytes (command_of (words_of words.now)) (S.left input.old)) text
         × Appends (K.held out.old) (K.held out.new) text)
-        × IsUndrained result.journal }
+        × IsUndrained result.journal
+        × IsEmptyIf (is_read_ahead (command_of (words_of words.now))) result.journal }
     ensures settled { result.status ≡ 0 → (S.faults input.new ≡ S.faults input.old)
         × (IsRun (command_of (words_of words.now)) → IsAtEnd (S.left input.new))
         × ((text : List ℕ) × IsSettledRun (rules_of murmur3_of) (journal_of (command_of (words_of words.now))) (job_bytes (command_of (words_of words.now)) (S.left input.old)) text result.journal
@@ -227,6 +235,7 @@ pub fn top<R: Threads + Wait + Sync, S: Source + Send, K: Sink>(
     ensures unasked { (IsRun (command_of (words_of words.now)) → ⊥) → input.new ≡ input.old }
     ensures written { (result.status ≡ 7 → ⊥) → K.faults out.new ≡ K.faults out.old }
     ensures memory { result.status ≡ 8 → out.new ≡ out.old }
+    ensures forgotten { result.status ≡ 8 → result.journal ≡ [] }
     ensures only { IsStatus result.status }
 {
     let Ok(command) = read_words(alloc, words) else {

@@ -1,5 +1,5 @@
 //! A run of a job.
-ghost use Rattle.std.specs.Prelude.{◌≡◌, ◌⊎◌, ℕ, List, false, length};
+ghost use Rattle.std.specs.Prelude.{◌≡◌, ◌⊎◌, ℕ, List, [], length, is_some};
 ghost use Rattle.std.specs.Io.KnownBytes.{Appends, IsAtEnd};
 ghost use Rattle.ks_edge.specs.Causes.{Rose};
 ghost use Rattle.ks_nodes.specs.Rules.{rules_of};
@@ -7,8 +7,7 @@ ghost use Rattle.ks_output.specs.Bytes.{AppendsFront};
 ghost use Rattle.ks_output.specs.Texts.{read_fault_text};
 ghost use Rattle.ks_crew.specs.Members.{placing_of};
 ghost use Rattle.ks_words.specs.Ranges.{HasRanges};
-ghost use Rattle.ks_run.specs.Journals.{IsSettledRun, IsLateRun, IsCollidedRun, HasJournal, IsUndrained, IsInTime, IsWithoutCollision};
-ghost use Rattle.ks_job_source.specs.Reading.{TookNoFault};
+ghost use Rattle.ks_run.specs.Journals.{IsSettledRun, IsLateRun, IsCollidedRun, HasJournal, TookFront, IsUndrained, IsEmptyIf, IsInTime, IsWithoutCollision};
 ghost use Rattle.ks_run.specs.Answers.{IsRefused, IsJudged, IsStatus};
 
 use crate::outcome::judge_job;
@@ -41,7 +40,7 @@ pub struct Ended {
 /// | 5 | as 0, but two decided records of a left key in one partition have rows that differ and one hash, whatever was late | `collision NODE KEY FIRST SECOND`: the join, the key, and the offsets of the first two such records | as of 0 |
 /// | 6 | the source failed before that | `read fault` | as of 2 |
 /// | 7 | the sink failed, in place of each of these | a front of what they write | as theirs |
-/// | 8 | there was no memory, in a worker or elsewhere | nothing | |
+/// | 8 | there was no memory, in a worker or elsewhere | nothing | empty |
 ///
 /// So a job whose records are within grace is answered by its query, unless a device fails, memory runs out, or rows of one key have one
 /// hash.
@@ -49,7 +48,7 @@ pub struct Ended {
 /// The source is read until the topology is whole. Then each record is produced as soon as its line is, while the workers run, each in a thread of its own: `threads` of them for each of so many
 /// `instances`, with `standbys` of each task. They take and commit the records, and what they leave the drain does (`ks_crew`, `ks_settle`); where a line is faulty or the source fails there is none.
 /// With `stop` the source is read whole first. The worker w is told its acts by the gate w, which begins for it with `chaos` and `interval`, and has the
-/// turns of `stop`; gates that are left over are dropped unasked. The journal is empty where the topology isn't known, or is refused.
+/// turns of `stop`; gates that are left over are dropped unasked. The journal is empty where the topology isn't known, or is refused, and with `stop` under statuses 2 and 6.
 /// With `journal` the journal's lines come last under statuses 0, 3 and 5 (`ks_journal`). A line is whole at its line feed, at its byte 65,537, or at the end of the input; the source isn't asked again once a
 /// faulty line is whole, nor after its end. The text is built whole before its first byte is written.
 pub fn run_job<H: Hash128 + Send + Sync, R: Threads + Wait + Sync, S: Source + Send, K: Sink>(
@@ -65,13 +64,15 @@ pub fn run_job<H: Hash128 + Send + Sync, R: Threads + Wait + Sync, S: Source + S
 
     // What was written is known from the status, and so is why it came.
     ensures read_fault { result.status ≡ 6 → Rose (S.faults input.old) (S.faults input.new)
-        × TookNoFault (S.left input.old) (S.left input.new)
+        × TookFront (S.left input.old) (S.left input.new) result.journal
         × Appends (K.held out.old) (K.held out.new) read_fault_text
-        × IsUndrained result.journal }
+        × IsUndrained result.journal
+        × IsEmptyIf (is_some settings.now.stop) result.journal }
     ensures bad_job { result.status ≡ 2 → (S.faults input.new ≡ S.faults input.old)
         × ((text : List ℕ) × IsRefused (S.left input.old) text
         × Appends (K.held out.old) (K.held out.new) text)
-        × IsUndrained result.journal }
+        × IsUndrained result.journal
+        × IsEmptyIf (is_some settings.now.stop) result.journal }
     ensures settled { result.status ≡ 0 → (S.faults input.new ≡ S.faults input.old)
         × IsAtEnd (S.left input.new)
         × ((text : List ℕ) × IsSettledRun (rules_of H.hash_of) settings.now.journal (S.left input.old) text result.journal
@@ -86,7 +87,7 @@ pub fn run_job<H: Hash128 + Send + Sync, R: Threads + Wait + Sync, S: Source + S
         × Appends (K.held out.old) (K.held out.new) text) }
     ensures write_fault { result.status ≡ 7 → Rose (K.faults out.old) (K.faults out.new)
         × ((status : ℕ) × (text : List ℕ)
-        × IsJudged (rules_of H.hash_of) (placing_of settings.now) settings.now.journal (S.left input.old) (S.left input.new) (S.faults input.old) (S.faults input.new) status text result.journal
+        × IsJudged (rules_of H.hash_of) (placing_of settings.now) settings.now.journal (is_some settings.now.stop) (S.left input.old) (S.left input.new) (S.faults input.old) (S.faults input.new) status text result.journal
         × AppendsFront (K.held out.old) (K.held out.new) text) }
 
     // The journal is legal and faithful, its assignments are good, and what it has produced is a front of the job's records.
@@ -100,8 +101,9 @@ pub fn run_job<H: Hash128 + Send + Sync, R: Threads + Wait + Sync, S: Source + S
     // At every other status the sink did not fail.
     ensures written { (result.status ≡ 7 → ⊥) → K.faults out.new ≡ K.faults out.old }
 
-    // On want of memory nothing was written.
+    // On want of memory nothing was written, and no journal is handed back.
     ensures memory { result.status ≡ 8 → out.new ≡ out.old }
+    ensures forgotten { result.status ≡ 8 → result.journal ≡ [] }
     ensures only { IsStatus result.status }
     ensures words { result.status ≡ 1 → ⊥ }
 {

@@ -9,7 +9,7 @@ pub returns-clause-journal : goal.returns-clause-journal
 returns-clause-journal g c = λ h. c.in-Ok.ensures.kept
 
 pub returns-in-Ok-write_output-clause-complete : goal.returns-in-Ok-write_output-clause-complete
-returns-in-Ok-write_output-clause-complete g c = λ valid alone calm kept. inl (judged_query _ _ _ _ _ _ _ _ _ _ valid alone calm c.in-Ok.ensures)
+returns-in-Ok-write_output-clause-complete g c = λ valid alone calm kept. inl (judged_query _ _ _ _ _ _ _ _ _ _ _ valid alone calm c.in-Ok.ensures)
 
 pub returns-clause-complete : goal.returns-clause-complete
 returns-clause-complete g c = λ valid alone calm kept. absurd (kept c.in-Err.ensures.fault)
