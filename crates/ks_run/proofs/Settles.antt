@@ -8,7 +8,8 @@ use Rattle.ks_row.specs.declared.record.TaskId.{TaskId}
 use Rattle.ks_plan.specs.Drafts.{DraftView}
 use Rattle.ks_plan.specs.Plan.{plan_of}
 use Rattle.ks_plan.specs.Layout.{topics_of, parts_of_topic, tasks}
-use Rattle.ks_plan.specs.Infos.{inputs_by_sub, changelog_numbers}
+use Rattle.ks_plan.specs.declared.node.TopicInfo.{TopicInfo}
+use Rattle.ks_plan.specs.Infos.{inputs_by_sub, changelog_numbers, topic_infos}
 use Rattle.ks_topo.specs.declared.built.Topology.{Topology}
 use Rattle.ks_topo.specs.Topologies.{draft_of}
 use Rattle.ks_plan.specs.Faults.{fault_of}
@@ -55,7 +56,7 @@ use Rattle.ks_task.proofs.Subs.{inputs_there}
 use Rattle.ks_run.specs.Told.{told, with_lines}
 use Rattle.ks_run.specs.Journals.{placed_records, IsUndrained}
 use Rattle.ks_run.specs.Settling.{IsDrained, SettlesJob, IsWantedBy, IsEnded, IsLeft, EndsBy, KeepsJob, TellsEnd, RunsJob}
-use Rattle.ks_run.proofs.Counts.{counts_length, plan_count, have_parts}
+use Rattle.ks_run.proofs.Counts.{counts_length, plan_count, have_parts, shown_counts}
 use Rattle.ks_run.proofs.Placed.{keys_have_parts, records_placed, records_fit, records_in_range}
 
 pub setup_is : (hash : List ℕ → ℕ) (d : DraftView) (plan : TaskPlan) (counts : List ℕ) (ts : List TaskId) → plan ≡ work_of (rules_of hash) (plan_of d) → counts ≡ map (parts_of_topic (plan_of d)) (topics_of (plan_of d)) → ts ≡ tasks (plan_of d) →
@@ -69,6 +70,27 @@ pub begun_is : {W : Type 0} (work : W) (c : ClusterView W) (kept counts : List �
     c ≡ record { work = work; counts = counts; tasks = all; journal = [] }
 begun_is work c kept counts ts all a b e =
     subst (λ l. c ≡ record { work = work; counts = counts; tasks = l; journal = [] }) b (subst (λ l. c ≡ record { work = work; counts = l; tasks = ts; journal = [] }) a e)
+
+-- ---- a new cluster of a topology's tasks
+pub record HasBegun {W : Type 0} (hash : List ℕ → ℕ) (plan : W → TaskPlan) (good : W → PlacementTest) (placing : Placing) (d : DraftView) (begun : ClusterView W) (counts : List ℕ) : Type 0 where
+  pub new : begun.journal ≡ []
+  pub work : plan begun.work ≡ work_of (rules_of hash) (plan_of d)
+  pub start : kept.setup_of plan begun ≡ setup_of (rules_of hash) (plan_of d)
+  pub wanted : IsWantedBy good begun.work d placing
+  pub kept_counts : counts ≡ begun.counts
+  pub counts_are : counts ≡ map (parts_of_topic (plan_of d)) (topics_of (plan_of d))
+
+pub has_begun : {W : Type 0} (hash : List ℕ → ℕ) (plan : W → TaskPlan) (good : W → PlacementTest) (placing : Placing) (d : DraftView) (work : W) (begun : ClusterView W) (given counts : List ℕ) → given ≡ counts →
+    begun ≡ record { work = work; counts = given; tasks = tasks (plan_of d); journal = [] } → plan work ≡ work_of (rules_of hash) (plan_of d) → counts ≡ map (λ (i : TopicInfo). i.parts) (topic_infos d) → IsWantedBy good work d placing →
+    HasBegun hash plan good placing d begun counts
+has_begun hash plan good placing d work begun given counts same is planned counted wanted = record {
+  new = ap (λ k. k.journal) is;
+  work = ap (λ k. plan k.work) is ∙ planned;
+  start = ap (λ k. kept.setup_of plan k) is ∙ setup_is hash d (plan work) given (tasks (plan_of d)) planned (same ∙ (counted ∙ shown_counts d)) refl;
+  wanted = ap (λ k. good k.work) is ∙ wanted;
+  kept_counts = sym same ∙ sym (ap (λ k. k.counts) is);
+  counts_are = counted ∙ shown_counts d;
+}
 
 -- ---- a topology and its records before they are run
 pub record IsRunnable (hash : List ℕ → ℕ) (d : DraftView) (is : List ItemView) : Type 0 where
