@@ -35,7 +35,7 @@ module _ {T E F : Type 0} (journal : T → List E) (reserved : E → Bool) (fram
   abbrev Rule : St → Type 0
   Rule = IsSound journal reserved frame first passes
 
-  pub starts : 0 < passes → Rule (opening (length (journal first) ∷ 0 ∷ []) (Some first ∷ []) (first_view journal frame first passes))
+  pub starts : 0 < passes → Rule (opening (length (journal first) ∷ 0 ∷ 0 ∷ []) (Some first ∷ []) (first_view journal frame first passes))
   starts some_passes = let v : W = first_view journal frame first passes in record {
     log = journal first;
     holder = 0;

@@ -34,7 +34,7 @@ module _ {T E F : Type 0} (journal : T → List E) (reserved : E → Bool) (fram
 
   -- the seat id takes the value out
   takes_out : (s : St) (id : ℕ) (me : Sat) (y : T) (kept : Rule s) → IsFree me → get_elem? s.views id ≡ some me.0 → journal y ≡ kept.log → ((j : ℕ) (v : W) → get_elem? s.views j ≡ some v → v.holds ≡ false)
-      → Rule record { words = length (journal y) ∷ 1 ∷ []; homes = none ∷ []; views = set s.views id (view_with_value (journal y) me.0) }
+      → Rule record { words = length (journal y) ∷ 1 ∷ 0 ∷ []; homes = none ∷ []; views = set s.views id (view_with_value (journal y) me.0) }
   takes_out s id me y kept free at log nobody =
       let w : W = view_with_value (journal y) me.0 in
       let knows = kept.each id me.0 at in
@@ -57,8 +57,8 @@ module _ {T E F : Type 0} (journal : T → List E) (reserved : E → Bool) (fram
     | home y words homes log frame_is nobody ↦
         let w : W = view_with_value (journal y) me.0 in
         let turn : slice_index s.words 1 ≡ 0 = ap (λ ws. slice_index ws 1) words in
-        let words' : slice_set s.words 1 (either (eqb (slice_index s.words 1) 0) 1 (slice_index s.words 1)) ≡ length (journal y) ∷ 1 ∷ [] =
-        ap (λ ws. slice_set ws 1 (either (eqb (slice_index ws 1) 0) 1 (slice_index ws 1))) words ∙ ap (λ (l : List E). length l ∷ 1 ∷ []) (sym log) in
+        let words' : slice_set s.words 1 (either (eqb (slice_index s.words 1) 0) 1 (slice_index s.words 1)) ≡ length (journal y) ∷ 1 ∷ 0 ∷ [] =
+        ap (λ ws. slice_set ws 1 (either (eqb (slice_index ws 1) 0) 1 (slice_index ws 1))) words ∙ ap (λ (l : List E). length l ∷ 1 ∷ 0 ∷ []) (sym log) in
         let homes' : slice_set s.homes 0 none ≡ none ∷ [] = ap (λ hs. slice_set hs 0 none) homes in
         let knows = kept.each id me.0 at in
         let whole : 0 < me.0.parts = (let p = free.1 in omega arith) in (
@@ -94,7 +94,7 @@ module _ {T E F : Type 0} (journal : T → List E) (reserved : E → Bool) (fram
 
   -- the seat id, which holds the value, writes a count
   writes : (s : St) (id : ℕ) (me : Sat) (n : ℕ) (kept : Rule s) → me.0.holds ≡ true → me.0.parts ≡ 1 → get_elem? s.views id ≡ some me.0 → s.homes ≡ none ∷ [] → me.0.seen ≡ kept.log
-      → ((j : ℕ) (v : W) → get_elem? s.views j ≡ some v → v.holds ≡ true → j ≡ id) → Rule record { words = n ∷ 1 ∷ []; homes = s.homes; views = set s.views id record me.0 { count = n } }
+      → ((j : ℕ) (v : W) → get_elem? s.views j ≡ some v → v.holds ≡ true → j ≡ id) → Rule record { words = n ∷ 1 ∷ 0 ∷ []; homes = s.homes; views = set s.views id record me.0 { count = n } }
   writes s id me n kept holds one at homes log only =
       let w : W = record me.0 { count = n } in
       let knows = kept.each id me.0 at in
@@ -120,7 +120,7 @@ module _ {T E F : Type 0} (journal : T → List E) (reserved : E → Bool) (fram
         let w : W = record me.0 { count = n } in
         let own : id ≡ kept.holder = only id me.0 at holds in
         let same : v ≡ me.0 = some-injective v me.0 (sym here ∙ (ap (get_elem? s.views) (sym own) ∙ at)) in
-        let words' : slice_set s.words 0 n ≡ n ∷ 1 ∷ [] = ap (λ ws. slice_set ws 0 n) words in (
+        let words' : slice_set s.words 0 n ≡ n ∷ 1 ∷ 0 ∷ [] = ap (λ ws. slice_set ws 0 n) words in (
           w,
           keeps,
           tt,
@@ -133,7 +133,7 @@ module _ {T E F : Type 0} (journal : T → List E) (reserved : E → Bool) (fram
   -- the seat id puts the value back
   puts_back : (s : St) (id : ℕ) (me : Sat) (y : T) (kept : Rule s) → me.0.holds ≡ true → me.0.parts ≡ 1 → get_elem? s.views id ≡ some me.0 → kept.log ≡ me.0.seen → IsPrefix me.0.seen (journal y) → me.0.frame ≡ Some (frame y)
       → (me.0.number ≢ 0 → filter reserved (journal y) ≡ filter reserved me.0.seen) → ((j : ℕ) (v : W) → get_elem? s.views j ≡ some v → v.holds ≡ true → j ≡ id)
-      → Rule record { words = length (journal y) ∷ 0 ∷ []; homes = some (Some y) ∷ []; views = set s.views id (view_without_value (journal y) me.0) }
+      → Rule record { words = length (journal y) ∷ 0 ∷ 0 ∷ []; homes = some (Some y) ∷ []; views = set s.views id (view_without_value (journal y) me.0) }
   puts_back s id me y kept holds one at log longer frame_is plain only =
       let w : W = view_without_value (journal y) me.0 in
       let knows = kept.each id me.0 at in
@@ -170,7 +170,7 @@ module _ {T E F : Type 0} (journal : T → List E) (reserved : E → Bool) (fram
         let same : v ≡ me.0 = some-injective v me.0 (sym here ∙ (ap (get_elem? s.views) (sym own) ∙ at)) in
         let log' : kept.log ≡ me.0.seen = sym log ∙ ap (λ (x : W). x.seen) same in
         let count' : v.count ≡ length (journal y) = ap (λ (x : W). x.count) same ∙ count in
-        let words' : slice_set s.words 1 0 ≡ length (journal y) ∷ 0 ∷ [] = ap (λ ws. slice_set ws 1 0) words ∙ ap (λ (n : ℕ). n ∷ 0 ∷ []) count' in
+        let words' : slice_set s.words 1 0 ≡ length (journal y) ∷ 0 ∷ 0 ∷ [] = ap (λ ws. slice_set ws 1 0) words ∙ ap (λ (n : ℕ). n ∷ 0 ∷ 0 ∷ []) count' in
         let homes' : put_back s.homes me.1 ≡ some (Some y) ∷ [] = ap (put_back s.homes) carried ∙ ap (λ hs. slice_set hs 0 (some (Some y))) homes in (
           w,
           gives,

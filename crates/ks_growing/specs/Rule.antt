@@ -1,4 +1,4 @@
--- The rule of the lock's table: a resource invariant (Owicki and Gries, Communications of the ACM 19(5), 1976). Word 0 is the count of entries, word 1 the turn, slot 0 has the value.
+-- The rule of the lock's table: a resource invariant (Owicki and Gries, Communications of the ACM 19(5), 1976). Word 0 is the count of entries, word 1 the turn, word 2 is never written, slot 0 has the value.
 use Rattle.std.specs.Prelude.{◌≡◌, ℕ, ◌+◌, ◌<◌, Bool, true, false, List, [], ◌∷◌, length, filter, Option, Some, None}
 use mathlib.Core.Option.{none, some}
 use mathlib.Core.List.{IsPrefix}
@@ -25,10 +25,10 @@ module _ {T E F : Type 0} (journal : T → List E) (reserved : E → Bool) (fram
   -- where the value is
   pub data Place (log : List E) (holder : ℕ) (s : State (Option T) (View E F)) : Type 0 where
     -- in its slot: the count is the journal's length, and no seat holds it
-    home : (value : T) → s.words ≡ length log ∷ 0 ∷ [] → s.homes ≡ some (Some value) ∷ [] → journal value ≡ log → frame value ≡ frame first
+    home : (value : T) → s.words ≡ length log ∷ 0 ∷ 0 ∷ [] → s.homes ≡ some (Some value) ∷ [] → journal value ≡ log → frame value ≡ frame first
         → ((j : ℕ) (v : View E F) → get_elem? s.views j ≡ some v → v.holds ≡ false) → Place log holder s
     -- out with one seat alone, which has seen the whole journal
-    away : (v : View E F) → s.words ≡ v.count ∷ 1 ∷ [] → s.homes ≡ none ∷ [] → get_elem? s.views holder ≡ some v → v.holds ≡ true → v.seen ≡ log
+    away : (v : View E F) → s.words ≡ v.count ∷ 1 ∷ 0 ∷ [] → s.homes ≡ none ∷ [] → get_elem? s.views holder ≡ some v → v.holds ≡ true → v.seen ≡ log
         → ((j : ℕ) (w : View E F) → get_elem? s.views j ≡ some w → w.holds ≡ true → j ≡ holder) → Place log holder s
 
   -- what the seat j knows is true

@@ -12,12 +12,13 @@ use crate::journaled::Journaled;
 use crate::pass::Pass;
 use crate::seats::{absorb, deal, meet_seats};
 use crate::turns::{enter_seat, leave_seat};
-use crate::view::{LockTable, VALUE};
+use crate::view::{IDLE, LockTable, VALUE};
 use atomic_table::{Refused, Table};
 use std::alloc::{AllocFailed, Global};
 use std::marker::Model;
 use std::snapshot::Snapshot;
 use std::sync::Wait;
+use std::time::Duration;
 
 /// A value that threads use one at a time, each through a pass of its own. To a contract it is a
 /// `LockView`: which lock it is, the value that it was made with, and how many passes it has.
@@ -33,7 +34,7 @@ impl<T: Journaled> Model for Growing<T> {
 
     ghost view = { λ g. lock_view g.table.shared.table_id g.table.shared.key.0.value g.table.shared.key.1 };
 
-    ghost invariant = { λ g. (g.table.shared.table_id.words ≡ 2) × (g.table.shared.table_id.slots ≡ 1) };
+    ghost invariant = { λ g. (g.table.shared.table_id.words ≡ 3) × (g.table.shared.table_id.slots ≡ 1) };
 }
 
 // A slot with the value.
@@ -84,7 +85,7 @@ impl<T: Journaled> Growing<T> {
             Ok(slots) => slots,
             Err(failed) => return Err(failed),
         };
-        let (table, dealer) = match Table::new(alloc, &[count, 0], slots, &key) {
+        let (table, dealer) = match Table::new(alloc, &[count, 0, 0], slots, &key) {
             Ok(made) => made,
             Err(Refused { slots }) => {
                 let value = value_of(slots);
@@ -124,6 +125,12 @@ impl<T: Journaled> Growing<T> {
         ensures { pass.new ≡ pass_without_value (T.journal value) pass.old }
     {
         leave_seat(&self.table.shared, &mut pass.seat, value);
+    }
+
+    /// Sleeps for so long, or less, beside the lock: whoever goes through it meanwhile isn't in the way of the
+    /// sleeper, and doesn't wake it. For a thread that has nothing to do before others have. Takes no memory.
+    pub fn rest<R: Wait>(&self, rt: &R, longest: Duration) {
+        self.table.shared.park_timeout(rt, IDLE, 0, longest);
     }
 
     /// Tells the first pass what the other has seen: of the two lists one begins the other, and the

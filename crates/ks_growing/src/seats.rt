@@ -18,7 +18,7 @@ pub(crate) fn deal<T: Journaled>(
     passes: u8,
     mut list: Vec<Pass<T>>,
 ) -> Vec<Pass<T>>
-    requires size { (table.now.table_id.words ≡ 2) × (table.now.table_id.slots ≡ 1) }
+    requires size { (table.now.table_id.words ≡ 3) × (table.now.table_id.slots ≡ 1) }
     requires room { (1 ≤ passes) × (list.items ≡ []) × (passes ≤ vec_capacity list) }
     requires own { (dealer.table_id ≡ table.now.table_id) × (dealer.me.1 ≡ []) }
     requires dealer { IsDealer passes dealer.me.0 }
@@ -46,7 +46,7 @@ pub(crate) fn meet_seats<T: Journaled>(
     seat: &mut PassSeat<T>,
     other: &mut PassSeat<T>,
 )
-    requires size { (table.now.table_id.words ≡ 2) × (table.now.table_id.slots ≡ 1) }
+    requires size { (table.now.table_id.words ≡ 3) × (table.now.table_id.slots ≡ 1) }
     requires own { seat.old.table_id ≡ table.now.table_id }
     requires other_own { other.old.table_id ≡ table.now.table_id }
     requires free { IsFree seat.old.me × IsFree other.old.me }
@@ -70,7 +70,7 @@ pub(crate) fn absorb<T: Journaled>(
     all: &mut PassSeat<T>,
     others: Vec<Pass<T>>,
 )
-    requires size { (table.now.table_id.words ≡ 2) × (table.now.table_id.slots ≡ 1) }
+    requires size { (table.now.table_id.words ≡ 3) × (table.now.table_id.slots ≡ 1) }
     requires own { (all.old.table_id ≡ table.now.table_id) × IsFree all.old.me }
     requires others { Each (λ k. IsPass table.now.table_id (k + 1)) others.items }
     ensures same { SameSeat all.old all.new }

@@ -14,7 +14,7 @@ pub(crate) fn enter_seat<T: Journaled, R: Wait>(
     table: &SharedTable<T>,
     seat: &mut PassSeat<T>,
 ) -> T
-    requires size { (table.now.table_id.words ≡ 2) × (table.now.table_id.slots ≡ 1) }
+    requires size { (table.now.table_id.words ≡ 3) × (table.now.table_id.slots ≡ 1) }
     requires own { seat.old.table_id ≡ table.now.table_id }
     requires free { IsFree seat.old.me }
     ensures same { (seat.new.table_id ≡ seat.old.table_id) × (seat.new.id ≡ seat.old.id) }
@@ -36,7 +36,7 @@ pub(crate) fn enter_seat<T: Journaled, R: Wait>(
 
 // Writes the number of the value's entries, while the seat holds it.
 fn write_count<T: Journaled>(table: &SharedTable<T>, seat: &mut PassSeat<T>, value: &T)
-    requires size { (table.now.table_id.words ≡ 2) × (table.now.table_id.slots ≡ 1) }
+    requires size { (table.now.table_id.words ≡ 3) × (table.now.table_id.slots ≡ 1) }
     requires own { seat.old.table_id ≡ table.now.table_id }
     requires holds { IsHolding seat.old.me }
     ensures same { (seat.new.table_id ≡ seat.old.table_id) × (seat.new.id ≡ seat.old.id) }
@@ -49,7 +49,7 @@ fn write_count<T: Journaled>(table: &SharedTable<T>, seat: &mut PassSeat<T>, val
 
 // Puts the value back, with its count, and wakes a thread that waits.
 pub(crate) fn leave_seat<T: Journaled>(table: &SharedTable<T>, seat: &mut PassSeat<T>, value: T)
-    requires size { (table.now.table_id.words ≡ 2) × (table.now.table_id.slots ≡ 1) }
+    requires size { (table.now.table_id.words ≡ 3) × (table.now.table_id.slots ≡ 1) }
     requires own { seat.old.table_id ≡ table.now.table_id }
     requires holds { IsHolding seat.old.me }
     requires grown { IsPrefix seat.old.me.0.seen (T.journal value) }

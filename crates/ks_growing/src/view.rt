@@ -14,6 +14,9 @@ pub(crate) const COUNT: usize = 0;
 // The word of the turn: 1 while a pass holds the value, 0 while the value lies in its slot.
 pub(crate) const TURN: usize = 1;
 
+// The word that no step ever changes, on which a thread sleeps that waits for nothing in particular.
+pub(crate) const IDLE: usize = 2;
+
 // The slot with the value.
 pub(crate) const VALUE: usize = 0;
 

@@ -34,6 +34,7 @@ use ks_row::{Assignment, PartId, Rec, Refused, TaskId};
 use ks_standby::{Parked, Replica};
 use std::alloc::{AllocError, AllocFailed, Global};
 use std::sync::Wait;
+use std::time::Duration;
 
 /// A cluster that threads use one at a time, each through a pass of its own.
 ///
@@ -100,6 +101,12 @@ impl<W: Work> Shared<W> {
         let Shared { growing } = self;
         let SharedState { cluster, shelf: _ } = growing.close(passes);
         cluster
+    }
+
+    /// Sleeps for so long, or less, in nobody's way: for a thread that has nothing to do before others have.
+    /// Takes no memory.
+    pub fn rest<R: Wait>(&self, rt: &R, longest: Duration) {
+        self.growing.rest(rt, longest);
     }
 
     /// Tells the first pass what the other has seen: of the two lists one begins the other, and the first

@@ -17,6 +17,10 @@ use ks_worker_turn::begin_turn;
 use std::alloc::{AllocError, Global};
 use std::sync::Wait;
 use std::sync::atomic::{AtomicBool, Ordering};
+use std::time::Duration;
+
+// How long an idle worker rests while records are fed, in ms: so that it finds many at once.
+const REST_MS: u64 = 10;
 
 impl<W: Work, G: Gate> Worker<W, G> {
     // A turn up to its act; whether the worker was cut off, and crashed.
@@ -55,7 +59,7 @@ impl<W: Work, G: Gate> Worker<W, G> {
         }
     }
 
-    // Asks its gate for the act and performs it; whether the gate ended the worker.
+    // Asks its gate for the act and performs it, and rests where it is idle while records are still fed; whether the gate ended the worker.
     fn obey<H: Hash128, R: Wait>(
         &mut self,
         rt: &R,
@@ -77,9 +81,12 @@ impl<W: Work, G: Gate> Worker<W, G> {
             self.old.state.session.client.pass self.new.state.session.client.pass
             self.old.state.session.client.gate self.new.state.session.client.gate) }
     {
-        let view = self.view(feeding.load(Ordering::SeqCst));
-        let act = self.state.session.client.gate.next(view);
+        let feeding = feeding.load(Ordering::SeqCst);
+        let act = self.state.session.client.gate.next(self.view(feeding));
         self.perform::<H, R>(rt, alloc, topology, shared, act)?;
+        if feeding && self.is_idle() {
+            shared.rest(rt, Duration::from_millis(REST_MS));
+        }
         Ok(act == Act::Stop)
     }
 

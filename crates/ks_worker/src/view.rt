@@ -23,6 +23,11 @@ fn narrow(n: usize) -> u32 {
 }
 
 impl<W: Work, G: Gate> Worker<W, G> {
+    /// Whether its last `Work` moved nothing, and nothing that it read is left to commit.
+    pub(crate) fn is_idle(&self) -> bool {
+        self.dry > 0 && !is_some_dirty(self.state.tasks.as_slice())
+    }
+
     /// What its gate is shown before its next act.
     pub(crate) fn view(&self, feeding: bool) -> TurnView {
         let tasks = self.state.tasks.as_slice();

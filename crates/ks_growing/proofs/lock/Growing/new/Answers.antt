@@ -9,10 +9,10 @@ new-requires g c =
     let n : c.from.result ≡ c.args.passes = search rules in
     let some_passes : 0 < c.from.result = omega arith in
     let slots : c.in-Ok-slot_of.slots.items ≡ Some c.of.result.value ∷ [] = (let a = c.in-Ok-slot_of.ensures.ok in let b = c.of.ensures in cc) in
-    let words : c.entries-count.result ∷ 0 ∷ [] ≡ length (g.T.Journaled.journal c.of.result.value) ∷ 0 ∷ [] =
-    ap (λ n. n ∷ 0 ∷ []) (c.entries-count.ensures ∙ ap (λ y. length (g.T.Journaled.journal y)) (sym c.of.ensures)) in
+    let words : c.entries-count.result ∷ 0 ∷ 0 ∷ [] ≡ length (g.T.Journaled.journal c.of.result.value) ∷ 0 ∷ 0 ∷ [] =
+    ap (λ n. n ∷ 0 ∷ 0 ∷ []) (c.entries-count.ensures ∙ ap (λ y. length (g.T.Journaled.journal y)) (sym c.of.ensures)) in
     subst (λ ws. IsSound g.T.Journaled.journal g.T.Journaled.reserved g.T.Journaled.frame c.of.result.value c.from.result (opening ws c.in-Ok-slot_of.slots.items (first_view g.T.Journaled.journal g.T.Journaled.frame c.of.result.value c.from.result))) (sym words)
-    (subst (λ xs. IsSound g.T.Journaled.journal g.T.Journaled.reserved g.T.Journaled.frame c.of.result.value c.from.result (opening (length (g.T.Journaled.journal c.of.result.value) ∷ 0 ∷ []) xs (first_view g.T.Journaled.journal g.T.Journaled.frame c.of.result.value c.from.result))) (sym slots)
+    (subst (λ xs. IsSound g.T.Journaled.journal g.T.Journaled.reserved g.T.Journaled.frame c.of.result.value c.from.result (opening (length (g.T.Journaled.journal c.of.result.value) ∷ 0 ∷ 0 ∷ []) xs (first_view g.T.Journaled.journal g.T.Journaled.frame c.of.result.value c.from.result))) (sym slots)
     (starts g.T.Journaled.journal g.T.Journaled.reserved g.T.Journaled.frame c.of.result.value c.from.result some_passes))
 
 pub returns-clause-fresh : goal.returns-clause-fresh
