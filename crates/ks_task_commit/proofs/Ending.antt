@@ -30,7 +30,7 @@ use Rattle.ks_worker_commit.specs.declared.outcome.Outcome.{Outcome}
 use Rattle.ks_worker_commit.specs.declared.outcome.Outcome.TheVariants.{Committed, Aborted, Fenced, Touched}
 use Rattle.ks_worker_commit.specs.Underway.{AreActiveWorks}
 use Rattle.ks_worker_commit.specs.Ends.{HasCase, IsEnded}
-use Rattle.ks_worker_commit.specs.Leaves.{LeavesTasks, LeavesProducer}
+use Rattle.ks_worker_commit.specs.Leaves.{LeavesTasks, LeavesProducer, HasNoMarker, LeavesNoMarker}
 use Rattle.ks_worker_state.specs.declared.state.WorkerState.{WorkerState}
 use Rattle.ks_worker_state.specs.State.{MayAct, IsWorkerState}
 use Rattle.ks_worker_state.specs.Worker.{IsWorker, lost}
@@ -143,11 +143,13 @@ module _ {W G : Type 0} (plan : W → TaskPlan) (hash : List ℕ → ℕ) (lock 
           (subst (LeavesTasks (setup_in plan s.session.client.pass.frame) s.session.client.pass.seen sess.client.pass.seen s.member s.session.last sess.last (works_of made) sess.ends.items) is leaves)
           are new.tasks.items kept)
 
-      pub aborted_ended : o ≡ Aborted → AreCleanOf s.tasks.items new.tasks.items → HasDroppedDirty plan s new
-      aborted_ended is kept = record {
+      pub aborted_ended : o ≡ Aborted → LeavesNoMarker (setup_in plan s.session.client.pass.frame) sess.client.pass.seen s.member.number o → AreCleanOf s.tasks.items new.tasks.items → HasDroppedDirty plan s new
+      aborted_ended is none kept = record {
         end = one_end (ap (λ (x : Session W G). x.client) session)
             (subst (HasCase plan s.session.client.pass sess.client.pass s.member.number s.member.epoch s.member.generation s.session.last (λ t. pending_of t (pendings_of (works_of made)))) is case);
         kept = kept;
+        marked = subst (λ (x : Session W G). HasNoMarker (setup_in plan s.session.client.pass.frame) x.client.pass.seen s.member.number) (sym session)
+            (subst (LeavesNoMarker (setup_in plan s.session.client.pass.frame) sess.client.pass.seen s.member.number) is none);
         stays = stays;
       }
 

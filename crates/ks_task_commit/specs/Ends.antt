@@ -9,6 +9,7 @@ use Rattle.ks_commit.specs.Sending.{pendings_of}
 use Rattle.ks_shared.specs.Calls.{setup_in}
 use Rattle.ks_client.specs.declared.member.Member.{Member}
 use Rattle.ks_worker_commit.specs.Ends.{IsCommitted, IsEnded}
+use Rattle.ks_worker_commit.specs.Leaves.{HasNoMarker}
 use Rattle.ks_worker_state.specs.declared.state.WorkerState.{WorkerState}
 use Rattle.ks_worker_state.specs.Worker.{lost}
 use Rattle.ks_task_commit.specs.declared.commit_end.CommitEnd.{CommitEnd}
@@ -46,10 +47,11 @@ pub record HasOneEnd {W G : Type 0} (plan : W → TaskPlan) (old new : WorkerSta
   pub are : AreWorks plan old works
   pub case : IsEnded plan old.session.client.pass new.session.client.pass old.member.number old.member.epoch old.member.generation old.session.last (λ t. pending_of t (pendings_of works))
 
--- it has only its clean tasks any more
+-- it has only its clean tasks any more, and no marker of it waits
 pub record HasDroppedDirty {W G : Type 0} (plan : W → TaskPlan) (old new : WorkerState W G) : Type 0 where
   pub end : HasOneEnd plan old new
   pub kept : AreCleanOf old.tasks.items new.tasks.items
+  pub marked : HasNoMarker (setup_in plan old.session.client.pass.frame) new.session.client.pass.seen old.member.number
   pub stays : StaysMember old new
 
 -- it has nothing any more, and its producer remembers nothing

@@ -185,6 +185,65 @@ const TAKEN_OVER: Scene<'static> = Scene {
     appends: 3,
 };
 
+/// The second worker joins while the first one has read, so the first one's commit is refused after it has appended, since its generation is
+/// over. It drops what is dirty, and no marker of its abort waits: in its next turn it restores the task, whose changelog it had appended
+/// to, and in the same epoch it commits.
+const OUTRUN: Scene<'static> = Scene {
+    moves: &[
+        (
+            Who::First,
+            Does::Turn(Act::Work(0)),
+            "member, epoch 1, generation 1, task 0_0 at 1 0 dirty, task 1_0 at 0 0",
+        ),
+        (
+            Who::Second,
+            Does::Turn(Act::Pump),
+            "member, epoch 1, generation 2, task 1_0 at 0 0",
+        ),
+        (
+            Who::First,
+            Does::Act(Act::Commit),
+            "member, epoch 1, generation 1, task 1_0 at 0 0",
+        ),
+        (
+            Who::First,
+            Does::Turn(Act::Work(0)),
+            "member, epoch 1, generation 2, task 0_0 at 1 0 dirty",
+        ),
+        (
+            Who::First,
+            Does::Act(Act::Commit),
+            "member, epoch 1, generation 2, task 0_0 at 1 0",
+        ),
+        (
+            Who::Second,
+            Does::Turn(Act::Work(0)),
+            "member, epoch 1, generation 2, task 1_0 at 1 0 dirty",
+        ),
+        (
+            Who::Second,
+            Does::Act(Act::Commit),
+            "member, epoch 1, generation 2, task 1_0 at 1 0",
+        ),
+    ],
+    placing: TOGETHER,
+    cut: None,
+    lines: r#"["join",0,1]
+["assign",0,1,[["0_0",0],["1_0",0]],[],[],true]
+["unpark",0,"0_0",false]
+["unpark",0,"1_0",false]
+["join",1,2]
+["assign",1,2,[["0_0",0],["1_0",1]],[],[],true]
+["unpark",0,"1_0",false]
+["decide",0,1,false,true]
+["park",0,"1_0",true]
+["unpark",0,"0_0",false]
+["decide",0,1,true,true]
+["decide",1,1,true,true]
+"#,
+    appends: 3,
+};
+
 /// The first worker leaves after a commit, and the second one begins.
 const LEAVING: &[Move<'static>] = &[
     (
@@ -423,7 +482,7 @@ const MOVED: Scene<'static> = Scene {
 #[test]
 fn scenes_of_workers(rt: HostRuntime) -> Result<(), Fail> {
     let alloc = rt.alloc();
-    for scene in [&ALONE, &TAKEN_OVER, &LEFT, &LEFT_AFAR, &UNDECIDED, &MOVED] {
+    for scene in [&ALONE, &TAKEN_OVER, &OUTRUN, &LEFT, &LEFT_AFAR, &UNDECIDED, &MOVED] {
         let Some(played) = play_job::<Murmur3, HostRuntime>(&rt, alloc, ORDER, scene)? else {
             panic!(rt)
         };

@@ -9,8 +9,12 @@ use Rattle.ks_history.specs.declared.journal.Entry.{Entry}
 use Rattle.ks_history.specs.declared.transaction.Pending.{Pending}
 use Rattle.ks_history.specs.Machine.{TaskPlan, IsNetwork}
 use Rattle.ks_history.specs.State.{Setup, pending_of}
+use Rattle.ks_history.specs.Follows.{TaskView}
 use Rattle.ks_history.specs.History.{at, IsHistory}
+use Rattle.ks_history.proofs.Histories.{history_front}
 use Rattle.ks_law_restore.specs.Views.{WorkView}
+use Rattle.ks_law_worker.specs.Held.{IsHeld}
+use Rattle.ks_law_worker.proofs.Holding.{held_stays}
 use Rattle.ks_commit.specs.Sending.{pendings_of}
 use Rattle.ks_commit.specs.Committed.{AreApart}
 use Rattle.ks_client.specs.declared.member.Member.{Member}
@@ -28,11 +32,12 @@ use Rattle.ks_worker_commit.specs.declared.outcome.Outcome.TheVariants.{Committe
 use Rattle.ks_worker_commit.specs.Outcomes.{Requests, with_cuts, cuts_in}
 use Rattle.ks_worker_commit.specs.Outputs.{contents_of}
 use Rattle.ks_worker_commit.specs.Underway.{Memory, IsHalted}
-use Rattle.ks_worker_commit.specs.Ends.{CameToDecision, EndsSo, HasCase, IsOutcomeOf, IsRefusedAbort, refused_outcome, cut_of, AbortsSo, FinishesSo}
-use Rattle.ks_worker_commit.specs.Leaves.{LeavesTasks, LeavesProducer}
+use Rattle.ks_worker_commit.specs.Ends.{CameToDecision, EndsSo, HasCase, IsOutcomeOf, HasTurnedBack, IsAborted, refused_outcome, cut_of, AbortsSo, FinishesSo}
+use Rattle.ks_worker_commit.specs.Leaves.{KnowsProducer, LeavesTasks, LeavesProducer, HasNoMarker, LeavesNoMarker}
 use Rattle.ks_worker_commit.proofs.Requesting.{requests_none, requests_both}
 use Rattle.ks_worker_commit.proofs.Ending.{pending_is, refused_then, touched_ends, committed_then, aborted_case, finished_case}
-use Rattle.ks_worker_commit.proofs.Kept.{committed_works, committed_rests, committed_remembers, aborted_tasks, aborted_remembers, refused_tasks, refused_remembers}
+use Rattle.ks_worker_commit.proofs.Carrying.{same_setup}
+use Rattle.ks_worker_commit.proofs.Kept.{committed_works, committed_rests, committed_remembers, remembers_later, aborted_tasks, aborted_remembers, refused_tasks, refused_remembers}
 
 -- a refusal is the fence, or it isn't
 fence_or_not : (r : Refused) → (refused_outcome r ≡ Fenced) ⊎ (refused_outcome r ≡ Aborted)
@@ -100,6 +105,13 @@ module _ {W : Type 0} (plan : W → TaskPlan) (old mid new : PassView Entry (Fra
   finished_tasks ms Touched so = absurd so
   finished_tasks ms Cut so = tt
 
+  pub finished_marked : (o : Outcome) → FinishesSo ((at (setup_in plan mid.frame) new.seen).producer m.number).waiting o → LeavesNoMarker (setup_in plan old.frame) new.seen m.number o
+  finished_marked Committed so = subst (λ (k : Setup). HasNoMarker k new.seen m.number) frame_same so
+  finished_marked Aborted so = absurd so
+  finished_marked Fenced so = absurd so
+  finished_marked Touched so = absurd so
+  finished_marked Cut so = tt
+
 -- halted, where no abort comes
 abbrev pub NotAborted : {E : Type 0} → Result Outcome E → Type 0
 NotAborted r = r ≡ Ok Aborted → ⊥
@@ -152,21 +164,50 @@ module _ {W : Type 0} (A : Type 0) (plan : W → TaskPlan) (old mid new : PassVi
       aborted_case plan old mid new m.number m.epoch m.generation last (pending_in fs) mem next o so
       (refused_then plan old mid new m.number m.epoch m.generation last (pending_in fs) mem refused.0 was_halted more)
 
+  -- as it was when the abort was decided or refused, before its markers were written
+  module _ (a : IsAborted plan mid new m.number m.epoch mem next) where
+    abbrev setup : Setup
+    setup = setup_in plan old.frame
+
+    history_back : IsHistory setup a.mid.seen
+    history_back = history_front setup a.mid.seen new.seen (a.written.more, a.written.seen) history
+
+    back_producer : HasTurnedBack plan mid a.mid m.number m.epoch mem next → KnowsProducer setup a.mid.seen m next.last next.numbers
+    back_producer (inl h) = aborted_remembers plan old mid a.mid m last mem next (Refusal refused.0) was_halted history_back h
+    back_producer (inr h) = refused_remembers plan old mid a.mid m last mem next (Refusal refused.0) was_halted history_back h
+
+    back_tasks : HasTurnedBack plan mid a.mid m.number m.epoch mem next → (v : TaskView) → IsHeld setup old.seen m.number m.generation last v → IsHeld setup a.mid.seen m.number m.generation next.last v
+    back_tasks (inl h) v held = aborted_tasks plan old mid a.mid m last mem next (Refusal refused.0) was_halted history_back h v held
+    back_tasks (inr h) v held = refused_tasks plan old mid a.mid m last mem next (Refusal refused.0) was_halted history_back h v held
+
+    then_producer : KnowsProducer setup new.seen m next.last next.numbers
+    then_producer = remembers_later setup a.mid.seen a.written.more new.seen m next a.written.seen history (back_producer a.back)
+
+    then_tasks : (v : TaskView) → IsHeld setup old.seen m.number m.generation last v → IsHeld setup new.seen m.number m.generation next.last v
+    then_tasks v held =
+        subst (λ l. IsHeld setup l m.number m.generation next.last v) (sym a.written.seen)
+        (held_stays setup a.mid.seen a.written.more m.number m.generation next.last v was_halted.under.worker.network (subst (IsHistory setup) a.written.seen history) (back_producer a.back).0 (back_tasks a.back v held))
+
   pub abort_producer : (o : Outcome) → AbortsSo plan mid new m.number m.epoch mem next o → LeavesProducer (setup_in plan old.frame) new.seen m next.last next.numbers o
   abort_producer Committed so = absurd so
-  abort_producer Aborted (inl a) = aborted_remembers plan old mid new m last mem next (Refusal refused.0) was_halted history a
-  abort_producer Aborted (inr a) = refused_remembers plan old mid new m last mem next (Refusal refused.0) was_halted history a
+  abort_producer Aborted so = then_producer so
   abort_producer Fenced so = tt
   abort_producer Touched so = tt
   abort_producer Cut so = tt
 
   pub abort_tasks : (o : Outcome) → AbortsSo plan mid new m.number m.epoch mem next o → LeavesTasks (setup_in plan old.frame) old.seen new.seen m last next.last fs next.ends o
   abort_tasks Committed so = absurd so
-  abort_tasks Aborted (inl a) = λ v none held. aborted_tasks plan old mid new m last mem next (Refusal refused.0) was_halted history a v held
-  abort_tasks Aborted (inr a) = λ v none held. refused_tasks plan old mid new m last mem next (Refusal refused.0) was_halted history a v held
+  abort_tasks Aborted so = λ v none held. then_tasks so v held
   abort_tasks Fenced so = tt
   abort_tasks Touched so = tt
   abort_tasks Cut so = tt
+
+  pub abort_marked : (o : Outcome) → AbortsSo plan mid new m.number m.epoch mem next o → LeavesNoMarker (setup_in plan old.frame) new.seen m.number o
+  abort_marked Committed so = absurd so
+  abort_marked Aborted so = subst (λ (k : Setup). HasNoMarker k new.seen m.number) (same_setup plan old mid m.number was_halted.requests) so.marked
+  abort_marked Fenced so = tt
+  abort_marked Touched so = tt
+  abort_marked Cut so = tt
 
 -- ---- the clauses of a commit, whichever way it ends
 one_answer : {E : Type 0} (x : Result Outcome E) (a b : Outcome) → x ≡ Ok a → x ≡ Ok b → a ≡ b
@@ -196,6 +237,9 @@ module _ {W A E : Type 0} (plan : W → TaskPlan) (old mid new : PassView Entry 
   ok_tasks = if_ok _ _ o
       (λ x h. subst (λ (k : Memory). LeavesTasks (setup_in plan old.frame) old.seen new.seen m last k.last fs k.ends x) (sym same) (finished_tasks plan old mid new m last next fs apart came more history_new ((at (setup_in plan mid.frame) new.seen).producer m.number).waiting x h)) so
 
+  pub ok_marked : IfOk o (LeavesNoMarker (setup_in plan old.frame) new.seen m.number)
+  ok_marked = if_ok _ _ o (finished_marked plan old mid new m last next fs apart came more history_new) so
+
 module _ {W A E : Type 0} (plan : W → TaskPlan) (old mid new : PassView Entry (Frame W)) (m : Member) (last : ℕ) (mem next : Memory) (fs : List WorkView) (r : Result A Halt) (halt : Halt) (is : r ≡ Err halt)
     (ends : EndsSo plan old mid m.number m.epoch m.generation last mem fs (contents_of fs) r) (one : Requests plan old mid m.number) (more : Requests plan mid new m.number) (history : IsHistory (setup_in plan old.frame) old.seen)
     (x : Result Outcome E) (of : IsOutcomeOf halt x) (aborted : x ≡ Ok Aborted) (o : Result Outcome E) (so : IfOk o (AbortsSo plan mid new m.number m.epoch mem next)) where
@@ -213,6 +257,9 @@ module _ {W A E : Type 0} (plan : W → TaskPlan) (old mid new : PassView Entry 
 
   pub aborted_ok_tasks : IfOk o (LeavesTasks (setup_in plan old.frame) old.seen new.seen m last next.last fs next.ends)
   aborted_ok_tasks = if_ok _ _ o (abort_tasks A plan old mid new m last mem next fs more history_then halt (aborted_by halt x of aborted) stopped) so
+
+  pub aborted_ok_marked : IfOk o (LeavesNoMarker (setup_in plan old.frame) new.seen m.number)
+  aborted_ok_marked = if_ok _ _ o (abort_marked A plan old mid new m last mem next fs more history_then halt (aborted_by halt x of aborted) stopped) so
 
 module _ {W A E : Type 0} (plan : W → TaskPlan) (old mid : PassView Entry (Frame W)) (m : Member) (last : ℕ) (mem : Memory) (fs : List WorkView) (r : Result A Halt) (halt : Halt) (is : r ≡ Err halt)
     (ends : EndsSo plan old mid m.number m.epoch m.generation last mem fs (contents_of fs) r) (x : Result Outcome E) (of : IsOutcomeOf halt x) where
@@ -238,6 +285,9 @@ module _ {W A E : Type 0} (plan : W → TaskPlan) (old mid : PassView Entry (Fra
 
     pub rest_tasks : LeavesTasks (setup_in plan old.frame) old.seen mid.seen m last mem.last fs mem.ends o
     rest_tasks = subst (λ y. IfOk y (LeavesTasks (setup_in plan old.frame) old.seen mid.seen m last mem.last fs mem.ends)) was (halt_after (LeavesTasks (setup_in plan old.frame) old.seen mid.seen m last mem.last fs mem.ends) tt tt tt not_aborted)
+
+    pub rest_marked : LeavesNoMarker (setup_in plan old.frame) mid.seen m.number o
+    rest_marked = subst (λ y. IfOk y (LeavesNoMarker (setup_in plan old.frame) mid.seen m.number)) was (halt_after (LeavesNoMarker (setup_in plan old.frame) mid.seen m.number) tt tt tt not_aborted)
 
   -- whatever it comes to
   pub rest_gate : (first now : GateCounts) (y : Result Outcome E) → x ≡ y → now ≡ with_cuts first (cuts_in r) → now ≡ with_cuts first (cut_of y)

@@ -9,5 +9,6 @@ pub mod Deciding
 pub mod Begun
 pub mod Kept
 pub mod Closing
+pub mod Turning
 pub mod Owned
 pub mod Sends

@@ -80,10 +80,27 @@ pub record IsRefusedAbort {W : Type 0} (plan : W → TaskPlan) (old new : PassVi
   pub why : refused_outcome refused ≡ Aborted
   pub so : HasNotAborted plan old new w e mem next refused
 
+-- a decision to abort was made, or it was refused so
+abbrev pub HasTurnedBack : {W : Type 0} → (W → TaskPlan) → PassView Entry (Frame W) → PassView Entry (Frame W) → ℕ → ℕ → Memory → Memory → Type 0
+HasTurnedBack plan old new w e mem next = HasAborted plan old new w e mem next ⊎ IsRefusedAbort plan old new w e mem next
+
+-- such a decision never ends committed
+abbrev pub TurnsBackSo : {W : Type 0} → (W → TaskPlan) → PassView Entry (Frame W) → PassView Entry (Frame W) → ℕ → ℕ → Memory → Memory → Outcome → Type 0
+TurnsBackSo plan old new w e mem next Committed = ⊥
+TurnsBackSo plan old new w e mem next Aborted = HasTurnedBack plan old new w e mem next
+TurnsBackSo plan old new w e mem next _ = Unit {0}
+
+-- and then the worker's markers were written, and its producer remembers the same
+pub record IsAborted {W : Type 0} (plan : W → TaskPlan) (old new : PassView Entry (Frame W)) (w e : ℕ) (mem next : Memory) : Type 0 where
+  pub mid : PassView Entry (Frame W)
+  pub back : HasTurnedBack plan old mid w e mem next
+  pub written : Requests plan mid new w
+  pub marked : ((at (setup_in plan old.frame) new.seen).producer w).waiting ≡ []
+
 -- an abort never ends committed
 abbrev pub AbortsSo : {W : Type 0} → (W → TaskPlan) → PassView Entry (Frame W) → PassView Entry (Frame W) → ℕ → ℕ → Memory → Memory → Outcome → Type 0
 AbortsSo plan old new w e mem next Committed = ⊥
-AbortsSo plan old new w e mem next Aborted = HasAborted plan old new w e mem next ⊎ IsRefusedAbort plan old new w e mem next
+AbortsSo plan old new w e mem next Aborted = IsAborted plan old new w e mem next
 AbortsSo plan old new w e mem next _ = Unit {0}
 
 -- the markers are written, or the worker was cut off

@@ -7,6 +7,7 @@ use Rattle.ks_history.specs.declared.journal.Entry.{Entry}
 use Rattle.ks_history.specs.Machine.{has_topic}
 use Rattle.ks_history.specs.State.{Setup, has_task, offset_in}
 use Rattle.ks_history.specs.Follows.{TaskView}
+use Rattle.ks_history.specs.History.{at}
 use Rattle.ks_law_restore.specs.Views.{WorkView, IsFrozen, committed_view}
 use Rattle.ks_law_worker.specs.Held.{IsHeld}
 use Rattle.ks_commit.specs.Committed.{tasks_in}
@@ -56,3 +57,14 @@ LeavesProducer setup journal m last numbers Aborted = KnowsProducer setup journa
 LeavesProducer setup journal m last numbers Fenced = Unit {0}
 LeavesProducer setup journal m last numbers Touched = Unit {0}
 LeavesProducer setup journal m last numbers Cut = Unit {0}
+
+-- no marker of the worker's number waits
+abbrev pub HasNoMarker : Setup → List Entry → ℕ → Type 0
+HasNoMarker setup journal w = ((at setup journal).producer w).waiting ≡ []
+
+abbrev pub LeavesNoMarker : Setup → List Entry → ℕ → Outcome → Type 0
+LeavesNoMarker setup journal w Committed = HasNoMarker setup journal w
+LeavesNoMarker setup journal w Aborted = HasNoMarker setup journal w
+LeavesNoMarker setup journal w Fenced = Unit {0}
+LeavesNoMarker setup journal w Touched = Unit {0}
+LeavesNoMarker setup journal w Cut = Unit {0}

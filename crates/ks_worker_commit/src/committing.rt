@@ -14,8 +14,8 @@ ghost use Rattle.ks_commit.specs.Committed.{works_of, EachOf, AreApart};
 ghost use Rattle.ks_worker_commit.specs.Outcomes.{Requests, cuts_in};
 ghost use Rattle.ks_worker_commit.specs.Outputs.{contents_of};
 ghost use Rattle.ks_worker_commit.specs.Underway.{memory, IsWorker, AreActiveWorks};
-ghost use Rattle.ks_worker_commit.specs.Leaves.{LeavesTasks, LeavesProducer};
-ghost use Rattle.ks_worker_commit.specs.Ends.{EndsSo, HasCase, IsOutcomeOf, cut_of, NeverBarred, AbortsSo, FinishesSo};
+ghost use Rattle.ks_worker_commit.specs.Leaves.{LeavesTasks, LeavesProducer, LeavesNoMarker};
+ghost use Rattle.ks_worker_commit.specs.Ends.{EndsSo, HasCase, IsOutcomeOf, cut_of, NeverBarred, TurnsBackSo, AbortsSo, FinishesSo};
 
 use crate::halt::Halt;
 use crate::outcome::Outcome;
@@ -116,6 +116,32 @@ fn outcome_of(halt: Halt) -> Result<Outcome, AllocError>
 }
 
 // Aborts what was sent, after a refusal that isn't the fence; the abort itself may be refused.
+fn turn_back<R: Wait, W: Work, G: Gate>(
+    rt: &R,
+    alloc: Global,
+    shared: &Shared<W>,
+    session: &mut Session<W, G>,
+    member: Member,
+) -> Result<Outcome, AllocError>
+    requires own { session.old.client.pass.lock ≡ shared.now.growing.id }
+    requires free { session.old.client.pass.holds ≡ false }
+    requires room { HasRoomFor session.old.client.gate }
+    requires worker { member.number ≤ 16 }
+    ensures requests { Requests W.plan session.old.client.pass session.new.client.pass member.number }
+    ensures so { IfOk result (TurnsBackSo W.plan session.old.client.pass session.new.client.pass
+        member.number member.epoch
+        (memory session.old.last session.old.numbers.items session.old.ends.items)
+        (memory session.new.last session.new.numbers.items session.new.ends.items)) }
+    ensures gate { session.new.client.gate ≡ with_cuts session.old.client.gate (cut_of result) }
+{
+    match decide_abort(rt, alloc, shared, session, member) {
+        Ok(()) => Ok(Outcome::Aborted),
+        Err(halt) => outcome_of(halt),
+    }
+}
+
+// Aborts what was sent and writes the markers that wait then, also where the abort is refused: while they wait
+// the producer may begin no transaction.
 fn abort<R: Wait, W: Work, G: Gate>(
     rt: &R,
     alloc: Global,
@@ -133,7 +159,15 @@ fn abort<R: Wait, W: Work, G: Gate>(
         (memory session.new.last session.new.numbers.items session.new.ends.items)) }
     ensures gate { session.new.client.gate ≡ with_cuts session.old.client.gate (cut_of result) }
 {
-    match decide_abort(rt, alloc, shared, session, member) {
+    let outcome = match turn_back(rt, alloc, shared, session, member) {
+        Ok(outcome) => outcome,
+        Err(error) => return Err(error),
+    };
+    match outcome {
+        Outcome::Aborted => {}
+        _ => return Ok(outcome),
+    }
+    match write_markers(rt, alloc, shared, session, member) {
         Ok(()) => Ok(Outcome::Aborted),
         Err(halt) => outcome_of(halt),
     }
@@ -169,8 +203,8 @@ fn finish<R: Wait, W: Work, G: Gate>(
 /// each work, commits, and writes the markers until none waits (KIP-98, KIP-447).
 ///
 /// Before each of these steps the gate is asked whether the worker is cut off. After a refusal that isn't the
-/// fence, the transaction is aborted. What it came to says the journal: one of the five cases, unless the
-/// worker was cut off. After `Committed` and `Aborted` the session is right for a next commit, and its `ends`
+/// fence, the transaction is aborted and its markers are written as well, so that the next one can begin. What
+/// it came to says the journal: one of the five cases, unless the worker was cut off. After `Committed` and `Aborted` the session is right for a next commit, and its `ends`
 /// are those of the records that were sent (`ends_of_task`); after any other end it is to be given up with the
 /// worker's tasks. Want of memory is the one error, and ends the commit wherever it comes: the same holds then.
 pub fn commit<R: Wait, W: Work, G: Gate>(
@@ -203,6 +237,8 @@ pub fn commit<R: Wait, W: Work, G: Gate>(
     ensures tasks { IfOk result (LeavesTasks (setup_in W.plan session.old.client.pass.frame)
         session.old.client.pass.seen session.new.client.pass.seen member session.old.last session.new.last
         (works_of works.now) session.new.ends.items) }
+    ensures marked { IfOk result (LeavesNoMarker (setup_in W.plan session.old.client.pass.frame)
+        session.new.client.pass.seen member.number) }
     ensures gate { session.new.client.gate ≡ with_cuts session.old.client.gate (cut_of result) }
 {
     session.ends.clear();

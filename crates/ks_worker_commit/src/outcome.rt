@@ -5,8 +5,8 @@
 pub enum Outcome {
     /// The works are committed, and no marker of the worker waits.
     Committed,
-    /// A request was refused, though the worker isn't fenced; what it had sent is aborted. The works are to
-    /// be dropped, with the tasks that made them.
+    /// A request was refused, though the worker isn't fenced; what it had sent is aborted, and no marker of the
+    /// worker waits. The works are to be dropped, with the tasks that made them.
     Aborted,
     /// The worker is fenced: its producer's epoch is over, and with it all that the worker has.
     Fenced,

@@ -84,7 +84,7 @@ returns-in-Ok-Aborted-clause-ended g c =
     (aborted_ended g.W.Work.plan g.H.Hash128.hash_of c.args.shared.now.growing.id (draft_of c.args.topology.now) c.args.state.now c.requires.may c.as_slice-2.result.now some
     (works_from g.W.Work.plan g.H.Hash128.hash_of c.args.shared.now.growing.id (draft_of c.args.topology.now) c.args.state.now c.requires.may c.freeze_dirty.result c.or_halt.result c.in_ok-works.works (λ w. w.items) c.as_slice.result.now c.as_slice-2.result.now c.as_slice.ensures.value c.or_halt.ensures c.in_ok-works.was c.freeze_dirty.ensures c.as_slice-2.ensures.value)
     c.commit.new.session c.commit.ensures.later c.in-Ok-Aborted.field-0 c.in-Ok-Aborted.ensures.producer c.in-Ok-Aborted.ensures.tasks c.in-Ok-Aborted.ensures.cases
-    c.go_back.new.state c.go_back.ensures.session c.go_back.ensures.member c.go_back.ensures.replicas c.in-Ok-Aborted.field-0-is)
+    c.go_back.new.state c.go_back.ensures.session c.go_back.ensures.member c.go_back.ensures.replicas c.in-Ok-Aborted.field-0-is c.in-Ok-Aborted.ensures.marked)
     c.go_back.ensures.end c.go_back.ensures.kept
 
 pub returns-in-Ok-Fenced-clause-worker : goal.returns-in-Ok-Fenced-clause-worker
