@@ -1,5 +1,5 @@
 -- What each request does to a broker: the lemma of each method.
-use Rattle.std.proofs.Common.{◌≡◌, ℕ, suc, ◌+◌, ◌<◌, ◌≤◌, ◌^◌, Bool, true, false, cond, List, [], ◌∷◌, length, set, get_or, length-set, Option, Some, None, Result, Ok, Err, refl, sym, ap, ◌∙◌, subst, arith}
+use Rattle.std.proofs.Common.{◌≡◌, ℕ, suc, ◌+◌, ◌<◌, ◌≤◌, ◌^◌, Bool, true, false, cond, List, [], ◌∷◌, length, set, get_or, length-set, Option, Some, None, Result, Ok, Err, OnOk, OnErr, refl, sym, ap, ◌∙◌, subst, arith}
 use Rattle.std.specs.Prelude.{◌&&◌, ◌==◌, if◌then◌else◌, map}
 use Rattle.std.proofs.lemmas.Bool.{eq-eqb, eqb-true}
 use Rattle.ks_row.specs.declared.record.Rec.{Rec}
@@ -28,11 +28,12 @@ use Rattle.ks_log.proofs.Logs.{all_grown, total-with}
 use Rattle.ks_log.proofs.Counting.{length-sent}
 use Rattle.ks_txn.specs.Outcomes.{producer_at, done_by, changed_by, start_fault, has_fault, decide_fault, started, added}
 use Rattle.ks_group.specs.Committed.{row_with}
+use Rattle.ks_group.specs.New.{Refuses}
 use Rattle.ks_group.specs.Pending.{is_pending, unstable_in, counts_for}
-use Rattle.ks_group.specs.Group.{GroupView, generation_fault, owner_at, owner_fault, speak_fault, pended, resolved}
+use Rattle.ks_group.specs.Group.{GroupView, generation_fault, owner_at, owner_fault, speak_fault, pend_fault, pended, resolved}
 use Rattle.ks_cluster.specs.declared.broker.Broker.{Broker}
 use Rattle.ks_cluster.specs.Replies.{done_or}
-use Rattle.ks_cluster.specs.Moves.{IsGroupAt, IsAt, Moves, plain, rows_at, sending_fault}
+use Rattle.ks_cluster.specs.Moves.{IsGroupAt, IsAt, Moves, plain, rows_at, begin_fault, sending_fault}
 use Rattle.ks_cluster.proofs.Plain.{start_plain, has_plain, decide_plain, pending_plain, markers_plain, closed_plain, renewed_plain, added_plain, appended_plain, started_plain, closed_pending, renewed_pending, added_pending, appended_pending, offset_pending, appended, offset, changed, unchanged}
 use Rattle.ks_cluster.proofs.Rows.{rows_with}
 
@@ -231,10 +232,40 @@ sending_is setup s b w e g t offsets order late k =
     ∙ ap (λ o. or_else (speak_fault b.group w g t) (or_else (markers_waiting (producer_at b.txns w)) o)) (sym (unstable_all setup s b.group t (counts_for (Some w)) k.group_is)))
     ∙ ap (λ (q : Producer). or_else (fenced q e) (or_else (speak_fault b.group w g t) (or_else (markers_waiting (producer_at b.txns w)) (unstable_in t (counts_for (Some w)) 0 b.group.pending)))) (sym (producer_is setup s b w k))
 
-pub send_refused : (b : Broker) (w e g : ℕ) (t : TaskId) (offsets order : List (ℕ × ℕ)) (late : ℕ) (r : Refused) → sending_fault b w e g t ≡ Some r → Moves b b (SendOffsets w e g t offsets order late) (Refuse r)
+send_refused : (b : Broker) (w e g : ℕ) (t : TaskId) (offsets order : List (ℕ × ℕ)) (late : ℕ) (r : Refused) → sending_fault b w e g t ≡ Some r → Moves b b (SendOffsets w e g t offsets order late) (Refuse r)
 send_refused b w e g t offsets order late r is = refused_moves b (SendOffsets w e g t offsets order late) r (λ setup s k. sending_is setup s b w e g t offsets order late k ∙ is) refl
 
-pub offsets_moves : (old new : Broker) (w e g : ℕ) (more : Pending) → w ≤ 16 → sending_fault old w e g more.task ≡ None
+-- what comes before the group's refusals is the first that fits
+begin_first : (f s m u : Option Refused) (r : Refused) → or_else f (elim m [ None ↦ None | Some x ↦ or_else s (Some x) ]) ≡ Some r → or_else f (or_else s (or_else m u)) ≡ Some r
+begin_first None s None u r is = absurd (cc)
+begin_first None s (Some x) u r is = is
+begin_first (Some x) s m u r is = is
+
+-- and where nothing comes before, the group's are left
+begin_rest : (f s m u : Option Refused) → or_else f (elim m [ None ↦ None | Some x ↦ or_else s (Some x) ]) ≡ None → or_else f (or_else s (or_else m u)) ≡ or_else s u
+begin_rest None s None u none = refl
+begin_rest None None (Some x) u none = absurd (cc)
+begin_rest None (Some y) (Some x) u none = absurd (cc)
+begin_rest (Some x) s m u none = absurd (cc)
+
+pend_is : (b : Broker) (w e g : ℕ) (t : TaskId) → None ≡ begin_fault b w e g t → sending_fault b w e g t ≡ pend_fault b.group w g t
+pend_is b w e g t none =
+    begin_rest (fenced (producer_at b.txns w) e) (speak_fault b.group w g t) (markers_waiting (producer_at b.txns w)) (unstable_in t (counts_for (Some w)) 0 b.group.pending) (sym none)
+
+pub begin_refused : (b : Broker) (w e g : ℕ) (more : Pending) (r : Refused) → Some r ≡ begin_fault b w e g more.task
+    → Moves b b (SendOffsets w e g more.task more.offsets more.order more.late) (Refuse r)
+begin_refused b w e g more r is = send_refused b w e g more.task more.offsets more.order more.late r
+    (begin_first (fenced (producer_at b.txns w) e) (speak_fault b.group w g more.task) (markers_waiting (producer_at b.txns w)) (unstable_in more.task (counts_for (Some w)) 0 b.group.pending) r (sym is))
+
+pub pend_refused : (old new : Broker) (w e g : ℕ) (more : Pending) (told : Result (Unit {0}) Refused) (r : Refused) → told ≡ Err r → None ≡ begin_fault old w e g more.task
+    → Refuses (pend_fault old.group w g more.task) told → OnErr told (new.group ≡ old.group) → new ≡ record old { group = new.group }
+    → Moves old new (SendOffsets w e g more.task more.offsets more.order more.late) (Refuse r)
+pend_refused old new w e g more (Ok u) r is begins stable stays same = absurd (cc)
+pend_refused old new w e g more (Err refused) r is begins some stays same =
+    subst (λ (b : Broker). Moves old b (SendOffsets w e g more.task more.offsets more.order more.late) (Refuse r)) (sym (same ∙ ap (λ v. record old { group = v }) stays))
+    (send_refused old w e g more.task more.offsets more.order more.late r (pend_is old w e g more.task begins ∙ some ∙ cc))
+
+offsets_moves : (old new : Broker) (w e g : ℕ) (more : Pending) → w ≤ 16 → sending_fault old w e g more.task ≡ None
     → new.txns ≡ set old.txns w (started (producer_at old.txns w)) → new.group ≡ pended old.group w more
     → new ≡ record old { txns = new.txns; group = new.group } → Moves old new (SendOffsets w e g more.task more.offsets more.order more.late) Done
 offsets_moves old new w e g more h none txns group same = subst (λ (b : Broker). Moves old b (SendOffsets w e g more.task more.offsets more.order more.late) Done) (sym same)
@@ -321,13 +352,16 @@ add_step old new w e part r h answers txns same = by (start_fault (producer_at o
     by (Some refused) is told kept = subst (λ x. Moves old new (Add w e part) (done_or x)) (sym told)
         (subst (λ (b : Broker). Moves old b (Add w e part) (Refuse refused)) (sym (same ∙ ap (λ l. record old { txns = l }) kept)) (add_refused old w e part refused is))
 
-pub offsets_step : (old new : Broker) (w e g : ℕ) (more : Pending) (r : Result (Unit {0}) Refused) → w ≤ 16 → None ≡ sending_fault old w e g more.task → r ≡ done_by (start_fault (producer_at old.txns w) e)
-    → new.txns ≡ changed_by (start_fault (producer_at old.txns w) e) old.txns w (started (producer_at old.txns w)) → new.group ≡ pended old.group w more
+pub offsets_step : (old new : Broker) (w e g : ℕ) (more : Pending) (told r : Result (Unit {0}) Refused) → told ≡ Ok tt → w ≤ 16 → None ≡ begin_fault old w e g more.task
+    → Refuses (pend_fault old.group w g more.task) told → OnOk told (new.group ≡ pended old.group w more) → r ≡ done_by (start_fault (producer_at old.txns w) e)
+    → new.txns ≡ changed_by (start_fault (producer_at old.txns w) e) old.txns w (started (producer_at old.txns w))
     → new ≡ record old { txns = new.txns; group = new.group } → Moves old new (SendOffsets w e g more.task more.offsets more.order more.late) (done_or r)
-offsets_step old new w e g more r h none answers txns group same =
-    let may : start_fault (producer_at old.txns w) e ≡ None = may_start (fenced (producer_at old.txns w) e) (speak_fault old.group w g more.task) (markers_waiting (producer_at old.txns w)) _ (sym none) in
+offsets_step old new w e g more (Err refused) r is h begins some group answers txns same = absurd (cc)
+offsets_step old new w e g more (Ok u) r is h begins stable group answers txns same =
+    let none : sending_fault old w e g more.task ≡ None = pend_is old w e g more.task begins ∙ stable in
+    let may : start_fault (producer_at old.txns w) e ≡ None = may_start (fenced (producer_at old.txns w) e) (speak_fault old.group w g more.task) (markers_waiting (producer_at old.txns w)) _ none in
     subst (λ x. Moves old new (SendOffsets w e g more.task more.offsets more.order more.late) (done_or x)) (sym (answers ∙ ap done_by may))
-    (offsets_moves old new w e g more h (sym none) (txns ∙ ap (λ o. changed_by o old.txns w (started (producer_at old.txns w))) may) group same)
+    (offsets_moves old new w e g more h none (txns ∙ ap (λ o. changed_by o old.txns w (started (producer_at old.txns w))) may) group same)
 
 -- a decision: the group is settled where nothing is refused
 pub decide_done : (old new : Broker) (w e : ℕ) (commit : Bool) → w ≤ 16 → Ok tt ≡ done_by (decide_fault (producer_at old.txns w) e)

@@ -81,6 +81,12 @@ pub record IsNew (plan : TaskPlan) (tasks : List TaskId) (b : Broker) : Type 0 w
   pub group : b.group ≡ first_group plan tasks
   pub parked : b.parked ≡ []
 
+-- why offsets may not be sent, whatever is pending: the epoch is another, or markers wait; who may not speak is told before that
+abbrev pub begin_fault : Broker → ℕ → ℕ → ℕ → TaskId → Option Refused
+begin_fault b w e g t =
+    or_else (fenced (producer_at b.txns w) e)
+    (elim (markers_waiting (producer_at b.txns w)) [ None ↦ None | Some r ↦ or_else (speak_fault b.group w g t) (Some r) ])
+
 -- why offsets may not be sent
 abbrev pub sending_fault : Broker → ℕ → ℕ → ℕ → TaskId → Option Refused
 sending_fault b w e g t =

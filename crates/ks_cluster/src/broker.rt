@@ -5,7 +5,7 @@ ghost use Rattle.ks_history.specs.declared.journal.Reply.TheVariants.{Done, Numb
 ghost use Rattle.ks_history.specs.State.{has_number};
 ghost use Rattle.ks_history.specs.Step.{is_undecided};
 ghost use Rattle.ks_txn.specs.Outcomes.{producer_at};
-ghost use Rattle.ks_cluster.specs.Moves.{Moves, IsNew, sending_fault};
+ghost use Rattle.ks_cluster.specs.Moves.{Moves, IsNew, begin_fault};
 ghost use Rattle.ks_cluster.specs.Replies.{done_or, number_or, truth_or};
 
 use crate::inputs::task_inputs;
@@ -122,22 +122,23 @@ impl Broker {
         }
     }
 
-    /// Why a worker may not send offsets for a task.
-    fn send_refusal(&self, w: u8, epoch: u64, generation: u64, task: TaskId) -> Option<Refused>
+    /// Why a worker may not send offsets for a task, whatever the group would say: its epoch is another, or markers of its producer
+    /// wait, where the group's refusals of the speaker come before that.
+    fn begin_refusal(&self, w: u8, epoch: u64, generation: u64, task: TaskId) -> Option<Refused>
         requires { w ≤ 16 }
-        ensures { result ≡ sending_fault self.now w epoch generation task }
+        ensures { result ≡ begin_fault self.now w epoch generation task }
     {
         let held = self.txns.epoch(w);
         if epoch != held {
             return Some(Refused::Fenced { held });
         }
-        if let Some(refused) = self.group.speak_refusal(w, generation, task) {
-            return Some(refused);
+        let Some(waiting) = self.txns.markers_refusal(w) else {
+            return None;
+        };
+        match self.group.speak_refusal(w, generation, task) {
+            Some(refused) => Some(refused),
+            None => Some(waiting),
         }
-        if let Some(refused) = self.txns.markers_refusal(w) {
-            return Some(refused);
-        }
-        self.group.unstable_refusal(w, task)
     }
 
     pub fn send_offsets(
@@ -152,11 +153,14 @@ impl Broker {
         ensures ok { IfOk result (λ r. Moves self.old self.new (SendOffsets w epoch generation new.task new.offsets new.order new.late) (done_or r)) }
         ensures err { OnErr result (self.new ≡ self.old) }
     {
-        if let Some(refused) = self.send_refusal(w, epoch, generation, new.task) {
+        if let Some(refused) = self.begin_refusal(w, epoch, generation, new.task) {
             return Ok(Err(refused));
         }
-        self.group.pend(alloc, w, new)?;
-        Ok(self.txns.start(w, epoch))
+        let outcome = self.group.pend(alloc, w, generation, new)?;
+        match outcome {
+            Ok(()) => Ok(self.txns.start(w, epoch)),
+            Err(refused) => Ok(Err(refused)),
+        }
     }
 
     pub fn decide(&mut self, alloc: Global, w: u8, epoch: u64, commit: bool) -> Result<(), Refused>

@@ -40,9 +40,17 @@ owner_fault owner w = elim owner [ None ↦ Some (NotAssigned None) | Some v ↦
 abbrev pub speak_fault : GroupView → ℕ → ℕ → TaskId → Option Refused
 speak_fault g w generation t = or_else (generation_fault g.generation generation) (owner_fault (owner_at g.assignment g.members t) w)
 
+-- a worker may not speak for a task, or a producer, but for one, has offsets pending for it
+abbrev pub settled_fault : GroupView → ℕ → ℕ → TaskId → Option ℕ → Option Refused
+settled_fault g w generation t except = or_else (speak_fault g w generation t) (unstable_in t (counts_for except) 0 g.pending)
+
 -- committed offsets of a task may not be read
 abbrev pub committed_fault : GroupView → ℕ → ℕ → TaskId → Option Refused
-committed_fault g w generation t = or_else (speak_fault g w generation t) (unstable_in t (counts_for None) 0 g.pending)
+committed_fault g w generation t = settled_fault g w generation t None
+
+-- offsets of a task may not be pended: for its own a producer doesn't count
+abbrev pub pend_fault : GroupView → ℕ → ℕ → TaskId → Option Refused
+pend_fault g w generation t = settled_fault g w generation t (Some w)
 
 abbrev pub assign_fault : GroupView → ℕ → Assignment → Option Refused
 assign_fault g generation a = or_else (generation_fault g.generation generation) (bad_assignment g.tasks g.members a.active)

@@ -4,8 +4,7 @@ ghost use Rattle.ks_history.specs.Partition.{is_none};
 ghost use Rattle.ks_history.specs.State.{has_number, insert_number, without_number, offset_in};
 ghost use Rattle.ks_history.specs.Step.{or_else, is_place, place_in, places_of, badly_placed, bad_assignment};
 ghost use Rattle.ks_group.specs.Committed.{offsets_of};
-ghost use Rattle.ks_group.specs.Pending.{counts_for, unstable_in};
-ghost use Rattle.ks_group.specs.Group.{generation_fault, owner_at, owner_fault, speak_fault, committed_fault, assign_fault, next_generation, expired, assigned, pended, resolved};
+ghost use Rattle.ks_group.specs.Group.{generation_fault, owner_at, owner_fault, speak_fault, settled_fault, committed_fault, pend_fault, assign_fault, next_generation, expired, assigned, pended, resolved};
 ghost use Rattle.ks_group.specs.New.{new_group, Refuses};
 
 use crate::committed::{Offsets, TaskInputs};
@@ -321,21 +320,21 @@ impl Group {
         }
     }
 
-    /// Why a task's offsets may not be sent beside others: Unstable, with the least other producer that has some pending for it.
-    pub fn unstable_refusal(&self, w: u8, task: TaskId) -> Option<Refused>
-        ensures { result ≡ unstable_in task (counts_for (Some w)) 0 self.now.pending }
-    {
-        unstable_refusal(self.pending.as_slice(), task, Some(w))
-    }
-
-    /// Why committed offsets may not be read.
-    fn committed_refusal(&self, w: u8, generation: u64, task: TaskId) -> Option<Refused>
-        ensures { result ≡ committed_fault self.now w generation task }
+    /// Why offsets of a task may not be read or sent: OldGeneration, NotAssigned, then Unstable with the least producer, but for
+    /// one, that has some pending for the task.
+    fn settled_refusal(
+        &self,
+        w: u8,
+        generation: u64,
+        task: TaskId,
+        except: Option<u8>,
+    ) -> Option<Refused>
+        ensures { result ≡ settled_fault self.now w generation task except }
     {
         if let Some(refused) = self.speak_refusal(w, generation, task) {
             return Some(refused);
         }
-        unstable_refusal(self.pending.as_slice(), task, None)
+        unstable_refusal(self.pending.as_slice(), task, except)
     }
 
     /// The committed offset of each input of a task, in the order of its inputs. Refused: OldGeneration, NotAssigned, then Unstable
@@ -350,7 +349,7 @@ impl Group {
         ensures offsets { IfOk result (λ r. IfOk r (λ v. v.items ≡ offsets_of task self.now.offsets)) }
         ensures refused { IfOk result (λ r. Refuses (committed_fault self.now w generation task) r) }
     {
-        if let Some(refused) = self.committed_refusal(w, generation, task) {
+        if let Some(refused) = self.settled_refusal(w, generation, task, None) {
             return Ok(Err(refused));
         }
         let mut made = Vec::new(alloc);
@@ -463,15 +462,27 @@ impl Group {
         Ok(Ok(true))
     }
 
-    /// Pends offsets of a task in a producer's transaction, in place of earlier ones of the task there. Want of memory is the one
-    /// error; after it the group is as before.
-    pub fn pend(&mut self, alloc: Global, w: u8, new: Pending) -> Result<(), AllocError>
+    /// Pends offsets of a task in a producer's transaction, in place of earlier ones of the task there. Refused: OldGeneration,
+    /// NotAssigned, then Unstable with the least other producer that has offsets pending for the task. Want of memory is the outer
+    /// error. After a refusal or want of memory the group is as before. KIP-447.
+    pub fn pend(
+        &mut self,
+        alloc: Global,
+        w: u8,
+        generation: u64,
+        new: Pending,
+    ) -> Result<Result<(), Refused>, AllocError>
         requires { w ≤ 16 }
-        ensures ok { OnOk result (self.new ≡ pended self.old w new) }
+        ensures refused { IfOk result (λ r. Refuses (pend_fault self.old w generation new.task) r) }
+        ensures ok { IfOk result (λ r. OnOk r (self.new ≡ pended self.old w new)) }
+        ensures same { IfOk result (λ r. OnErr r (self.new ≡ self.old)) }
         ensures err { OnErr result (self.new ≡ self.old) }
     {
+        if let Some(refused) = self.settled_refusal(w, generation, new.task, Some(w)) {
+            return Ok(Err(refused));
+        }
         pend_in(alloc, &mut self.pending[w as usize], new)?;
-        Ok(())
+        Ok(Ok(()))
     }
 
     /// The producer's transaction is decided: on commit its pending offsets become the committed ones, and their late pairs are

@@ -482,7 +482,15 @@ const MOVED: Scene<'static> = Scene {
 #[test]
 fn scenes_of_workers(rt: HostRuntime) -> Result<(), Fail> {
     let alloc = rt.alloc();
-    for scene in [&ALONE, &TAKEN_OVER, &OUTRUN, &LEFT, &LEFT_AFAR, &UNDECIDED, &MOVED] {
+    for scene in [
+        &ALONE,
+        &TAKEN_OVER,
+        &OUTRUN,
+        &LEFT,
+        &LEFT_AFAR,
+        &UNDECIDED,
+        &MOVED,
+    ] {
         let Some(played) = play_job::<Murmur3, HostRuntime>(&rt, alloc, ORDER, scene)? else {
             panic!(rt)
         };
