@@ -24,13 +24,15 @@ use Rattle.ks_log.specs.Written.{slots_in, total, with_slots}
 use Rattle.ks_log.proofs.Logs.{all_grown, total-with}
 use Rattle.ks_txn.specs.Outcomes.{producer_at, first_marker}
 use Rattle.ks_group.specs.New.{Refuses}
+use Rattle.ks_group.specs.Held.{held_with, held_without}
 use Rattle.ks_group.specs.Group.{GroupView, generation_fault, assign_fault, next_generation, expired, assigned, resolved}
 use Rattle.ks_cluster.specs.declared.broker.Broker.{Broker}
 use Rattle.ks_cluster.specs.ParkedPairs.{is_parked_in, unparked_in}
 use Rattle.ks_cluster.specs.Replies.{number_or, truth_or}
 use Rattle.ks_cluster.specs.Moves.{IsGroupAt, IsAt, IsNew, Moves, plain, first_group}
 use Rattle.ks_cluster.proofs.ParkedPairs.{either, is_parked-more, unparked, absent}
-use Rattle.ks_cluster.proofs.Lists.{with_element, get_or-replicate}
+use Rattle.ks_cluster.proofs.Lists.{get_or-replicate}
+use Rattle.ks_cluster.proofs.Holding.{with_from, without_from}
 use Rattle.ks_cluster.proofs.Plain.{open_plain, renewed_plain, renewed_pending, changed, unchanged}
 use Rattle.ks_cluster.proofs.Steps.{refused_moves, accepted_moves, producer_is, producers_changed, group_stays}
 
@@ -104,7 +106,6 @@ next_at setup s g members k = record {
   offsets_are = k.offsets_are;
   late_is = k.late_is;
   held_is = k.held_is;
-  held_count = k.held_count;
   pending_is = k.pending_is;
   pending_count = k.pending_count;
 }
@@ -132,7 +133,7 @@ probed_moves old new w g n none next group same = subst (λ (b : Broker). Moves 
     (next_at setup s old.group s.members k.group_is)))
     (omega arith))
 
-pub held_moves : (old new : Broker) (w : ℕ) (held : List (TaskId × ℕ)) → w ≤ 16 → new.group ≡ record old.group { held = set old.group.held w held } → new ≡ record old { group = new.group }
+pub held_moves : (old new : Broker) (w : ℕ) (held : List (TaskId × ℕ)) → w ≤ 16 → new.group ≡ record old.group { held = held_with w held old.group.held } → new ≡ record old { group = new.group }
     → Moves old new (Hold w held) Done
 held_moves old new w held h group same = subst (λ (b : Broker). Moves old b (Hold w held) Done) (sym same) (accepted_moves old (record old { group = new.group }) (Hold w held) Done
     (λ setup s k. refl)
@@ -144,8 +145,7 @@ held_moves old new w held h group same = subst (λ (b : Broker). Moves old b (Ho
       assignment_is = k.group_is.assignment_is;
       offsets_are = k.group_is.offsets_are;
       late_is = k.group_is.late_is;
-      held_is = with_element s.held old.group.held w held [] (omega (arith, k.group_is.held_count)) k.group_is.held_is;
-      held_count = length-set old.group.held w held ∙ k.group_is.held_count;
+      held_is = ap (held_with w held) k.group_is.held_is ∙ with_from s w held h;
       pending_is = k.group_is.pending_is;
       pending_count = k.group_is.pending_count;
     })))
@@ -181,7 +181,6 @@ assigned_moves old new w g a truth none is group same = subst (λ (b : Broker). 
           offsets_are = k.group_is.offsets_are;
           late_is = k.group_is.late_is;
           held_is = k.group_is.held_is;
-          held_count = k.group_is.held_count;
           pending_is = k.group_is.pending_is;
           pending_count = k.group_is.pending_count;
         })))
@@ -234,8 +233,7 @@ expired_moves old new w h some txns group same = subst (λ (b : Broker). Moves o
         assignment_is = refl;
         offsets_are = k.group_is.offsets_are;
         late_is = k.group_is.late_is;
-        held_is = with_element s.held old.group.held w [] [] (omega (arith, k.group_is.held_count)) k.group_is.held_is;
-        held_count = length-set old.group.held w [] ∙ k.group_is.held_count;
+        held_is = ap (held_without w) k.group_is.held_is ∙ without_from s w 0 17;
         pending_is = changed pending_at s.producer old.group.pending w p [] [] (omega (arith, k.group_is.pending_count)) k.group_is.pending_is (renewed_pending (s.producer w));
         pending_count = length-set old.group.pending w [] ∙ k.group_is.pending_count;
       });
@@ -281,9 +279,6 @@ not_parked_moves b j u none = accepted_moves b b (Unpark j u) (Truth false)
     (omega arith)
 
 -- ---- a new broker
-abbrev nothing_held : List (TaskId × ℕ)
-nothing_held = []
-
 abbrev nothing_pending : List Pending
 nothing_pending = []
 
@@ -300,8 +295,7 @@ new_at setup b new = record {
     assignment_is = refl;
     offsets_are = refl;
     late_is = refl;
-    held_is = λ w. get_or-replicate 17 w [];
-    held_count = length-replicate 17 nothing_held;
+    held_is = refl;
     pending_is = λ w. get_or-replicate 17 w [];
     pending_count = length-replicate 17 nothing_pending;
   });

@@ -3,6 +3,7 @@ pub mod ParkedPairs
 pub mod Plain
 pub mod Rows
 pub mod Steps
+pub mod Holding
 pub mod Groups
 pub mod Readings
 pub mod Entries

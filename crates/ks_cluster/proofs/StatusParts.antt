@@ -6,14 +6,14 @@ use Rattle.ks_row.specs.declared.record.TaskId.{TaskId}
 use Rattle.ks_row.specs.declared.assignment.Assignment.{Assignment}
 use Rattle.ks_history.specs.Machine.{has_topic}
 use Rattle.ks_history.specs.State.{State, Setup}
-use Rattle.ks_history.specs.Reads.{is_changelog, topic_ends, changelog_ends, held_from, waiting_from, status}
+use Rattle.ks_history.specs.Reads.{is_changelog, topic_ends, changelog_ends, waiting_from, status}
 use Rattle.ks_cluster.specs.declared.broker.Broker.{Broker}
 use Rattle.ks_log.specs.declared.log.Written.{Written}
 use Rattle.ks_log.specs.Written.{slots_in}
 use Rattle.ks_log.specs.Reading.{end_at}
 use Rattle.ks_cluster.specs.Moves.{IsAt}
 use Rattle.ks_cluster.specs.View.{setup_from}
-use Rattle.ks_cluster.specs.Statuses.{held_in, with_producers, ends_on, ends_if, changelogs_on}
+use Rattle.ks_cluster.specs.Statuses.{with_producers, ends_on, ends_if, changelogs_on}
 use Rattle.ks_cluster.proofs.Readings.{waiting-are}
 
 -- one partition more of a topic
@@ -22,12 +22,6 @@ pub one_end : (log : List Written) (topic part count n : ℕ) → part < count �
 one_end log topic part count n h is =
     let left : count - part ≡ suc (count - (part + 1)) = omega (arith, h) in
     ap (ends_on log topic part) left ∙ ap (λ m. (record { topic = topic; part = part }, m) ∷ ends_on log topic (part + 1) (count - (part + 1))) (sym is)
-
-held-are : (s : State) (w : ℕ) (helds : List (List (TaskId × ℕ))) → ((i : ℕ) → i < length helds → get_or helds i [] ≡ s.held (w + i)) → held_in w helds ≡ held_from s w (length helds)
-held-are s w [] is = refl
-held-are s w (held ∷ more) is =
-    ap (λ (l : List (TaskId × ℕ)). map (λ h. (w, h.0, h.1)) l ++ held_in (w + 1) more) (is 0 (omega arith) ∙ ap s.held (omega arith))
-    ∙ ap (λ l. map (λ (h : TaskId × ℕ). (w, h.0, h.1)) (s.held w) ++ l) (held-are s (w + 1) more (λ i h. is (suc i) (omega arith) ∙ ap s.held (omega arith)))
 
 topic-are : (s : State) (log : List Written) (topic part count : ℕ) → ((p : PartId) → slots_in p log ≡ s.partition p) → ends_on log topic part count ≡ topic_ends s topic part count
 topic-are s log topic part zero is = refl
@@ -52,14 +46,14 @@ ends-are setup s log topic (count ∷ counts) is =
     ∙ both (is_changelog setup setup.tasks topic) (ends_on log topic 0 count) (topic_ends s topic 0 count) _ _ (topic-are s log topic 0 count is) (ends-are setup s log (topic + 1) counts is)
 
 pub status-is : (setup : Setup) (s : State) (b : Broker) (generation : ℕ) (members : List ℕ) (given : Option Assignment) (held : List (ℕ × TaskId × ℕ)) (waiting : ℕ) (ends : List (PartId × ℕ)) → IsAt setup s b
-    → generation ≡ b.group.generation → members ≡ b.group.members → given ≡ b.group.assignment → held ≡ held_in 0 b.group.held → waiting ≡ waiting_from (with_producers b.txns) 0 17
+    → generation ≡ b.group.generation → members ≡ b.group.members → given ≡ b.group.assignment → held ≡ b.group.held → waiting ≡ waiting_from (with_producers b.txns) 0 17
     → ends ≡ changelogs_on (setup_from setup.plan [] b.group.tasks) b.log 0 setup.counts
     → record { generation = generation; members = members; assignment = given; held = held; waiting = waiting; ends = ends } ≡ status setup s
 status-is setup s b generation members given held waiting ends k generates there gives helds waits ended = λ i. record {
   generation = (generates ∙ k.group_is.generation_is) i;
   members = (there ∙ k.group_is.members_is) i;
   assignment = (gives ∙ k.group_is.assignment_is) i;
-  held = (helds ∙ held-are s 0 b.group.held (λ j h. k.group_is.held_is j ∙ ap s.held (omega arith)) ∙ ap (held_from s 0) k.group_is.held_count) i;
+  held = (helds ∙ k.group_is.held_is) i;
   waiting = (waits ∙ waiting-are setup s b k) i;
   ends = (ended ∙ ap (λ ts. changelogs_on (setup_from setup.plan [] ts) b.log 0 setup.counts) k.group_is.tasks_is ∙ ends-are setup s b.log 0 setup.counts k.log_is) i;
 }

@@ -72,7 +72,6 @@ group_stays setup s g partition producer parked k pending = record {
   offsets_are = k.offsets_are;
   late_is = k.late_is;
   held_is = k.held_is;
-  held_count = k.held_count;
   pending_is = pending;
   pending_count = k.pending_count;
 }
@@ -89,7 +88,6 @@ none_pending setup s g w p offsets late committed h k none rows lates = record {
   offsets_are = rows;
   late_is = lates;
   held_is = k.held_is;
-  held_count = k.held_count;
   pending_is = changed pending_at s.producer g.pending w p [] [] (omega (arith, k.pending_count)) k.pending_is none;
   pending_count = length-set g.pending w [] ∙ k.pending_count;
 }
@@ -289,7 +287,6 @@ offsets_moves old new w e g more h none txns group same = subst (λ (b : Broker)
         offsets_are = k.group_is.offsets_are;
         late_is = k.group_is.late_is;
         held_is = k.group_is.held_is;
-        held_count = k.group_is.held_count;
         pending_is = changed pending_at s.producer old.group.pending w p (with_pending more (get_or old.group.pending w [])) [] (omega (arith, k.group_is.pending_count)) k.group_is.pending_is
             (ap (with_pending more) (k.group_is.pending_is w) ∙ offset_pending (s.producer w) more);
         pending_count = length-set old.group.pending w (with_pending more (get_or old.group.pending w [])) ∙ k.group_is.pending_count;

@@ -10,7 +10,7 @@ use Rattle.ks_history.specs.declared.transaction.Producer.{Producer}
 use Rattle.ks_history.specs.Machine.{TaskPlan}
 use Rattle.ks_history.specs.State.{State, Setup, new_producer}
 use Rattle.ks_history.specs.Step.{or_else, fenced, markers_waiting, pending_at, refusal, reply_to, after}
-use Rattle.ks_history.specs.Reads.{committed_offsets}
+use Rattle.ks_history.specs.Reads.{committed_offsets, held_from}
 use Rattle.ks_history.specs.Count.{records_by}
 use Rattle.ks_log.specs.Written.{slots_in, total}
 use Rattle.ks_txn.specs.Outcomes.{producer_at}
@@ -40,8 +40,7 @@ pub record IsGroupAt (setup : Setup) (s : State) (g : GroupView) : Type 0 where
   pub assignment_is : g.assignment ≡ s.assignment
   pub offsets_are : g.offsets ≡ rows_at setup s
   pub late_is : g.late ≡ s.late
-  pub held_is : (w : ℕ) → get_or g.held w [] ≡ s.held w
-  pub held_count : length g.held ≡ 17
+  pub held_is : g.held ≡ held_from s 0 17
   pub pending_is : (w : ℕ) → get_or g.pending w [] ≡ pending_at (s.producer w)
   pub pending_count : length g.pending ≡ 17
 
@@ -69,7 +68,7 @@ first_group plan tasks = record {
   generation = 0;
   members = [];
   assignment = None;
-  held = replicate 17 [];
+  held = [];
   pending = replicate 17 [];
   offsets = first_rows plan tasks;
   late = 0;

@@ -1,5 +1,5 @@
 -- The parts of a status over the lists of a broker.
-use Rattle.std.specs.Prelude.{ℕ, zero, suc, ◌+◌, if◌then◌else◌, List, [], ◌∷◌, ◌++◌, length, map}
+use Rattle.std.specs.Prelude.{ℕ, zero, suc, ◌+◌, if◌then◌else◌, List, [], ◌∷◌, ◌++◌, length}
 use Rattle.ks_row.specs.declared.record.PartId.{PartId}
 use Rattle.ks_row.specs.declared.record.TaskId.{TaskId}
 use Rattle.ks_history.specs.declared.transaction.Producer.{Producer}
@@ -8,11 +8,6 @@ use Rattle.ks_history.specs.Reads.{is_changelog}
 use Rattle.ks_log.specs.declared.log.Written.{Written}
 use Rattle.ks_txn.specs.Outcomes.{producer_at}
 use Rattle.ks_log.specs.Reading.{end_at}
-
--- the positions that workers hold, each beside its worker; the first one has the number w
-abbrev pub held_in : ℕ → List (List (TaskId × ℕ)) → List (ℕ × TaskId × ℕ)
-held_in w [] = []
-held_in w (held ∷ more) = map (λ h. (w, h.0, h.1)) held ++ held_in (w + 1) more
 
 -- a state of which only the producers matter
 abbrev pub with_producers : List Producer → State

@@ -243,11 +243,13 @@ impl Broker {
     }
 
     /// Replaces the positions that a worker holds.
-    pub fn hold(&mut self, w: u8, held: Vec<(TaskId, u64)>)
+    pub fn hold(&mut self, alloc: Global, w: u8, held: &[(TaskId, u64)]) -> Result<(), AllocError>
         requires { w ≤ 16 }
-        ensures { Moves self.old self.new (Hold w held.items) Done }
+        ensures ok { OnOk result (Moves self.old self.new (Hold w held.now) Done) }
+        ensures err { OnErr result (self.new ≡ self.old) }
     {
-        self.group.hold(w, held);
+        self.group.hold(alloc, w, held)?;
+        Ok(())
     }
 
     /// The request is that of any worker.

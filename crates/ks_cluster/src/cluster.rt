@@ -14,7 +14,7 @@ ghost use Rattle.ks_cluster.specs.View.{ClusterView, setup_of, setup_from, state
 
 use crate::broker::Broker;
 use crate::replies::{done, numbered, told};
-use crate::status::{changelog_ends, copy_given, copy_members, held_rows};
+use crate::status::{changelog_ends, copy_given, copy_members, copy_positions};
 use crate::waiting::{marker_count, pending_count};
 use crate::work::Work;
 use ks_group::{copy_assignment, copy_held, new_pending};
@@ -304,9 +304,8 @@ impl<W: Work> Cluster<W> {
         ensures err { OnErr result (self.new ≡ self.old) }
     {
         let kept = copy_held(alloc, held)?;
-        let new = copy_held(alloc, held)?;
         self.journal.reserve(1)?;
-        self.broker.hold(w, new);
+        self.broker.hold(alloc, w, held)?;
         self.journal.push_reserved(Entry {
             request: Request::Hold {
                 w,
@@ -422,7 +421,7 @@ impl<W: Work> Cluster<W> {
         let group = &self.broker.group;
         let tasks = group.tasks();
         let members = copy_members(alloc, group.members())?;
-        let held = held_rows(alloc, group.held())?;
+        let held = copy_positions(alloc, group.held())?;
         let counts = self.counts.as_slice();
         let ends = changelog_ends(alloc, &self.work, tasks, counts, &self.broker.log)?;
         Ok(Status {

@@ -1,14 +1,14 @@
 //! What a cluster tells of its group, its waiting markers and the ends of its changelogs.
-ghost use Rattle.std.specs.Prelude.{◌≡◌, ℕ, ◌≤◌, ◌++◌, [], false, Some, IfOk, OnOk, length, map, option_copied};
+ghost use Rattle.std.specs.Prelude.{◌≡◌, ℕ, ◌++◌, [], false, Some, IfOk, OnOk, option_copied};
 ghost use Rattle.ks_history.specs.Machine.{has_topic};
 ghost use Rattle.ks_history.specs.Reads.{is_changelog};
 ghost use Rattle.ks_cluster.specs.View.{setup_from};
-ghost use Rattle.ks_cluster.specs.Statuses.{held_in, ends_on, ends_if, changelogs_on};
+ghost use Rattle.ks_cluster.specs.Statuses.{ends_on, ends_if, changelogs_on};
 
 use crate::work::Work;
 use ks_group::copy_assignment;
 use ks_log::Log;
-use ks_row::{Assignment, PartId, Seq, TaskId};
+use ks_row::{Assignment, PartId, TaskId};
 use std::alloc::{AllocError, Global};
 
 /// Members again: a copy with its own memory.
@@ -33,34 +33,15 @@ pub fn copy_given(
     }
 }
 
-// The positions of one worker, behind those that are there.
-fn push_held(
-    made: &mut Vec<(u8, TaskId, u64)>,
-    w: u8,
-    held: &Seq<(TaskId, u64)>,
-) -> Result<(), AllocError>
-    ensures { OnOk result (made.new.items ≡ made.old.items ++ map (λ h. (w, h.0, h.1)) held.now) }
-{
-    for pair in held.as_slice() {
-        made.push((w, pair.0, pair.1))?;
-    }
-    Ok(())
-}
-
-/// The positions that workers hold, each beside its worker, in the order of workers.
-pub fn held_rows(
+/// The positions that workers hold again: a copy with its own memory.
+pub fn copy_positions(
     alloc: Global,
-    held: &[Seq<(TaskId, u64)>],
+    held: &[(u8, TaskId, u64)],
 ) -> Result<Vec<(u8, TaskId, u64)>, AllocError>
-    requires { length held.now ≤ 255 }
-    ensures { IfOk result (λ made. made.items ≡ held_in 0 held.now) }
+    ensures { IfOk result (λ made. made.items ≡ held.now) }
 {
     let mut made = Vec::new(alloc);
-    let mut w: u8 = 0;
-    for positions in held {
-        push_held(&mut made, w, positions)?;
-        w += 1;
-    }
+    made.extend_from_slice(held)?;
     Ok(made)
 }
 

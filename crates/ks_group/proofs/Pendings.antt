@@ -1,4 +1,4 @@
--- Offsets that are put among pending ones in place, and members that are taken out.
+-- Offsets that are put among pending ones in place, and members and held positions that are taken out.
 use Rattle.std.proofs.Common.{◌≡◌, ℕ, zero, suc, ◌≤◌, Bool, true, false, cond, List, [], ◌∷◌, length, set, refl, sym, ap, ◌∙◌, arith}
 use Rattle.std.specs.Prelude.{◌||◌, ◌==◌, not, filter}
 use Rattle.std.specs.List.{insert}
@@ -7,6 +7,7 @@ use Rattle.ks_row.specs.Parts.{same_task, task_lt}
 use Rattle.ks_history.specs.declared.transaction.Pending.{Pending}
 use Rattle.ks_history.specs.State.{with_pending, without_number}
 use Rattle.ks_group.specs.Pending.{pending_place, is_at}
+use Rattle.ks_group.specs.Held.{held_without}
 
 pub place_within : (t : TaskId) (ps : List Pending) → pending_place t ps ≤ length ps
 place_within t [] = omega arith
@@ -47,3 +48,12 @@ without-filter w (m ∷ ms) = by (w == m) (without-filter w ms)
     by : (b : Bool) → filter (λ n. not (w == n)) ms ≡ without_number w ms → cond (not b) (m ∷ filter (λ n. not (w == n)) ms) (filter (λ n. not (w == n)) ms) ≡ cond b (without_number w ms) (m ∷ without_number w ms)
     by true h = h
     by false h = ap (λ l. m ∷ l) h
+
+pub held-filter : (w : ℕ) (hs : List (ℕ × TaskId × ℕ)) → filter (λ h. not (h.0 == w)) hs ≡ held_without w hs
+held-filter w [] = refl
+held-filter w (h ∷ hs) = by (h.0 == w) (held-filter w hs)
+  where
+    by : (b : Bool) → filter (λ (k : ℕ × TaskId × ℕ). not (k.0 == w)) hs ≡ held_without w hs
+        → cond (not b) (h ∷ filter (λ (k : ℕ × TaskId × ℕ). not (k.0 == w)) hs) (filter (λ (k : ℕ × TaskId × ℕ). not (k.0 == w)) hs) ≡ cond b (held_without w hs) (h ∷ held_without w hs)
+    by true same = same
+    by false same = ap (λ l. h ∷ l) same

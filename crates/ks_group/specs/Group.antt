@@ -8,15 +8,16 @@ use Rattle.ks_history.specs.declared.transaction.Pending.{Pending}
 use Rattle.ks_history.specs.State.{without_number, with_pending}
 use Rattle.ks_history.specs.Step.{or_else, place_in, bad_assignment, with_late}
 use Rattle.ks_group.specs.Committed.{row_with}
+use Rattle.ks_group.specs.Held.{held_without}
 use Rattle.ks_group.specs.Pending.{unstable_in, counts_for}
 
--- lists of a worker or a producer each stand at its number
+-- the pending offsets of a producer stand at its number; held positions stand by worker, and then in the order in which they were told
 pub record GroupView : Type 0 where
   pub tasks : List TaskId
   pub generation : ℕ
   pub members : List ℕ
   pub assignment : Option Assignment
-  pub held : List (List (TaskId × ℕ))
+  pub held : List (ℕ × TaskId × ℕ)
   pub pending : List (List Pending)
   pub offsets : List (TaskId × List (ℕ × ℕ))
   pub late : ℕ
@@ -61,7 +62,7 @@ abbrev pub next_generation : GroupView → GroupView
 next_generation g = record g { generation = g.generation + 1; assignment = None }
 
 abbrev pub expired : GroupView → ℕ → GroupView
-expired g w = record (next_generation g) { members = without_number w g.members; held = set g.held w [] }
+expired g w = record (next_generation g) { members = without_number w g.members; held = held_without w g.held }
 
 -- with this assignment, unless it has one
 abbrev pub assigned : GroupView → Assignment → GroupView

@@ -5,9 +5,11 @@ ghost use Rattle.ks_history.specs.State.{has_number, insert_number, without_numb
 ghost use Rattle.ks_history.specs.Step.{or_else, is_place, place_in, places_of, badly_placed, bad_assignment};
 ghost use Rattle.ks_group.specs.Committed.{offsets_of};
 ghost use Rattle.ks_group.specs.Group.{generation_fault, owner_at, owner_fault, speak_fault, settled_fault, committed_fault, pend_fault, assign_fault, next_generation, expired, assigned, pended, resolved};
+ghost use Rattle.ks_group.specs.Held.{held_with};
 ghost use Rattle.ks_group.specs.New.{new_group, Refuses};
 
 use crate::committed::{Offsets, TaskInputs};
+use crate::held::{remove_held, with_held};
 use crate::pending::{late_with, pend_in, unstable_refusal};
 use ks_history::Pending;
 use ks_row::{Assignment, Refused, Seq, TaskId};
@@ -27,8 +29,8 @@ pub struct Group {
     members: Seq<u8>,
     /// Where the tasks stand in this generation; none until one is given.
     assignment: Option<Assignment>,
-    /// Of each worker, 0 to 16, the positions that it holds.
-    held: Vec<Seq<(TaskId, u64)>>,
+    /// The positions that workers hold, each beside its worker: by worker, and then in the order in which they were told.
+    held: Vec<(u8, TaskId, u64)>,
     /// Of each producer, 0 to 16, the offsets that are pending in its undecided transaction.
     pending: Vec<Seq<Pending>>,
     /// Of each task the committed offsets.
@@ -45,7 +47,7 @@ impl Model for Group {
 
     ghost view = { λ g. record { tasks = g.tasks.items; generation = g.generation; members = g.members; assignment = g.assignment; held = g.held.items; pending = g.pending.items; offsets = g.offsets; late = g.late } };
 
-    ghost invariant = { λ g. (length g.held.items ≡ 17) × (length g.pending.items ≡ 17) };
+    ghost invariant = { λ g. length g.pending.items ≡ 17 };
 }
 
 /// Whether a worker is among members.
@@ -86,17 +88,6 @@ fn remove_member(members: &mut Vec<u8>, w: u8)
     ensures { members.new.items ≡ without_number w members.old.items }
 {
     members.retain(|m| w != *m);
-}
-
-/// Seventeen workers that hold nothing.
-fn none_held(alloc: Global) -> Result<Vec<Seq<(TaskId, u64)>>, AllocError>
-    ensures { IfOk result (λ made. made.items ≡ replicate 17 []) }
-{
-    let mut made = Vec::new(alloc);
-    for _ in 0..17usize {
-        made.push(Seq::new(alloc))?;
-    }
-    Ok(made)
 }
 
 /// Held positions again: a copy with its own memory. Want of memory for the copy is the one error.
@@ -212,7 +203,7 @@ impl Group {
             generation: 0,
             members: Seq::new(alloc),
             assignment: None,
-            held: none_held(alloc)?,
+            held: Vec::new(alloc),
             pending: none_pending(alloc)?,
             offsets,
             late: 0,
@@ -247,10 +238,9 @@ impl Group {
         self.assignment.as_ref()
     }
 
-    /// Of each worker, 0 to 16, the positions that it holds.
-    pub fn held(&self) -> &[Seq<(TaskId, u64)>]
-        ensures value { result.now ≡ self.now.held }
-        ensures count { length result.now ≡ 17 }
+    /// The positions that workers hold, each beside its worker: by worker, and then in the order of its last `hold`.
+    pub fn held(&self) -> &[(u8, TaskId, u64)]
+        ensures { result.now ≡ self.now.held }
     {
         self.held.as_slice()
     }
@@ -389,16 +379,20 @@ impl Group {
         let mut members = mem::replace(&mut self.members, Seq::new(alloc)).into_vec();
         remove_member(&mut members, w);
         self.members = Seq::of(members);
-        self.held[w as usize] = Seq::new(alloc);
+        remove_held(&mut self.held, w);
         self.begin_generation();
     }
 
-    /// Replaces the positions that a worker holds.
-    pub fn hold(&mut self, w: u8, held: Vec<(TaskId, u64)>)
+    /// Replaces the positions that a worker holds, which stand between those of the workers before it and after it. Want of memory
+    /// is the one error; after it the group is as before. KIP-441.
+    pub fn hold(&mut self, alloc: Global, w: u8, held: &[(TaskId, u64)]) -> Result<(), AllocError>
         requires { w ≤ 16 }
-        ensures { self.new ≡ record self.old { held = set self.old.held w held.items } }
+        ensures ok { OnOk result (self.new ≡ record self.old { held = held_with w held.now self.old.held }) }
+        ensures err { OnErr result (self.new ≡ self.old) }
     {
-        self.held[w as usize] = Seq::of(held);
+        let held = with_held(alloc, self.held.as_slice(), w, held)?;
+        self.held = held;
+        Ok(())
     }
 
     /// Begins the next generation, without an assignment, and answers it. Refused: OldGeneration; then the group is as before.

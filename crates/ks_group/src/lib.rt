@@ -4,6 +4,7 @@
 
 mod committed;
 mod group;
+mod held;
 mod pending;
 mod places;
 
