@@ -82,7 +82,8 @@ impl<W: Work, G: Gate> Worker<W, G> {
             self.old.state.session.client.gate self.new.state.session.client.gate) }
     {
         let feeding = feeding.load(Ordering::SeqCst);
-        let act = self.state.session.client.gate.next(self.view(feeding));
+        let view = self.view(feeding);
+        let act = self.state.session.client.gate.next(view);
         self.perform::<H, R>(rt, alloc, topology, shared, act)?;
         if feeding && self.is_idle() {
             shared.rest(rt, Duration::from_millis(REST_MS));
