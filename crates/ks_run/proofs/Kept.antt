@@ -209,7 +209,7 @@ module _ (rules : Rules) (placing : Placing) (shown ahead : Bool) (old new : Opt
       (status ≡ 6) × (text ≡ read_fault_text) × IsUndrained journal → IsJudged rules placing shown ahead old new before now status text journal
   judged_failed r d is status text journal fine empty k h kept t =
       let front = front_of_whole old new r d is h in
-      judged_read_fault text status journal t.0 k (record { taken = h.taken; lost = h.lost; unstopped = h.unstopped }, λ none. absurd (not_some none (ap (λ m. draft_in m.items) h.stands))) t.1 t.2 empty
+      judged_read_fault text status journal t.0 k (record { front = record { taken = h.taken; lost = h.lost; unstopped = h.unstopped }; unopened = λ none. absurd (not_some none (ap (λ m. draft_in m.items) h.stands)) }) t.1 t.2 empty
       (kept_of rules placing old front.bytes h.line d is front.more journal fine front.known front.items_are kept)
 
   judged_end : (end : JobEnd) (d : DraftView) (is : List ItemView) (status : ℕ) (text : List ℕ) (journal : List Entry) → fault_of d ≡ None → (ahead ≡ true → end ≡ Whole) → EndsJob old new end d is → FaultsBy end before now →

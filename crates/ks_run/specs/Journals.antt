@@ -122,9 +122,9 @@ pub record HasJournal (rules : Rules) (placing : Placing) (left : Option (List �
   pub unopened : HasNoTopology (whole bytes).items → journal ≡ []
 
 -- the source lost some bytes that had nothing to stop at; where they have no topology yet the journal is empty
-abbrev pub TookFront : Option (List ℕ) → Option (List ℕ) → List Entry → Type 0
-TookFront old new journal =
-    (front : TookNoFault old new) × (draft_in (so_far front.taken).items ≡ None → journal ≡ [])
+pub record TookFront (old new : Option (List ℕ)) (journal : List Entry) : Type 0 where
+  pub front : TookNoFault old new
+  pub unopened : draft_in (so_far front.taken).items ≡ None → journal ≡ []
 
 -- the drain was left out: no `init` and no `join` of the caller's own number, with which it begins
 abbrev pub IsUndrained : List Entry → Type 0

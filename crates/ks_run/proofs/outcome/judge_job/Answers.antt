@@ -23,5 +23,5 @@ returns-in-Ok-Err g c =
 pub returns-in-Err-Fault : goal.returns-in-Err-Fault
 returns-in-Err-Fault g c =
     let fault = c.in-Err-Fault.ensures.fault (ap Err c.in-Err-Fault.field-0-is) in
-    judged_read_fault _ _ _ _ _ _ _ _ _ _ _ refl fault.0 (fault.1, λ none. c.new-in-Err-Fault.ensures) c.in_ok-text-in-Err-Fault.ensures
+    judged_read_fault _ _ _ _ _ _ _ _ _ _ _ refl fault.0 (record { front = fault.1; unopened = λ none. c.new-in-Err-Fault.ensures }) c.in_ok-text-in-Err-Fault.ensures
     (none_drained _ c.new-in-Err-Fault.ensures) (λ e. c.new-in-Err-Fault.ensures) (no_journal _ _ _ _ c.new-in-Err-Fault.ensures)
