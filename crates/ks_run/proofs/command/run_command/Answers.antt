@@ -4,10 +4,20 @@ use Rattle.ks_hash.specs.Murmur3.{murmur3_of}
 use Rattle.ks_nodes.specs.Rules.{rules_of}
 use Rattle.ks_output.specs.Texts.{bad_words_text}
 use Rattle.ks_words.specs.declared.command.Command.{Command}
-use Rattle.ks_words.specs.declared.command.Command.TheVariants.{Load}
-use Rattle.ks_run.specs.Commands.{IsJudgedBy}
+use Rattle.ks_words.specs.declared.command.Command.TheVariants.{Run, Load}
+use Rattle.ks_run.specs.Commands.{IsRun, IsJudgedBy, is_read_ahead}
+use Rattle.ks_run.specs.Journals.{IsEmptyIf}
 use Rattle.ks_run.proofs.Kept.{no_journal}
 use Rattle.ks_run.proofs.command.run_command.Goals as goal
+
+pub returns-in-Some-Run-clause-read_fault : goal.returns-in-Some-Run-clause-read_fault
+returns-in-Some-Run-clause-read_fault g c = λ e.
+    let fault = c.run_job.ensures.read_fault e in
+    let run : c.in-Some-Run.field-0 ≡ Run c.in-Some-Run.settings = rw c.in-Some-Run.is at c.in-Some-Run.field-0-is in
+    let command : c.args.command ≡ Some (Run c.in-Some-Run.settings) = c.in-Some-Run.is ∙ ap Some run in
+    let is_run = subst IsRun (sym command) tt in
+    let empty = subst (λ (command : Option Command). IsEmptyIf (is_read_ahead command) c.run_job.result.journal) (sym command) fault.4 in
+    (is_run, (fault.0, fault.1, fault.2, fault.3, empty))
 
 pub returns-in-Some-Load-clause-write_fault : goal.returns-in-Some-Load-clause-write_fault
 returns-in-Some-Load-clause-write_fault g c = λ e.
