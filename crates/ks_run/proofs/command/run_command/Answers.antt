@@ -17,7 +17,7 @@ returns-in-Some-Run-clause-read_fault g c = λ e.
     let command : c.args.command ≡ Some (Run c.in-Some-Run.settings) = c.in-Some-Run.is ∙ ap Some run in
     let is_run = subst IsRun (sym command) tt in
     let empty = subst (λ (command : Option Command). IsEmptyIf (is_read_ahead command) c.run_job.result.journal) (sym command) fault.4 in
-    (is_run, (fault.0, fault.1, fault.2, fault.3, empty))
+    (is_run, fault.0, fault.1, fault.2, fault.3, empty)
 
 pub returns-in-Some-Load-clause-write_fault : goal.returns-in-Some-Load-clause-write_fault
 returns-in-Some-Load-clause-write_fault g c = λ e.

@@ -7,7 +7,7 @@ pub returns-in-Ok-write_output-clause-read_fault : goal.returns-in-Ok-write_outp
 returns-in-Ok-write_output-clause-read_fault g c = λ e.
     let fault = c.in-Ok.ensures.read_fault e in
     let written = subst (λ text. Appends (g.K.Sink.held c.args.out.now) (g.K.Sink.held c.write_output.new.out) text) (c.deref.ensures.value ∙ fault.2) c.in-Ok-write_output.ensures.whole in
-    (fault.0, (fault.1, written, fault.3, fault.4))
+    (fault.0, fault.1, written, fault.3, fault.4)
 
 pub returns-in-Ok-write_output-clause-journal : goal.returns-in-Ok-write_output-clause-journal
 returns-in-Ok-write_output-clause-journal g c = λ h. c.in-Ok.ensures.kept
