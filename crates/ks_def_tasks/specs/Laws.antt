@@ -22,8 +22,8 @@ use Rattle.ks_plan.specs.Drafts.{Name}
 use Rattle.ks_plan.specs.Plan.Kind.{Windowed}
 use Rattle.ks_def_tasks.specs.Windowed.{greater}
 use Rattle.ks_def_tasks.specs.Step.{Arrival, step_key, item_into, items_from}
-use Rattle.ks_def_runs.specs.Run.{HasNames, Follows, run, local, sent_to}
-use Rattle.ks_def_tasks.specs.Messages.{Place, Stored, Message, Item, Rules}
+use Rattle.ks_def_runs.specs.Run.{Outcome, HasNames, Follows, run, local, sent_to}
+use Rattle.ks_def_tasks.specs.Messages.{Place, Stored, Message, Item, Store, Rules}
 use Rattle.ks_def_tasks.specs.Tasks.{machine, empty_store, step}
 use Rattle.ks_def_tasks.specs.Collision.{past}
 
@@ -75,6 +75,11 @@ pub record IsTakenBy (p : Plan) (t : TaskId) (q : PartId) (r : Rec) (topic : Top
   pub reader : nat_eq (reads p topic) t.sub ≡ true
   pub spelled : message_in p topic r ≡ Some message
 
+-- the decoded step for such a record: on the stores as they are read from their bytes, in the place and at the time of the record
+abbrev pub decoded_step : Rules → Plan → TaskId → ByteStores → PartId → Rec → Topic → Message → Outcome Place Store Item
+decoded_step rules p t stores q r topic message =
+    step rules p t (store_from p t.sub stores) (record { topic = topic; part = q.part }) (record { message = message; time = r.ts })
+
 -- a stored value is read again from its bytes
 abbrev pub IsReadAgain : Kind → Option Stored → Type 0
 IsReadAgain kind None = Unit {0}
@@ -84,7 +89,7 @@ IsReadAgain kind (Some x) = stored_from kind (stored_bytes x) ≡ Some x
 abbrev pub TablesAgree : Type 0
 TablesAgree = (rules : Rules) (p : Plan) (t : TaskId) (stores : ByteStores) (q : PartId) (r : Rec) (topic : Topic) (message : Message) → IsTakenBy p t q r topic message →
     (n : ℕ) (kind : Kind) → slice_get p.kinds n ≡ Some kind → is_windowed kind ≡ false → is_own_number p t.sub (number_of p (Changelog n)) ≡ true →
-    let decoded = step rules p t (store_from p t.sub stores) (record { topic = topic; part = q.part }) (record { message = message; time = r.ts }) in
+    let decoded = decoded_step rules p t stores q r topic message in
     ((k : Key) → step_key message ≡ Some k → IsReadAgain kind (fin.get (decoded.store.tables n) k)) →
     table_from p t.sub (byte_step rules p t stores q r).store n ≡ decoded.store.tables n
 
@@ -104,7 +109,7 @@ HashesAgree = (rules : Rules) (p : Plan) (t : TaskId) (stores : ByteStores) (q :
     (n : ℕ) (kind : Kind) → slice_get p.kinds n ≡ Some kind → is_own_number p t.sub (number_of p (HashChangelog n)) ≡ true →
     AreBytes (fin.entries (stores (number_of p (HashChangelog n)))) → FitsAsked message → (b : Key) →
     hashes_from p t.sub (byte_step rules p t stores q r).store n b
-    ≡ (step rules p t (store_from p t.sub stores) (record { topic = topic; part = q.part }) (record { message = message; time = r.ts })).store.hashes n b
+    ≡ (decoded_step rules p t stores q r topic message).store.hashes n b
 
 -- each of these is a number of 64 bits
 abbrev pub AllBelow : List ℕ → Type 0
@@ -120,9 +125,9 @@ pub record FitsCount (w : Window) (old : Option ℕ) (x : StreamItem) : Type 0 w
 -- and so with windowed counts and their greatest times
 pub record WindowsAgreeAt (rules : Rules) (p : Plan) (t : TaskId) (stores : ByteStores) (q : PartId) (r : Rec) (topic : Topic) (message : Message) (n : ℕ) : Type 0 where
   pub counts : counts_from p t.sub (byte_step rules p t stores q r).store n
-      ≡ (step rules p t (store_from p t.sub stores) (record { topic = topic; part = q.part }) (record { message = message; time = r.ts })).store.counts n
+      ≡ (decoded_step rules p t stores q r topic message).store.counts n
   pub times : time_of p t.sub (byte_step rules p t stores q r).store n
-      ≡ (step rules p t (store_from p t.sub stores) (record { topic = topic; part = q.part }) (record { message = message; time = r.ts })).store.times n
+      ≡ (decoded_step rules p t stores q r topic message).store.times n
 
 abbrev pub WindowsAgree : Type 0
 WindowsAgree = (rules : Rules) (p : Plan) (t : TaskId) (stores : ByteStores) (q : PartId) (r : Rec) (topic : Topic) (message : Message) → IsTakenBy p t q r topic message →
@@ -135,8 +140,8 @@ WindowsAgree = (rules : Rules) (p : Plan) (t : TaskId) (stores : ByteStores) (q 
 -- the records are the decoded ones, spelled, and as many pairs are late
 pub record SameRecords (rules : Rules) (p : Plan) (t : TaskId) (stores : ByteStores) (q : PartId) (r : Rec) (topic : Topic) (message : Message) : Type 0 where
   pub made : (byte_step rules p t stores q r).made
-      ≡ spelled p (filter (is_sent p t) (step rules p t (store_from p t.sub stores) (record { topic = topic; part = q.part }) (record { message = message; time = r.ts })).made)
-  pub late : (byte_step rules p t stores q r).late ≡ (step rules p t (store_from p t.sub stores) (record { topic = topic; part = q.part }) (record { message = message; time = r.ts })).late
+      ≡ spelled p (filter (is_sent p t) (decoded_step rules p t stores q r topic message).made)
+  pub late : (byte_step rules p t stores q r).late ≡ (decoded_step rules p t stores q r topic message).late
 
 abbrev pub RecordsAgree : Type 0
 RecordsAgree = (rules : Rules) (p : Plan) (t : TaskId) (stores : ByteStores) (q : PartId) (r : Rec) (topic : Topic) (message : Message) → IsTakenBy p t q r topic message →

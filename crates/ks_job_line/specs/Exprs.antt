@@ -58,11 +58,21 @@ seen_or None f = Wrong
 seen_or (Some x) f = f x
 
 abbrev pub field_seen : Bool → List ℕ → List ℕ → Judged Term
-field_seen true k f = if same k (codes "left") then Read (LeftOf f) else (if same k (codes "right") then Read (RightOf f) else Wrong)
-field_seen false k f = if same k (codes "field") then Read (FieldOf f) else Wrong
+field_seen true k f =
+    if same k (codes "left") then Read (LeftOf f)
+    else if same k (codes "right") then Read (RightOf f)
+    else Wrong
+field_seen false k f =
+    if same k (codes "field") then Read (FieldOf f)
+    else Wrong
 
+-- an integer, a text or a field
 unfoldable pub leaf_from : Bool → List ℕ → Data → Judged Term
-leaf_from sides k d = if same k (codes "int") then seen_or (as_number d) (λ n. integer_seen (as_i64 n)) else seen_or (as_str d) (λ s. if same k (codes "text") then seen_or (text_of s) (λ t. Read (Words t)) else seen_or (name_of s) (λ f. field_seen sides k f))
+leaf_from sides k d =
+    if same k (codes "int") then seen_or (as_number d) (λ n. integer_seen (as_i64 n))
+    else seen_or (as_str d) (λ s.
+        if same k (codes "text") then seen_or (text_of s) (λ t. Read (Words t))
+        else seen_or (name_of s) (λ f. field_seen sides k f))
 
 abbrev mutual
   pub expr_from : Bool → Data → Judged Term

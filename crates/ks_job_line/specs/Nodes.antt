@@ -21,8 +21,28 @@ use Rattle.ks_job_line.specs.Exprs.{limited}
 use Rattle.ks_job_line.specs.Tests.{where_of}
 use Rattle.ks_job_line.specs.Labels.{is_word_byte}
 
+-- the operations, by their words
+abbrev pub operations : List (List ℕ × Kind)
+operations =
+    (codes "stream", Stream)
+    ∷ (codes "table", Table)
+    ∷ (codes "filter", Filter)
+    ∷ (codes "map_values", MapValues)
+    ∷ (codes "select_key", SelectKey)
+    ∷ (codes "count", Count)
+    ∷ (codes "sum", Sum)
+    ∷ (codes "windowed_count", WindowedCount)
+    ∷ (codes "join", Join)
+    ∷ (codes "fk_join", FkJoin)
+    ∷ []
+
+-- what a table has for this word
+abbrev pub look_up : {A : Type 0} → List (List ℕ × A) → List ℕ → Option A
+look_up [] s = None
+look_up (x ∷ xs) s = if same s x.0 then Some x.1 else look_up xs s
+
 unfoldable pub kind_of : List ℕ → Option Kind
-kind_of s = if same s (codes "stream") then Some Stream else (if same s (codes "table") then Some Table else (if same s (codes "filter") then Some Filter else (if same s (codes "map_values") then Some MapValues else (if same s (codes "select_key") then Some SelectKey else (if same s (codes "count") then Some Count else (if same s (codes "sum") then Some Sum else (if same s (codes "windowed_count") then Some WindowedCount else (if same s (codes "join") then Some Join else (if same s (codes "fk_join") then Some FkJoin else None)))))))))
+kind_of s = look_up operations s
 
 unfoldable pub op_from : Data → Result Kind JobKind
 op_from d = do
@@ -60,13 +80,16 @@ if_there name (Some d) = integer_from name d >>= λ z. Ok (Some z)
 unfoldable pub integer_if : List ℕ → Data → Result (Option ℤ) JobKind
 integer_if name d = if_there name (get name d)
 
-abbrev pub side_of : List ℕ → Option JoinKind
-side_of s = if same s (codes "inner") then Some Inner else (if same s (codes "left") then Some Left else None)
+-- what a foreign-key join may be, and what a join by key may be
+abbrev pub foreign_kinds : List (List ℕ × JoinKind)
+foreign_kinds = (codes "inner", Inner) ∷ (codes "left", Left) ∷ []
 
--- what a key join, and what a foreign-key join may be
+abbrev pub key_kinds : List (List ℕ × JoinKind)
+key_kinds = (codes "outer", Outer) ∷ foreign_kinds
+
 abbrev pub join_kind_of : Bool → List ℕ → Option JoinKind
-join_kind_of true s = side_of s
-join_kind_of false s = if same s (codes "outer") then Some Outer else side_of s
+join_kind_of true s = look_up foreign_kinds s
+join_kind_of false s = look_up key_kinds s
 
 unfoldable pub join_kind_from : Bool → Data → Result JoinKind JobKind
 join_kind_from foreign d = do

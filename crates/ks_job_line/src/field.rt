@@ -2,7 +2,7 @@
 ghost use Rattle.std.specs.Prelude.{◌≡◌};
 ghost use Rattle.serde_json.specs.View.{view};
 ghost use Rattle.ks_record_line.specs.Gives.{Gives};
-ghost use Rattle.ks_job_line.specs.Nodes.{blob_from, name_from, by_from, integer_if, side_of, join_kind_of, join_kind_from};
+ghost use Rattle.ks_job_line.specs.Nodes.{blob_from, name_from, by_from, integer_if, join_kind_of, join_kind_from};
 
 use ks_expr::JoinKind;
 use ks_record_line::{ReadError, bad_shape, blob_of, read_integer, read_text};
@@ -63,7 +63,7 @@ pub fn read_integer_if(alloc: Global, name: &str, value: &Value) -> Result<Optio
 }
 
 fn find_side(text: &str) -> Option<JoinKind>
-    ensures { result ≡ side_of text.now }
+    ensures { result ≡ join_kind_of true text.now }
 {
     if text == "inner" {
         Some(JoinKind::Inner)

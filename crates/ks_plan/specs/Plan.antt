@@ -116,16 +116,30 @@ usual_grace = 86400000
 abbrev pub window_of : ℤ → Option ℤ → Option ℤ → Window
 window_of size advance grace = record { size = natural size; advance = or_number advance (natural size); grace = or_number grace usual_grace }
 
+-- its items' keys aren't those of the topic that its input was read from: they are grouped anew, or a select_key stands between
+abbrev pub goes_through : Option Name → Known → Bool
+goes_through by x = is_some by || x.rekeyed
+
+-- a filter, a map and a count or sum of what x is, the node numbered f: a stream or a table
+abbrev pub filter_of : Known → ℕ → Test → Kind
+filter_of x f test = cond (is_stream x.kind) (StreamFilter f test) (TableFilter f test)
+
+abbrev pub map_of : Known → ℕ → Set → Kind
+map_of x f set = cond (is_stream x.kind) (StreamMap f set) (TableMap f set)
+
+abbrev pub aggregate_of : Known → ℕ → Option Name → Option Name → Kind
+aggregate_of x f by field = cond (is_stream x.kind) (StreamAggregate f by field (goes_through by x)) (TableAggregate f (unwrap_or by []) field)
+
 -- what an operation is after these nodes, and whether its items' keys are not those of its source
 abbrev pub known_of : List (Name × ℤ) → List Known → OpView → (Kind × Bool)
 known_of ts ks (StreamOf t) = (StreamSource (topic_number ts t), false)
 known_of ts ks (TableOf t) = (TableSource (topic_number ts t), false)
-known_of ts ks (FilterOf f p) = let x = known_at ks f in (cond (is_stream x.kind) (StreamFilter (node_number ks f) p) (TableFilter (node_number ks f) p), x.rekeyed)
-known_of ts ks (MapOf f s) = let x = known_at ks f in (cond (is_stream x.kind) (StreamMap (node_number ks f) s) (TableMap (node_number ks f) s), x.rekeyed)
+known_of ts ks (FilterOf f p) = (filter_of (known_at ks f) (node_number ks f) p, (known_at ks f).rekeyed)
+known_of ts ks (MapOf f s) = (map_of (known_at ks f) (node_number ks f) s, (known_at ks f).rekeyed)
 known_of ts ks (KeyOf f k) = (KeySelected (node_number ks f) k, true)
-known_of ts ks (CountOf f by) = let x = known_at ks f in (cond (is_stream x.kind) (StreamAggregate (node_number ks f) by None (is_some by || x.rekeyed)) (TableAggregate (node_number ks f) (unwrap_or by []) None), false)
-known_of ts ks (SumOf f by field) = let x = known_at ks f in (cond (is_stream x.kind) (StreamAggregate (node_number ks f) by (Some field) (is_some by || x.rekeyed)) (TableAggregate (node_number ks f) (unwrap_or by []) (Some field)), false)
-known_of ts ks (WindowedOf f by size advance grace) = (Windowed (node_number ks f) by (window_of size advance grace) (is_some by || (known_at ks f).rekeyed), false)
+known_of ts ks (CountOf f by) = (aggregate_of (known_at ks f) (node_number ks f) by None, false)
+known_of ts ks (SumOf f by field) = (aggregate_of (known_at ks f) (node_number ks f) by (Some field), false)
+known_of ts ks (WindowedOf f by size advance grace) = (Windowed (node_number ks f) by (window_of size advance grace) (goes_through by (known_at ks f)), false)
 known_of ts ks (JoinOf l r kind s) = (KeyJoin (node_number ks l) (node_number ks r) kind s, false)
 known_of ts ks (FkJoinOf l r fk kind s) = (ForeignKeyJoin (node_number ks l) (node_number ks r) fk kind s, false)
 
