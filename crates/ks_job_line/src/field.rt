@@ -1,5 +1,5 @@
 //! Members of nodes.
-ghost use Rattle.std.specs.Prelude.{◌≡◌};
+ghost use Rattle.std.specs.Prelude.{◌≡◌, true};
 ghost use Rattle.serde_json.specs.View.{view};
 ghost use Rattle.ks_record_line.specs.Gives.{Gives};
 ghost use Rattle.ks_job_line.specs.Nodes.{blob_from, name_from, by_from, integer_if, join_kind_of, join_kind_from};
