@@ -66,13 +66,17 @@ field_seen false k f =
     if same k (codes "field") then Read (FieldOf f)
     else Wrong
 
+-- a text or a field
+abbrev pub word_seen : Bool → List ℕ → List ℕ → Judged Term
+word_seen sides k s =
+    if same k (codes "text") then seen_or (text_of s) (λ t. Read (Words t))
+    else seen_or (name_of s) (λ f. field_seen sides k f)
+
 -- an integer, a text or a field
 unfoldable pub leaf_from : Bool → List ℕ → Data → Judged Term
 leaf_from sides k d =
     if same k (codes "int") then seen_or (as_number d) (λ n. integer_seen (as_i64 n))
-    else seen_or (as_str d) (λ s.
-        if same k (codes "text") then seen_or (text_of s) (λ t. Read (Words t))
-        else seen_or (name_of s) (λ f. field_seen sides k f))
+    else seen_or (as_str d) (λ s. word_seen sides k s)
 
 abbrev mutual
   pub expr_from : Bool → Data → Judged Term
