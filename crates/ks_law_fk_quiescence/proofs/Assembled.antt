@@ -18,7 +18,7 @@ use Rattle.ks_def_tasks.specs.Step.{of_row, direct as direct_value, set_result}
 use Rattle.ks_law_quiescence.specs.ForeignJoin.{Subscription, Response, Event, with_at, same_key, apply, sent_to_key, direct, now_had, answer, answer_to, accept, subscription_comes, response_comes, happens}
 use Rattle.ks_law_quiescence.specs.ForeignJoin.Event.{LeftChanges, RightChanges, SubscriptionComes, ResponseComes}
 use Rattle.ks_law_quiescence.proofs.Derived.{shown_row}
-use Rattle.ks_law_fk_quiescence.specs.Seen.{JoinAt, protocol_of, asking, answers, key_task, right_task, right_part, Seen}
+use Rattle.ks_law_fk_quiescence.specs.Seen.{JoinAt, protocol_of, asking, answers, key_task, right_task, key_part, Seen}
 use Rattle.ks_law_fk_quiescence.specs.Joins.{IsAsking, IsAnswer}
 
 pub appended_at : {A : Type 0} (f : ℕ → List A) (i : ℕ) (xs : List A) (j : ℕ) → f j ++ cond (nat_eq j i) xs [] ≡ with_at nat_eq f i (f i ++ xs) j
@@ -27,8 +27,8 @@ appended_at f i xs j = elim (nat_eq j i) as (λ b. nat_eq j i ≡ b → f j ++ c
   | false ↦ λ b. append-nil (f j)
 ] refl
 
-pub same_right : (at : JoinAt) (j : ℕ) (c : Key) → same_task (right_task at j) (key_task at c) ≡ nat_eq j (right_part at c)
-same_right at j c = ap (λ b. b && nat_eq j (right_part at c)) ((Decides-eqb (sub_of at.plan at.right) (sub_of at.plan at.right)).1 refl)
+pub same_right : (at : JoinAt) (j : ℕ) (c : Key) → same_task (right_task at j) (key_task at c) ≡ nat_eq j (key_part at c)
+same_right at j c = ap (λ b. b && nat_eq j (key_part at c)) ((Decides-eqb (sub_of at.plan at.right) (sub_of at.plan at.right)).1 refl)
 
 nothing_joined : (kind : JoinKind) (set : Set) → joined kind set None None ≡ None
 nothing_joined Inner set = refl
@@ -53,7 +53,7 @@ module _ (at : JoinAt) where
       k.row ≡ cond left w j.row → k.result ≡ cond left (left_result j.row w j.result) j.result → k.had ≡ cond left (now_had w j.had) j.had →
       ((b : Key) → k.right b ≡ cond (right && same_bytes b c) y (j.right b)) → ((b : Key) → k.stored b ≡ j.stored b) →
       ((b : Key) → k.subscriptions b ≡ j.subscriptions b ++ cond left (left_sent j.row w b) []) →
-      ((i : ℕ) → k.responses i ≡ j.responses i ++ cond (right && nat_eq i (right_part at c)) (answer (j.stored c) y) []) →
+      ((i : ℕ) → k.responses i ≡ j.responses i ++ cond (right && nat_eq i (key_part at c)) (answer (j.stored c) y) []) →
       k ≡ fold happen j (both_events left right w c y)
   rows_change true true j k w c y row result had rights stored asked answered = λ i. record {
     row = row i;
@@ -62,7 +62,7 @@ module _ (at : JoinAt) where
     right = λ b. rights b i;
     stored = λ b. stored b i;
     subscriptions = λ b. asked b i;
-    responses = λ n. (answered n ∙ appended_at j.responses (right_part at c) (answer (j.stored c) y) n) i;
+    responses = λ n. (answered n ∙ appended_at j.responses (key_part at c) (answer (j.stored c) y) n) i;
   }
   rows_change true false j k w c y row result had rights stored asked answered = λ i. record {
     row = row i;
@@ -80,7 +80,7 @@ module _ (at : JoinAt) where
     right = λ b. rights b i;
     stored = λ b. stored b i;
     subscriptions = λ b. (asked b ∙ append-nil (j.subscriptions b)) i;
-    responses = λ n. (answered n ∙ appended_at j.responses (right_part at c) (answer (j.stored c) y) n) i;
+    responses = λ n. (answered n ∙ appended_at j.responses (key_part at c) (answer (j.stored c) y) n) i;
   }
   rows_change false false j k w c y row result had rights stored asked answered = λ i. record {
     row = row i;
@@ -126,7 +126,7 @@ module _ (at : JoinAt) where
   pub subscription_happens : (j k : Seen) (c : Key) (y : Subscription) (rest : List Subscription) → j.subscriptions c ≡ y ∷ rest →
       k.row ≡ j.row → k.result ≡ j.result → k.had ≡ j.had → ((b : Key) → k.right b ≡ j.right b) →
       ((b : Key) → k.stored b ≡ with_at same_bytes j.stored c (apply (j.stored c) y) b) → ((b : Key) → k.subscriptions b ≡ with_at same_bytes j.subscriptions c rest b) →
-      ((i : ℕ) → k.responses i ≡ j.responses i ++ cond (nat_eq i (right_part at c)) (answer_to y (j.right c)) []) →
+      ((i : ℕ) → k.responses i ≡ j.responses i ++ cond (nat_eq i (key_part at c)) (answer_to y (j.right c)) []) →
       k ≡ happen j (SubscriptionComes c)
   subscription_happens j k c y rest e row result had rights stored asked answered =
       let sent = answer_to y (j.right c) in
@@ -137,7 +137,7 @@ module _ (at : JoinAt) where
         right = λ b. rights b i;
         stored = λ b. stored b i;
         subscriptions = λ b. asked b i;
-        responses = λ n. (answered n ∙ appended_at j.responses (right_part at c) sent n) i;
+        responses = λ n. (answered n ∙ appended_at j.responses (key_part at c) sent n) i;
       } in
       first ∙ ap (subscription_comes (protocol_of at) j c) (sym e)
 

@@ -39,7 +39,7 @@ use Rattle.ks_law_quiescence.proofs.Follow.{value_is}
 use Rattle.ks_law_quiescence.proofs.Mixed.{Stands_at, picked, step_sends_own, apart_asked, apart_answered}
 use Rattle.ks_law_quiescence.proofs.OneKey.{keys_decided}
 use Rattle.ks_law_quiescence.proofs.Placed.{FitsAt}
-use Rattle.ks_law_fk_quiescence.specs.Seen.{asks, answers, asked_by, answered_to, right_task, answers_place, asking_place, seen, JoinAt, join_at, protocol_of, Seen, right_part}
+use Rattle.ks_law_fk_quiescence.specs.Seen.{asks, answers, asked_by, answered_to, right_task, answers_place, asking_place, seen, JoinAt, join_at, protocol_of, Seen, key_part}
 use Rattle.ks_law_fk_quiescence.specs.Joins.{IsAsking, IsAnswer}
 use Rattle.ks_law_fk_quiescence.proofs.Waits.{owner, left_home, beside, asking_parts, taken_by_right, asking_part, answering_part, asked_is, answered_is, Waits, IsAsked, IsAnswered, stays_unchanged}
 use Rattle.ks_law_fk_quiescence.proofs.Parts.{same_itself, same_turned, one_answers, asked-append, answered-append, for_key, for_other, asked_sent, for_own, answered_sent, all_answers}
@@ -248,11 +248,11 @@ module _ (rules : Rules) (p : Plan) (fits : Fits p) (a l r : ℕ) (fk : List ℕ
             by_tests false true false m g d = refl
             by_tests false false d m g e = refl
 
-        answered_then : (i : ℕ) → (see k had next).responses i ≡ j.responses i ++ cond (right && nat_eq i (right_part site c)) (answer (j.stored c) y) []
+        answered_then : (i : ℕ) → (see k had next).responses i ≡ j.responses i ++ cond (right && nat_eq i (key_part site c)) (answer (j.stored c) y) []
         answered_then i = answered_grows (Some c) is i ∙ ap (λ l. j.responses i ++ l) (by_test right refl)
           where
             by_test : (g : Bool) → right ≡ g → cond (same_task (right_task site i) t) (answered_to k (picked rules p (answers_place site k) (cond g (send_responses a (answer_all y (fin.entries (now.hashes a c)))) []))) []
-                ≡ cond (g && nat_eq i (right_part site c)) (answer (j.stored c) y) []
+                ≡ cond (g && nat_eq i (key_part site c)) (answer (j.stored c) y) []
             by_test true g = ap₂ (λ (m : Bool) l. cond m l [])
                 (ap (same_task (right_task site i)) (right_owner g) ∙ same_right site i c)
                 (answered_sent site k (answer_all y (fin.entries (now.hashes a c))) ∙ all_answers site k y (now.hashes a c)
@@ -436,7 +436,7 @@ module _ (rules : Rules) (p : Plan) (fits : Fits p) (a l r : ℕ) (fk : List ℕ
           ∙ ap (λ ms. before ++ cond (same_task me t) (asked_by b k ms) []) (asked_sends None none (home rules p r b))
           ∙ ap (λ l. before ++ l) (either_same (same_task me t) []) ∙ append-nil before
 
-      answers_then : (i : ℕ) → (see k had next).responses i ≡ j.responses i ++ cond (nat_eq i (right_part site c)) (cond (same_bytes k n) (answer_to (asks y) (j.right c)) []) []
+      answers_then : (i : ℕ) → (see k had next).responses i ≡ j.responses i ++ cond (nat_eq i (key_part site c)) (cond (same_bytes k n) (answer_to (asks y) (j.right c)) []) []
       answers_then i =
           let there = option_map shown (fin.get (now.tables r) c) in
           steps.list_grows rules p st s q x rest (answered_to k) (answered-append k) refl (right_task site i) (Responses a) (home rules p a k) refl not_answered
@@ -480,7 +480,7 @@ module _ (rules : Rules) (p : Plan) (fits : Fits p) (a l r : ℕ) (fk : List ℕ
                       asks_rest b ∙ ap (λ t. asked_by b k (messages (cond t rest (st.waiting (Some me) (asking_place site b))))) channel ∙ ap (λ b. asked_by b k (messages rest)) is_c
                   | false ↦ λ t. rest_of b true d (ap (λ u. u && true) (same_turned c b ∙ t))
                 ] refl)
-                (λ i. answers_then i ∙ ap (λ u. j.responses i ++ cond (nat_eq i (right_part site c)) (cond u (answer_to (asks y) (j.right c)) []) []) d);
+                (λ i. answers_then i ∙ ap (λ u. j.responses i ++ cond (nat_eq i (key_part site c)) (cond u (answer_to (asks y) (j.right c)) []) []) d);
             within = λ was v i. past_grows v (was v i);
           }
 
@@ -491,8 +491,8 @@ module _ (rules : Rules) (p : Plan) (fits : Fits p) (a l r : ℕ) (fk : List ℕ
         is = nothing_happens site j (see k had next) (row_kept me l k) (row_kept me a k) refl (λ b. row_kept (home_task rules p r b) r b)
             (λ b. stored_is b ∙ ap (λ u. cond (same_bytes b c && u) (subscribed y) (j.stored b)) d ∙ ap (λ t. cond t (subscribed y) (j.stored b)) (and_false (same_bytes b c)))
             (λ b. rest_of b false d (and_false (same_bytes c b)))
-            (λ i. answers_then i ∙ ap (λ u. j.responses i ++ cond (nat_eq i (right_part site c)) (cond u (answer_to (asks y) (j.right c)) []) []) d
-            ∙ ap (λ l. j.responses i ++ l) (either_same (nat_eq i (right_part site c)) []) ∙ append-nil (j.responses i));
+            (λ i. answers_then i ∙ ap (λ u. j.responses i ++ cond (nat_eq i (key_part site c)) (cond u (answer_to (asks y) (j.right c)) []) []) d
+            ∙ ap (λ l. j.responses i ++ l) (either_same (nat_eq i (key_part site c)) []) ∙ append-nil (j.responses i));
         within = λ was v i. past_grows v (was v i);
       }
 

@@ -21,7 +21,7 @@ use Rattle.ks_law_quiescence.specs.ForeignJoin.Subscription.{Forget, ForgetAndAn
 use Rattle.ks_law_quiescence.specs.States.{State, state_of}
 use Rattle.ks_law_quiescence.specs.Taken.{messages}
 use Rattle.ks_law_quiescence.specs.WellFormed.{IsWellFormed}
-use Rattle.ks_law_fk_quiescence.specs.Seen.{JoinAt, join_at, protocol_of, Seen, seen, left_task, right_task, right_part}
+use Rattle.ks_law_fk_quiescence.specs.Seen.{JoinAt, join_at, protocol_of, Seen, seen, left_task, left_part, right_task, key_part}
 use Rattle.ks_law_fk_quiescence.specs.AtRest.{hash_for}
 
 -- ---- what waits
@@ -41,7 +41,7 @@ IsAnswer h y = Unit {0}
 abbrev pub IsAskedAt : JoinAt → Option TaskId → ℕ → Message → Type 0
 IsAskedAt at s i (Asked b k x) = record {
   sender : s ≡ Some (left_task at k);
-  part : i ≡ right_part at b;
+  part : i ≡ key_part at b;
   asks : IsAsking x.instruction x.hash;
 }
 IsAskedAt at s i m = ⊥
@@ -50,7 +50,7 @@ IsAskedAt at s i m = ⊥
 abbrev pub IsAnsweredAt : JoinAt → Option TaskId → ℕ → Message → Type 0
 IsAnsweredAt at s i (Answered k y) = record {
   sender : (j : ℕ) × (s ≡ Some (right_task at j));
-  part : i ≡ home at.rules at.plan at.node k;
+  part : i ≡ left_part at k;
   answers : IsAnswer y.hash y.right;
 }
 IsAnsweredAt at s i m = ⊥
@@ -92,7 +92,7 @@ HashesAreHad at j = record {
   stored : (b : Key) (h : ℕ) → j.stored b ≡ Some h → HasHad at j b h;
   asked : (b : Key) (h : ℕ) → In (Ask h) (j.subscriptions b) → HasHad at j b h;
   answered : (i h : ℕ) (y : Option Row) → In (record { hash = Some h; row = y }) (j.responses i) →
-      (b : Key) × (right_part at b ≡ i) × HasHad at j b h;
+      (b : Key) × (key_part at b ≡ i) × HasHad at j b h;
 }
 
 -- the stored hash after all waiting subscriptions is the present row's where b is its foreign key, and none elsewhere
@@ -127,21 +127,21 @@ last_answer j i h = last_with h (j.responses i)
 abbrev pub PresentIsAnswered : JoinAt → Seen → Type 0
 PresentIsAnswered at j = (v : Row) (a : Key) → j.row ≡ Some v → field_key at.fk v ≡ Some a →
     let h = at.rules.hash v in
-    let task = right_part at a in
+    let part = key_part at a in
     record {
       stands : (last_asked j a ≡ Some (Ask h)) ⊎ record {
         none_waits : j.subscriptions a ≡ [];
         stored : j.stored a ≡ Some h;
-        answered : (last_answer j task h ≡ Some (j.right a))
-            ⊎ ((last_answer j task h ≡ None) × (j.result ≡ joined at.kind at.set (Some v) (j.right a)));
+        answered : (last_answer j part h ≡ Some (j.right a))
+            ⊎ ((last_answer j part h ≡ None) × (j.result ≡ joined at.kind at.set (Some v) (j.right a)));
       };
-      alone : (i : ℕ) → i ≢ task → last_answer j i h ≡ None;
+      alone : (i : ℕ) → i ≢ part → last_answer j i h ≡ None;
     }
 
 -- the result after all waiting responses of the foreign key's task is the right row's of the moment
 abbrev pub ResultsFollow : JoinAt → Seen → Type 0
 ResultsFollow at j = (v : Row) (a : Key) → j.row ≡ Some v → field_key at.fk v ≡ Some a → j.subscriptions a ≡ [] →
-    fold (accept (protocol_of at) (Some v)) j.result (j.responses (right_part at a)) ≡ joined at.kind at.set (Some v) (j.right a)
+    fold (accept (protocol_of at) (Some v)) j.result (j.responses (key_part at a)) ≡ joined at.kind at.set (Some v) (j.right a)
 
 -- without a left row: no result, or a subscription 1 or a response without a hash waits
 abbrev pub GoneIsTold : JoinAt → Seen → Type 0

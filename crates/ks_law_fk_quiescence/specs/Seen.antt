@@ -48,26 +48,29 @@ join_at rules plan node left right fk kind set = record {
   set = set;
 }
 
--- the tasks of its left keys, of its foreign keys, and of its right side by their partitions
+-- the task and the partition of a left key, and those of a foreign key
 abbrev pub left_task : JoinAt → Key → TaskId
 left_task at k = home_task at.rules at.plan at.node k
+
+abbrev pub left_part : JoinAt → Key → ℕ
+left_part at k = home at.rules at.plan at.node k
 
 abbrev pub key_task : JoinAt → Key → TaskId
 key_task at b = home_task at.rules at.plan at.right b
 
+abbrev pub key_part : JoinAt → Key → ℕ
+key_part at b = home at.rules at.plan at.right b
+
+-- the tasks of the right side by their partitions
 abbrev pub right_task : JoinAt → ℕ → TaskId
 right_task at j = record { sub = sub_of at.plan at.right; part = j }
 
--- the partition of a foreign key's task
-abbrev pub right_part : JoinAt → Key → ℕ
-right_part at b = home at.rules at.plan at.right b
-
 -- where the answers to a left key come, and the subscriptions for a foreign key
 abbrev pub answers_place : JoinAt → Key → Place
-answers_place at k = record { topic = Responses at.node; part = home at.rules at.plan at.node k }
+answers_place at k = record { topic = Responses at.node; part = left_part at k }
 
 abbrev pub asking_place : JoinAt → Key → Place
-asking_place at b = record { topic = Subscriptions at.node; part = right_part at b }
+asking_place at b = record { topic = Subscriptions at.node; part = key_part at b }
 
 -- the protocol that it keeps to
 abbrev pub protocol_of : JoinAt → Protocol Key Row Row Row
@@ -75,7 +78,7 @@ protocol_of at = record {
   alike = same_bytes;
   foreign_key = field_key at.fk;
   hash = at.rules.hash;
-  part = right_part at;
+  part = key_part at;
   joined = λ v y. joined at.kind at.set (Some v) y;
 }
 
