@@ -29,15 +29,14 @@ use Rattle.ks_law_quiescence.proofs.OneKey.{Sound, Sound-run, keys_decided}
 use Rattle.ks_law_quiescence.proofs.Placed.{FitsAt}
 use Rattle.ks_law_fk_quiescence.specs.AtRest.{hash_for}
 use Rattle.ks_law_fk_quiescence.specs.Joins.{IsAskedAt, IsAnsweredAt, HashesAreHad, HashesFollow, OthersAreForgotten, PresentIsAnswered, ResultsFollow, GoneIsTold, AloneIsJoined, HasHad, last, last_with, seen_in}
-use Rattle.ks_law_fk_quiescence.specs.Seen.{right_part, joined_with}
+use Rattle.ks_law_fk_quiescence.specs.Seen.{JoinAt, join_at, protocol_of, Seen}
 use Rattle.ks_law_fk_quiescence.proofs.Waits.{Waits, IsAsked, IsAnswered, waits_run, asking_parts}
 use Rattle.ks_law_fk_quiescence.proofs.Parts.{same_itself}
-use Rattle.ks_law_fk_quiescence.proofs.Assembled.{Protocol}
 use Rattle.ks_law_fk_quiescence.proofs.Simulated.{see}
 use Rattle.ks_law_fk_quiescence.proofs.Seeing.{Sees, IsSound, sees_run, sees_sound, had_apart}
 use Rattle.ks_law_fk_quiescence.proofs.JoinsRest.{wanted_is, none_here}
 use Rattle.ks_law_fk_quiescence.proofs.Told.{Told, HadHash, told_run}
-use Rattle.ks_law_fk_quiescence.proofs.Paired.{paired, as_joined, of_pair, run_same, answers_last}
+use Rattle.ks_law_fk_quiescence.proofs.Paired.{pairs, as_joined, of_pair, run_same, answers_last}
 use Rattle.ks_law_fk_quiescence.proofs.Settling.{settled_with, settled_without}
 
 -- ---- the last subscription and the hash after all
@@ -87,6 +86,9 @@ each_in P (x ∷ xs) e m i =
     ⊎_elim (λ (is : m ≡ x). subst P (sym is) parts.0) (λ more. each_in P xs parts.1 m more) i
 
 module _ (rules : Rules) (p : Plan) (fits : Fits p) (a l r : ℕ) (fk : List ℕ) (kind : JoinKind) (set : Set) (stands : Stands_at a (ForeignKeyJoin l r fk kind set) 0 p.kinds) (records : List Input) (schedule : List (Option TaskId × Place)) where
+  abbrev site : JoinAt
+  site = join_at rules p a l r fk kind set
+
   abbrev st : State
   st = state_of rules p records schedule
 
@@ -95,20 +97,20 @@ module _ (rules : Rules) (p : Plan) (fits : Fits p) (a l r : ℕ) (fk : List ℕ
     abbrev waits : Waits rules p fits a l r fk kind set stands st
     waits = waits_run rules p fits a l r fk kind set stands records schedule
 
-    asked_there : (m : Message) → IsAsked rules p fits a l r fk kind set stands s m → FitsAt rules p (record { topic = Subscriptions a; part = i }) m → IsAskedAt rules p a r s i m
+    asked_there : (m : Message) → IsAsked rules p fits a l r fk kind set stands s m → FitsAt rules p (record { topic = Subscriptions a; part = i }) m → IsAskedAt site s i m
     asked_there (Asked b k x) h f = record { sender = h.0; part = f ∙ ap (rules.part b) (asking_parts rules p fits a l r fk kind set stands); asks = h.1 }
     asked_there m h f = absurd h
 
-    answered_there : (m : Message) → IsAnswered rules p fits a l r fk kind set stands s m → FitsAt rules p (record { topic = Responses a; part = i }) m → IsAnsweredAt rules p a r s i m
+    answered_there : (m : Message) → IsAnswered rules p fits a l r fk kind set stands s m → FitsAt rules p (record { topic = Responses a; part = i }) m → IsAnsweredAt site s i m
     answered_there (Answered k y) h f = record { sender = h.0; part = f; answers = h.1 }
     answered_there m h f = absurd h
 
-    pub asked_stands : (m : Message) → In m (messages (st.waiting s (record { topic = Subscriptions a; part = i }))) → IsAskedAt rules p a r s i m
+    pub asked_stands : (m : Message) → In m (messages (st.waiting s (record { topic = Subscriptions a; part = i }))) → IsAskedAt site s i m
     asked_stands m e =
         let ms = messages (st.waiting s (record { topic = Subscriptions a; part = i })) in
         asked_there m (each_in (IsAsked rules p fits a l r fk kind set stands s) ms (waits.asked s i) m e) (each_in (FitsAt rules p (record { topic = Subscriptions a; part = i })) ms (waits.placed.waiting s (record { topic = Subscriptions a; part = i }) refl) m e)
 
-    pub answered_stands : (m : Message) → In m (messages (st.waiting s (record { topic = Responses a; part = i }))) → IsAnsweredAt rules p a r s i m
+    pub answered_stands : (m : Message) → In m (messages (st.waiting s (record { topic = Responses a; part = i }))) → IsAnsweredAt site s i m
     answered_stands m e =
         let ms = messages (st.waiting s (record { topic = Responses a; part = i })) in
         answered_there m (each_in (IsAnswered rules p fits a l r fk kind set stands s) ms (waits.answered s i) m e) (each_in (FitsAt rules p (record { topic = Responses a; part = i })) ms (waits.placed.waiting s (record { topic = Responses a; part = i }) refl) m e)
@@ -118,7 +120,7 @@ module _ (rules : Rules) (p : Plan) (fits : Fits p) (a l r : ℕ) (fk : List ℕ
     abbrev sees : Sees rules p fits a l r fk kind set stands k st
     sees = sees_run rules p fits a l r fk kind set stands k records schedule
 
-    abbrev j : Protocol rules p r fk kind set
+    abbrev j : Seen
     j = see rules p fits a l r fk kind set stands k sees.had st
 
     apart : join.NoCollision rules.hash sees.had
@@ -127,23 +129,23 @@ module _ (rules : Rules) (p : Plan) (fits : Fits p) (a l r : ℕ) (fk : List ℕ
     sound : IsSound rules p fits a l r fk kind set stands j
     sound = sees_sound rules p fits a l r fk kind set stands k st sees (none_here rules p fits a l r fk kind set stands records schedule none k)
 
-    abbrev IsTold : Protocol rules p r fk kind set → Type 0
-    IsTold j = Told same_bytes keys_decided (field_key fk) rules.hash (right_part rules p r) (joined_with kind set) j
+    abbrev IsTold : Seen → Type 0
+    IsTold j = Told (protocol_of site) keys_decided j
 
     told : IsTold j
-    told = subst IsTold (sym sees.is) (told_run same_bytes keys_decided (field_key fk) rules.hash (right_part rules p r) (joined_with kind set) sees.events)
+    told = subst IsTold (sym sees.is) (told_run (protocol_of site) keys_decided sees.events)
 
-    in_past : (b : Key) (h : ℕ) → HadHash same_bytes keys_decided (field_key fk) rules.hash (right_part rules p r) (joined_with kind set) j.had b h → HasHad rules fk (seen_in rules p a l r k st) b h
+    in_past : (b : Key) (h : ℕ) → HadHash (protocol_of site) keys_decided j.had b h → HasHad site (seen_in site k st) b h
     in_past b h was = (was.0, sees.within was.0 was.1, was.2, was.3)
 
-    pub hashes_are_had : HashesAreHad rules r fk kind set p (seen_in rules p a l r k st)
+    pub hashes_are_had : HashesAreHad site (seen_in site k st)
     hashes_are_had = record {
       stored = λ b h e. in_past b h (told.stored b h e);
       asked = λ b h i. in_past b h (told.asked b h i);
       answered = λ i h y e. let was = told.answered i h y e in (was.0, was.1, in_past was.0 h was.2);
     }
 
-    pub hashes_follow : HashesFollow rules r fk kind set p (seen_in rules p a l r k st)
+    pub hashes_follow : HashesFollow site (seen_in site k st)
     hashes_follow b = sound.final b ∙ wanted_is rules p fits a l r fk kind set stands records schedule j.row b
 
     not_wanted : (row : Option Row) (b : Key) → option_and_then (field_key fk) row ≢ Some b → option_and_then (hash_for rules fk b) row ≡ None
@@ -153,48 +155,48 @@ module _ (rules : Rules) (p : Plan) (fits : Fits p) (a l r : ℕ) (fk : List ℕ
       | false ↦ λ t. refl
     ] refl
 
-    pub others_are_forgotten : OthersAreForgotten rules r fk kind set p (seen_in rules p a l r k st)
+    pub others_are_forgotten : OthersAreForgotten site (seen_in site k st)
     others_are_forgotten b ne = none_last (j.stored b) (j.subscriptions b) (hashes_follow b ∙ not_wanted j.row b ne)
 
-    pub results_follow : ResultsFollow rules r fk kind set p (seen_in rules p a l r k st)
-    results_follow v c e f w = settled_with same_bytes keys_decided (field_key fk) rules.hash (right_part rules p r) (joined_with kind set) j v c e f w sound
+    pub results_follow : ResultsFollow site (seen_in site k st)
+    results_follow v c e f w = settled_with (protocol_of site) keys_decided j v c e f w sound
 
-    pub alone_is_joined : AloneIsJoined rules r fk kind set p (seen_in rules p a l r k st)
-    alone_is_joined v e f = settled_without same_bytes keys_decided (field_key fk) rules.hash (right_part rules p r) (joined_with kind set) j v e f sound
+    pub alone_is_joined : AloneIsJoined site (seen_in site k st)
+    alone_is_joined v e f = settled_without (protocol_of site) keys_decided j v e f sound
 
-    pub gone_is_told : GoneIsTold rules r fk kind set p (seen_in rules p a l r k st)
+    pub gone_is_told : GoneIsTold site (seen_in site k st)
     gone_is_told e = told.gone e
 
     -- the same events, with results that keep both rows
     abbrev both : Join Key Row Row (Row × Option Row)
-    both = run_of same_bytes (field_key fk) rules.hash (right_part rules p r) (paired same_bytes (field_key fk) rules.hash (right_part rules p r) (joined_with kind set)) sees.events
+    both = run_of (pairs (protocol_of site)) sees.events
 
-    both_is : as_joined same_bytes (field_key fk) rules.hash (right_part rules p r) (joined_with kind set) both ≡ j
-    both_is = run_same same_bytes (field_key fk) rules.hash (right_part rules p r) (joined_with kind set) sees.events ∙ sym sees.is
+    both_is : as_joined (protocol_of site) both ≡ j
+    both_is = run_same (protocol_of site) sees.events ∙ sym sees.is
 
     both_apart : join.NoCollision rules.hash both.had
-    both_apart = subst (join.NoCollision rules.hash) (sym (ap (λ (s : Protocol rules p r fk kind set). s.had) both_is)) apart
+    both_apart = subst (join.NoCollision rules.hash) (sym (ap (λ (s : Seen). s.had) both_is)) apart
 
-    both_sound : Sound same_bytes keys_decided (field_key fk) rules.hash (right_part rules p r) (paired same_bytes (field_key fk) rules.hash (right_part rules p r) (joined_with kind set)) both
-    both_sound = Sound-run same_bytes keys_decided (field_key fk) rules.hash (right_part rules p r) (paired same_bytes (field_key fk) rules.hash (right_part rules p r) (joined_with kind set)) sees.events both_apart
+    both_sound : Sound (pairs (protocol_of site)) keys_decided both
+    both_sound = Sound-run (pairs (protocol_of site)) keys_decided sees.events both_apart
 
     answers_stand : (v : Row) (c : Key) → j.row ≡ Some v → field_key fk v ≡ Some c → j.subscriptions c ≡ [] →
         (last_with (rules.hash v) (j.responses (home rules p r c)) ≡ Some (j.right c)) ⊎ ((last_with (rules.hash v) (j.responses (home rules p r c)) ≡ None) × (j.result ≡ joined kind set (Some v) (j.right c)))
     answers_stand v c e f w =
-        let row : both.row ≡ Some v = ap (λ (s : Protocol rules p r fk kind set). s.row) both_is ∙ e in
-        let subscriptions : both.subscriptions c ≡ [] = ap (λ (s : Protocol rules p r fk kind set). s.subscriptions c) both_is ∙ w in
-        let responses : j.responses (home rules p r c) ≡ both.responses (home rules p r c) = sym (ap (λ (s : Protocol rules p r fk kind set). s.responses (home rules p r c)) both_is) in
-        let right : both.right c ≡ j.right c = ap (λ (s : Protocol rules p r fk kind set). s.right c) both_is in
-        let result : j.result ≡ option_and_then (of_pair same_bytes (field_key fk) rules.hash (right_part rules p r) (joined_with kind set)) both.result = sym (ap (λ (s : Protocol rules p r fk kind set). s.result) both_is) in
-        let all = settled_with same_bytes keys_decided (field_key fk) rules.hash (right_part rules p r) (paired same_bytes (field_key fk) rules.hash (right_part rules p r) (joined_with kind set)) both v c row f subscriptions both_sound in
+        let row : both.row ≡ Some v = ap (λ (s : Seen). s.row) both_is ∙ e in
+        let subscriptions : both.subscriptions c ≡ [] = ap (λ (s : Seen). s.subscriptions c) both_is ∙ w in
+        let responses : j.responses (home rules p r c) ≡ both.responses (home rules p r c) = sym (ap (λ (s : Seen). s.responses (home rules p r c)) both_is) in
+        let right : both.right c ≡ j.right c = ap (λ (s : Seen). s.right c) both_is in
+        let result : j.result ≡ option_and_then (of_pair (protocol_of site)) both.result = sym (ap (λ (s : Seen). s.result) both_is) in
+        let all = settled_with (pairs (protocol_of site)) keys_decided both v c row f subscriptions both_sound in
         ⊎_elim
         (λ (m : (y : Option Row) × (last_with (rules.hash v) (both.responses (home rules p r c)) ≡ Some y) × (Some (v, both.right c) ≡ Some (v, y))).
         let pair : (v, both.right c) ≡ (v, m.0) = some_is (v, both.right c) (v, m.0) m.2 in
         let same : both.right c ≡ m.0 = ap (λ (z : Row × Option Row). z.1) pair in
         inl (ap (last_with (rules.hash v)) responses ∙ m.1 ∙ ap (λ y. Some y) (sym same ∙ right)))
         (λ (m : (last_with (rules.hash v) (both.responses (home rules p r c)) ≡ None) × (Some (v, both.right c) ≡ both.result)).
-        inr (ap (last_with (rules.hash v)) responses ∙ m.0, result ∙ ap (option_and_then (of_pair same_bytes (field_key fk) rules.hash (right_part rules p r) (joined_with kind set))) (sym m.1) ∙ ap (joined kind set (Some v)) right))
-        (answers_last same_bytes (field_key fk) rules.hash (right_part rules p r) (joined_with kind set) v (both.responses (home rules p r c)) both.result (Some (v, both.right c)) all)
+        inr (ap (last_with (rules.hash v)) responses ∙ m.0, result ∙ ap (option_and_then (of_pair (protocol_of site))) (sym m.1) ∙ ap (joined kind set (Some v)) right))
+        (answers_last (protocol_of site) v (both.responses (home rules p r c)) both.result (Some (v, both.right c)) all)
       where
         some_is : (x y : Row × Option Row) → Some x ≡ Some y → x ≡ y
         some_is x y e = cc
@@ -214,7 +216,7 @@ module _ (rules : Rules) (p : Plan) (fits : Fits p) (a l r : ℕ) (fk : List ℕ
     wanted_here : (v : Row) (c : Key) → j.row ≡ Some v → field_key fk v ≡ Some c → option_and_then (hash_for rules fk c) j.row ≡ Some (rules.hash v)
     wanted_here v c e f = ap (option_and_then (hash_for rules fk c)) e ∙ ap (λ n. cond (same_option same_bytes n (Some c)) (Some (rules.hash v)) None) f ∙ ap (λ b. cond b (Some (rules.hash v)) None) (same_itself c)
 
-    pub present_is_answered : PresentIsAnswered rules r fk kind set p (seen_in rules p a l r k st)
+    pub present_is_answered : PresentIsAnswered site (seen_in site k st)
     present_is_answered v c e f = record {
       stands = ⊎_elim (λ m. inl m)
           (λ (m : (j.subscriptions c ≡ []) × (j.stored c ≡ Some (rules.hash v))). inr (record { none_waits = m.0; stored = m.1; answered = answers_stand v c e f m.0 }))

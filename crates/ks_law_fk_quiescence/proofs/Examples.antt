@@ -4,6 +4,7 @@ use Rattle.std.specs.Prelude.{pos, codes, take}
 use Rattle.ks_row.specs.declared.row.Field.TheVariants.{Int, Text}
 use Rattle.ks_row.specs.declared.record.TaskId.{TaskId}
 use Rattle.ks_expr.specs.declared.terms.JoinKind.TheVariants.{Inner}
+use Rattle.ks_expr.specs.Terms.{Set}
 use Rattle.ks_expr.specs.Terms.Term.{LeftOf, RightOf}
 use Rattle.ks_expr.specs.Eval.{Row}
 use Rattle.ks_plan.specs.declared.node.Topic.TheVariants.{Input as InputTopic, Subscriptions, Responses}
@@ -11,13 +12,16 @@ use Rattle.ks_plan.specs.Drafts.{DraftView, TableOf, FkJoinOf}
 use Rattle.ks_plan.specs.Faults.{fault_of}
 use Rattle.ks_plan.specs.Plan.{plan_of}
 use Rattle.ks_def_maps.specs.FinMap as fin
-use Rattle.ks_query.specs.Streams.{Key}
 use Rattle.ks_def_tasks.specs.Messages.{Place}
 use Rattle.ks_def_tasks.proofs.Examples.{one_part, put_row}
 use Rattle.ks_law_quiescence.specs.States.{state_of}
-use Rattle.ks_law_quiescence.specs.ForeignJoin.{Subscription, Response, Join}
+use Rattle.ks_law_quiescence.specs.ForeignJoin.{Subscription, Response}
 use Rattle.ks_law_quiescence.specs.ForeignJoin.Subscription.{Ask}
+use Rattle.ks_law_fk_quiescence.specs.Seen.{JoinAt, join_at, Seen}
 use Rattle.ks_law_fk_quiescence.specs.Joins.{seen_in}
+
+abbrev fields : Set
+fields = (codes "amt", LeftOf (codes "amt")) ∷ (codes "region", RightOf (codes "region")) ∷ []
 
 -- customers are topic 0, orders topic 1; nodes o 0, c 1, e 2
 abbrev orders : DraftView
@@ -25,7 +29,7 @@ orders = record {
   app = codes "s";
   topics = (codes "customers", pos 1) ∷ (codes "orders", pos 1) ∷ [];
   nodes = record { name = codes "o"; op = TableOf (codes "orders") } ∷ record { name = codes "c"; op = TableOf (codes "customers") }
-      ∷ record { name = codes "e"; op = FkJoinOf (codes "o") (codes "c") (codes "cust") Inner ((codes "amt", LeftOf (codes "amt")) ∷ (codes "region", RightOf (codes "region")) ∷ []) } ∷ [];
+      ∷ record { name = codes "e"; op = FkJoinOf (codes "o") (codes "c") (codes "cust") Inner fields } ∷ [];
   print = codes "e" ∷ [];
 }
 
@@ -46,8 +50,11 @@ abbrev choices : List (Option TaskId × Place)
 choices = (None, record { topic = InputTopic 1; part = 0 }) ∷ (Some (record { sub = 0; part = 0 }), record { topic = Subscriptions 2; part = 0 }) ∷ (None, record { topic = InputTopic 0; part = 0 })
     ∷ (Some (record { sub = 1; part = 0 }), record { topic = Responses 2; part = 0 }) ∷ (Some (record { sub = 1; part = 0 }), record { topic = Responses 2; part = 0 }) ∷ []
 
-abbrev after : ℕ → Join Key Row Row Row
-after n = seen_in one_part (plan_of orders) 2 0 1 (codes "o1") (state_of one_part (plan_of orders) (put_row 1 (codes "o1") order ∷ put_row 0 (codes "c1") customer ∷ []) (take n choices))
+abbrev joined_orders : JoinAt
+joined_orders = join_at one_part (plan_of orders) 2 0 1 (codes "cust") Inner fields
+
+abbrev after : ℕ → Seen
+after n = seen_in joined_orders (codes "o1") (state_of one_part (plan_of orders) (put_row 1 (codes "o1") order ∷ put_row 0 (codes "c1") customer ∷ []) (take n choices))
 
 abbrev IsSeen : ℕ → Option Row → Option Row → List Row → Option Row → Option ℕ → List Subscription → List (Response Row) → Type 0
 IsSeen n row result had right stored asked answered = record {

@@ -30,11 +30,14 @@ use Rattle.ks_law_quiescence.proofs.Fits.{Fits}
 use Rattle.ks_law_quiescence.proofs.Mixed.{Stands_at}
 use Rattle.ks_law_quiescence.proofs.OneKey.{keys_decided}
 use Rattle.ks_law_quiescence.proofs.Placed.{FitsAt, placed_run}
-use Rattle.ks_law_fk_quiescence.specs.Seen.{asking_place}
+use Rattle.ks_law_fk_quiescence.specs.Seen.{JoinAt, join_at, asking_place}
 use Rattle.ks_law_fk_quiescence.proofs.Waits.{Waits, waits_step, waits_initial, asking_parts, taken_by_right}
 use Rattle.ks_law_fk_quiescence.proofs.Steps.{hash_then}
 
 module _ (rules : Rules) (p : Plan) (fits : Fits p) (a l r : ℕ) (fk : List ℕ) (kind : JoinKind) (set : Set) (stands : Stands_at a (ForeignKeyJoin l r fk kind set) 0 p.kinds) where
+  abbrev site : JoinAt
+  site = join_at rules p a l r fk kind set
+
   pub record HashesPlaced (st : State) : Type 0 where
     pub waits : Waits rules p fits a l r fk kind set stands st
     pub placed : (u : TaskId) (b k : Key) (h : ℕ) → fin.get ((st.stores u).hashes a b) k ≡ Some h → u ≡ home_task rules p r b
@@ -54,7 +57,7 @@ module _ (rules : Rules) (p : Plan) (fits : Fits p) (a l r : ℕ) (fk : List ℕ
         elim (same_bytes b c) as (λ d. same_bytes b c ≡ d → fin.get (cond d (write by_bytes (now.hashes a b) n (subscribed y)) (now.hashes a b)) k ≡ Some h → t ≡ home_task rules p r b) [
           | true ↦ λ d e.
               let is : b ≡ c = (keys_decided b c).0 d in
-              let place : q ≡ asking_place rules p a r b = ap₂ (λ (v : Topic) (i : ℕ). record { topic = v; part = i }) at
+              let place : q ≡ asking_place site b = ap₂ (λ (v : Topic) (i : ℕ). record { topic = v; part = i }) at
               (fit ∙ ap (λ v. rules.part c (parts_of_topic p v)) at ∙ ap₂ rules.part (sym is) (asking_parts rules p fits a l r fk kind set stands)) in
               ap (machine rules p).reader place ∙ taken_by_right rules p fits a l r fk kind set stands (home rules p r b)
           | false ↦ λ d e. w.placed t b k h e

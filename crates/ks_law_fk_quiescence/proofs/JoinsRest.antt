@@ -28,15 +28,17 @@ use Rattle.ks_law_quiescence.proofs.Mixed.{Stands_at}
 use Rattle.ks_law_quiescence.proofs.OneKey.{keys_decided, stored_at_rest, result_at_rest}
 use Rattle.ks_query.proofs.Pointwise.{get-map_values}
 use Rattle.ks_law_quiescence.proofs.Queries.{query_at, given_here}
-use Rattle.ks_law_fk_quiescence.specs.Seen.{asked_by, answered_to, asking_place, answers_place, right_task, joined_with, right_part}
+use Rattle.ks_law_fk_quiescence.specs.Seen.{JoinAt, join_at, protocol_of, Seen, asked_by, answered_to, asking_place, answers_place, right_task}
 use Rattle.ks_law_fk_quiescence.specs.AtRest.{hash_for}
 use Rattle.ks_law_fk_quiescence.proofs.Waits.{beside, left_home}
-use Rattle.ks_law_fk_quiescence.proofs.Assembled.{Protocol}
 use Rattle.ks_law_fk_quiescence.proofs.Simulated.{see, left_past}
 use Rattle.ks_law_fk_quiescence.proofs.Seeing.{Sees, sees_run, sees_sound, node_is}
 use Rattle.ks_law_fk_quiescence.proofs.HashesPlaced.{hashes_run}
 
 module _ (rules : Rules) (p : Plan) (fits : Fits p) (a l r : ℕ) (fk : List ℕ) (kind : JoinKind) (set : Set) (stands : Stands_at a (ForeignKeyJoin l r fk kind set) 0 p.kinds) (records : List Input) (schedule : List (Option TaskId × Place)) where
+  abbrev site : JoinAt
+  site = join_at rules p a l r fk kind set
+
   abbrev st : State
   st = state_of rules p records schedule
 
@@ -50,25 +52,25 @@ module _ (rules : Rules) (p : Plan) (fits : Fits p) (a l r : ℕ) (fk : List ℕ
     abbrev sees : Sees rules p fits a l r fk kind set stands k st
     sees = sees_run rules p fits a l r fk kind set stands k records schedule
 
-    abbrev mine : Protocol rules p r fk kind set
+    abbrev mine : Seen
     mine = see rules p fits a l r fk kind set stands k sees.had st
 
     no_asking : (b : Key) → mine.subscriptions b ≡ []
-    no_asking b = ap (λ xs. asked_by b k (messages xs)) (drained (Some (home_task rules p a k)) (asking_place rules p a r b) refl)
+    no_asking b = ap (λ xs. asked_by b k (messages xs)) (drained (Some (home_task rules p a k)) (asking_place site b) refl)
 
     no_answers : (j : ℕ) → mine.responses j ≡ []
-    no_answers j = ap (λ xs. answered_to k (messages xs)) (drained (Some (right_task p r j)) (answers_place rules p a k) refl)
+    no_answers j = ap (λ xs. answered_to k (messages xs)) (drained (Some (right_task site j)) (answers_place site k) refl)
 
     abbrev wanted : Key → Option ℕ
-    wanted b = join.wanted same_bytes (field_key fk) rules.hash (right_part rules p r) (joined_with kind set) mine.row b
+    wanted b = join.wanted (protocol_of site) mine.row b
 
     pub stored_rests : (b : Key) → mine.stored b ≡ wanted b
-    stored_rests b = stored_at_rest same_bytes keys_decided (field_key fk) rules.hash (right_part rules p r) (joined_with kind set) mine (sees_sound rules p fits a l r fk kind set stands k st sees (none_here none k)) no_asking b
+    stored_rests b = stored_at_rest (protocol_of site) keys_decided mine (sees_sound rules p fits a l r fk kind set stands k st sees (none_here none k)) no_asking b
 
-    pub result_rests : mine.result ≡ join.query same_bytes (field_key fk) rules.hash (right_part rules p r) (joined_with kind set) mine.row mine.right
-    result_rests = result_at_rest same_bytes keys_decided (field_key fk) rules.hash (right_part rules p r) (joined_with kind set) mine (sees_sound rules p fits a l r fk kind set stands k st sees (none_here none k)) no_asking no_answers
+    pub result_rests : mine.result ≡ join.query (protocol_of site) mine.row mine.right
+    result_rests = result_at_rest (protocol_of site) keys_decided mine (sees_sound rules p fits a l r fk kind set stands k st sees (none_here none k)) no_asking no_answers
 
-  pub wanted_is : (row : Option Row) (b : Key) → join.wanted same_bytes (field_key fk) rules.hash (right_part rules p r) (joined_with kind set) row b ≡ option_and_then (hash_for rules fk b) row
+  pub wanted_is : (row : Option Row) (b : Key) → join.wanted (protocol_of site) row b ≡ option_and_then (hash_for rules fk b) row
   wanted_is None b = refl
   wanted_is (Some v) b = by_key (field_key fk v)
     where
@@ -95,11 +97,11 @@ module _ (rules : Rules) (p : Plan) (fits : Fits p) (a l r : ℕ) (fk : List ℕ
 
   -- ---- the table
   joined_rows : (row : Option Row) (right : Key → Option Row) (t : Table) → ((b : Key) → right b ≡ fin.get t b) →
-      join.query same_bytes (field_key fk) rules.hash (right_part rules p r) (joined_with kind set) row right ≡ option_and_then (λ v. joined kind set (Some v) (right_row t (field_key fk v))) row
+      join.query (protocol_of site) row right ≡ option_and_then (λ v. joined kind set (Some v) (right_row t (field_key fk v))) row
   joined_rows None right t same = refl
   joined_rows (Some v) right t same = ap (joined kind set (Some v)) (by_key (field_key fk v))
     where
-      by_key : (c : Option Key) → join.right_of same_bytes (field_key fk) rules.hash (right_part rules p r) (joined_with kind set) right c ≡ right_row t c
+      by_key : (c : Option Key) → join.right_of right c ≡ right_row t c
       by_key None = refl
       by_key (Some c) = same c
 

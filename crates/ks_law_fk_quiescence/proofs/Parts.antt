@@ -5,19 +5,16 @@ use Rattle.std.specs.Cmp.{eq_by_cmp_equiv}
 use Rattle.std.specs.Cmp.Lexicographic.{nat_list_cmp_total}
 use Rattle.std.specs.FinMap.Entries.{find, is_sorted}
 use Rattle.ks_row.specs.FieldKeys.{field_key}
-use Rattle.ks_expr.specs.declared.terms.JoinKind.{JoinKind}
-use Rattle.ks_expr.specs.Terms.{Set}
 use Rattle.ks_expr.specs.Eval.{Row, same_bytes}
 use Rattle.ks_wire.specs.declared.values.Response.{Response as Answer}
 use Rattle.ks_plan.specs.declared.node.Topic.TheVariants.{Subscriptions, Responses}
-use Rattle.ks_plan.specs.Plan.{Plan}
 use Rattle.ks_plan.specs.Layout.{parts_of, parts_of_topic}
 use Rattle.ks_def_maps.specs.FinMap as fin
 use Rattle.ks_def_maps.specs.FinMap.{FinMap}
 use Rattle.ks_def_maps.specs.Bytes.{by_bytes}
 use Rattle.ks_def_maps.proofs.Tables.{find_below, head_of, tail_of}
 use Rattle.ks_query.specs.Streams.{Key}
-use Rattle.ks_def_tasks.specs.Messages.{Place, same_place, same_option, Instruction, Message, Rules, Subscription as Asking}
+use Rattle.ks_def_tasks.specs.Messages.{Place, same_place, same_option, Instruction, Message, Subscription as Asking}
 use Rattle.ks_def_tasks.specs.Messages.Instruction.{Delete, DeleteAndAnswer, Answer as AnswerAlways, AnswerIfThere}
 use Rattle.ks_def_tasks.specs.Messages.Message.{Given, Keyed, Moved, Asked, Answered, Kept, KeptCount, KeptTime, KeptHash}
 use Rattle.ks_def_tasks.specs.Foreign.{key_of_row, subscribe, subscriptions, answer_all, answer_by}
@@ -26,7 +23,7 @@ use Rattle.ks_law_quiescence.specs.ForeignJoin.{Subscription, Response, same_key
 use Rattle.ks_law_quiescence.specs.ForeignJoin.Subscription.{Forget, ForgetAndAnswer, Ask}
 use Rattle.ks_law_quiescence.proofs.Mixed.{picked}
 use Rattle.ks_law_quiescence.proofs.OneKey.{same_key-is, keys_decided}
-use Rattle.ks_law_fk_quiescence.specs.Seen.{asking, asks, answers, asked_by, answered_to, asking_place, answers_place, joined_with, right_part}
+use Rattle.ks_law_fk_quiescence.specs.Seen.{asking, asks, answers, asked_by, answered_to, asking_place, answers_place, JoinAt, protocol_of}
 use Rattle.ks_law_fk_quiescence.specs.Joins.{IsAsking}
 
 pub same_turned : (a b : Key) → same_bytes a b ≡ same_bytes b a
@@ -104,21 +101,21 @@ both_keys old new b h = by_tests (same_option same_bytes old new) (same_key same
     by_tests false true false x y z = refl
     by_tests false false t x y z = append-nil _
 
-module _ (rules : Rules) (p : Plan) (a r : ℕ) (fk : List ℕ) (kind : JoinKind) (set : Set) (parts : parts_of_topic p (Subscriptions a) ≡ parts_of p r) where
-  pub asked_sent : (b k c : Key) (ss : List (Key × Asking)) → asked_by b k (picked rules p (asking_place rules p a r b) (send_subscriptions a c ss)) ≡ for_key b (same_bytes k c) ss
+module _ (at : JoinAt) (parts : parts_of_topic at.plan (Subscriptions at.node) ≡ parts_of at.plan at.right) where
+  pub asked_sent : (b k c : Key) (ss : List (Key × Asking)) → asked_by b k (picked at.rules at.plan (asking_place at b) (send_subscriptions at.node c ss)) ≡ for_key b (same_bytes k c) ss
   asked_sent b k c [] = refl
   asked_sent b k c (s ∷ ss) =
-      let more = picked rules p (asking_place rules p a r b) (send_subscriptions a c ss) in
-      let at : Place = record { topic = Subscriptions a; part = rules.part s.0 (parts_of_topic p (Subscriptions a)) } in
-      elim (same_bytes s.0 b) as (λ t. same_bytes s.0 b ≡ t → asked_by b k (cond (same_place (asking_place rules p a r b) at) (Asked s.0 c s.1 ∷ more) more) ≡ cond (t && same_bytes k c) (asks s.1 ∷ for_key b (same_bytes k c) ss) (for_key b (same_bytes k c) ss)) [
+      let more = picked at.rules at.plan (asking_place at b) (send_subscriptions at.node c ss) in
+      let to : Place = record { topic = Subscriptions at.node; part = at.rules.part s.0 (parts_of_topic at.plan (Subscriptions at.node)) } in
+      elim (same_bytes s.0 b) as (λ t. same_bytes s.0 b ≡ t → asked_by b k (cond (same_place (asking_place at b) to) (Asked s.0 c s.1 ∷ more) more) ≡ cond (t && same_bytes k c) (asks s.1 ∷ for_key b (same_bytes k c) ss) (for_key b (same_bytes k c) ss)) [
         | true ↦ λ e.
             let is : s.0 ≡ b = (keys_decided s.0 b).0 e in
-            let here : nat_eq (rules.part b (parts_of p r)) (rules.part s.0 (parts_of_topic p (Subscriptions a))) ≡ true = (Decides-eqb _ _).1 (ap₂ rules.part (sym is) (sym parts)) in
-            let place : same_place (asking_place rules p a r b) at ≡ true = ap₂ (λ x y. x && y) ((Decides-eqb a a).1 refl) here in
+            let here : nat_eq (at.rules.part b (parts_of at.plan at.right)) (at.rules.part s.0 (parts_of_topic at.plan (Subscriptions at.node))) ≡ true = (Decides-eqb _ _).1 (ap₂ at.rules.part (sym is) (sym parts)) in
+            let place : same_place (asking_place at b) to ≡ true = ap₂ (λ x y. x && y) ((Decides-eqb at.node at.node).1 refl) here in
             ap (λ t. asked_by b k (cond t (Asked s.0 c s.1 ∷ more) more)) place
             ∙ ap (λ t. cond (t && same_bytes k c) (asks s.1 ∷ asked_by b k more) (asked_by b k more)) e
             ∙ ap (λ l. cond (same_bytes k c) (asks s.1 ∷ l) l) (asked_sent b k c ss)
-        | false ↦ λ e. elim (same_place (asking_place rules p a r b) at) as (λ t. asked_by b k (cond t (Asked s.0 c s.1 ∷ more) more) ≡ for_key b (same_bytes k c) ss) [
+        | false ↦ λ e. elim (same_place (asking_place at b) to) as (λ t. asked_by b k (cond t (Asked s.0 c s.1 ∷ more) more) ≡ for_key b (same_bytes k c) ss) [
           | true ↦ ap (λ t. cond (t && same_bytes k c) (asks s.1 ∷ asked_by b k more) (asked_by b k more)) e ∙ asked_sent b k c ss
           | false ↦ asked_sent b k c ss
         ]
@@ -126,23 +123,23 @@ module _ (rules : Rules) (p : Plan) (a r : ℕ) (fk : List ℕ) (kind : JoinKind
 
   abbrev sent : Key → Option Key → Option Row → List Subscription
   sent b k None = cond (same_key same_bytes k (Some b)) (ForgetAndAnswer ∷ []) []
-  sent b k (Some v) = cond (same_key same_bytes (field_key fk v) (Some b)) (Ask (rules.hash v) ∷ []) (cond (same_key same_bytes k (Some b)) (Forget ∷ []) [])
+  sent b k (Some v) = cond (same_key same_bytes (field_key at.fk v) (Some b)) (Ask (at.rules.hash v) ∷ []) (cond (same_key same_bytes k (Some b)) (Forget ∷ []) [])
 
-  pub for_own : (b : Key) (old new : Option Row) → for_key b true (subscriptions rules.hash fk old new) ≡ sent_to_key same_bytes (field_key fk) rules.hash (right_part rules p r) (joined_with kind set) old new b
+  pub for_own : (b : Key) (old new : Option Row) → for_key b true (subscriptions at.rules.hash at.fk old new) ≡ sent_to_key (protocol_of at) old new b
   for_own b old new = by_new new ∙ by_old old new
     where
-      by_new : (new : Option Row) → for_key b true (subscriptions rules.hash fk old new) ≡ sent b (key_of_row fk old) new
-      by_new None = one_key b (key_of_row fk old) (record { hash = None; instruction = DeleteAndAnswer })
+      by_new : (new : Option Row) → for_key b true (subscriptions at.rules.hash at.fk old new) ≡ sent b (key_of_row at.fk old) new
+      by_new None = one_key b (key_of_row at.fk old) (record { hash = None; instruction = DeleteAndAnswer })
       by_new (Some v) =
-          let d = same_option same_bytes (key_of_row fk old) (field_key fk v) in
-          let first = subscribe (key_of_row fk old) (record { hash = Some (rules.hash v); instruction = Delete }) in
-          for_key-append b true (cond d [] first) (subscribe (field_key fk v) (record { hash = Some (rules.hash v); instruction = AnswerAlways }))
+          let d = same_option same_bytes (key_of_row at.fk old) (field_key at.fk v) in
+          let first = subscribe (key_of_row at.fk old) (record { hash = Some (at.rules.hash v); instruction = Delete }) in
+          for_key-append b true (cond d [] first) (subscribe (field_key at.fk v) (record { hash = Some (at.rules.hash v); instruction = AnswerAlways }))
           ∙ ap₂ (λ xs ys. xs ++ ys)
-          (elim d as (λ t. for_key b true (cond t [] first) ≡ cond t [] (cond (same_key same_bytes (key_of_row fk old) (Some b)) (Forget ∷ []) [])) [ true ↦ refl | false ↦ one_key b (key_of_row fk old) (record { hash = Some (rules.hash v); instruction = Delete }) ])
-          (one_key b (field_key fk v) (record { hash = Some (rules.hash v); instruction = AnswerAlways }))
-          ∙ both_keys (key_of_row fk old) (field_key fk v) b (rules.hash v)
+          (elim d as (λ t. for_key b true (cond t [] first) ≡ cond t [] (cond (same_key same_bytes (key_of_row at.fk old) (Some b)) (Forget ∷ []) [])) [ true ↦ refl | false ↦ one_key b (key_of_row at.fk old) (record { hash = Some (at.rules.hash v); instruction = Delete }) ])
+          (one_key b (field_key at.fk v) (record { hash = Some (at.rules.hash v); instruction = AnswerAlways }))
+          ∙ both_keys (key_of_row at.fk old) (field_key at.fk v) b (at.rules.hash v)
 
-      by_old : (old new : Option Row) → sent b (key_of_row fk old) new ≡ sent_to_key same_bytes (field_key fk) rules.hash (right_part rules p r) (joined_with kind set) old new b
+      by_old : (old new : Option Row) → sent b (key_of_row at.fk old) new ≡ sent_to_key (protocol_of at) old new b
       by_old None None = refl
       by_old None (Some v) = refl
       by_old (Some u) None = refl
@@ -153,45 +150,42 @@ abbrev pub to_left : Key → List (Key × Answer) → List (Response Row)
 to_left k [] = []
 to_left k (e ∷ es) = cond (same_bytes k e.0) (answers e.1 ∷ to_left k es) (to_left k es)
 
-module _ (rules : Rules) (p : Plan) (a r : ℕ) (fk : List ℕ) (kind : JoinKind) (set : Set) where
-  pub answered_sent : (k : Key) (es : List (Key × Answer)) → answered_to k (picked rules p (answers_place rules p a k) (send_responses a es)) ≡ to_left k es
+module _ (at : JoinAt) where
+  pub answered_sent : (k : Key) (es : List (Key × Answer)) → answered_to k (picked at.rules at.plan (answers_place at k) (send_responses at.node es)) ≡ to_left k es
   answered_sent k [] = refl
   answered_sent k (e ∷ es) =
-      let more = picked rules p (answers_place rules p a k) (send_responses a es) in
-      let at : Place = record { topic = Responses a; part = rules.part e.0 (parts_of p a) } in
-      elim (same_bytes k e.0) as (λ t. same_bytes k e.0 ≡ t → answered_to k (cond (same_place (answers_place rules p a k) at) (Answered e.0 e.1 ∷ more) more) ≡ cond t (answers e.1 ∷ to_left k es) (to_left k es)) [
+      let more = picked at.rules at.plan (answers_place at k) (send_responses at.node es) in
+      let to : Place = record { topic = Responses at.node; part = at.rules.part e.0 (parts_of at.plan at.node) } in
+      elim (same_bytes k e.0) as (λ t. same_bytes k e.0 ≡ t → answered_to k (cond (same_place (answers_place at k) to) (Answered e.0 e.1 ∷ more) more) ≡ cond t (answers e.1 ∷ to_left k es) (to_left k es)) [
         | true ↦ λ t.
             let is : k ≡ e.0 = (keys_decided k e.0).0 t in
-            let place : same_place (answers_place rules p a k) at ≡ true = ap₂ (λ x y. x && y) ((Decides-eqb a a).1 refl) ((Decides-eqb (rules.part k (parts_of p a)) (rules.part e.0 (parts_of p a))).1 (ap (λ c. rules.part c (parts_of p a)) is)) in
+            let place : same_place (answers_place at k) to ≡ true = ap₂ (λ x y. x && y) ((Decides-eqb at.node at.node).1 refl) ((Decides-eqb (at.rules.part k (parts_of at.plan at.node)) (at.rules.part e.0 (parts_of at.plan at.node))).1 (ap (λ c. at.rules.part c (parts_of at.plan at.node)) is)) in
             ap (λ t. answered_to k (cond t (Answered e.0 e.1 ∷ more) more)) place
             ∙ ap (λ t. cond t (answers e.1 ∷ answered_to k more) (answered_to k more)) t
             ∙ ap (λ l. answers e.1 ∷ l) (answered_sent k es)
-        | false ↦ λ t. elim (same_place (answers_place rules p a k) at) as (λ u. answered_to k (cond u (Answered e.0 e.1 ∷ more) more) ≡ to_left k es) [
+        | false ↦ λ t. elim (same_place (answers_place at k) to) as (λ u. answered_to k (cond u (Answered e.0 e.1 ∷ more) more) ≡ to_left k es) [
           | true ↦ ap (λ u. cond u (answers e.1 ∷ answered_to k more) (answered_to k more)) t ∙ answered_sent k es
           | false ↦ answered_sent k es
         ]
       ] refl
 
-  abbrev pub answer_for : Option ℕ → Option Row → List (Response Row)
-  answer_for h y = answer same_bytes (field_key fk) rules.hash (right_part rules p r) (joined_with kind set) h y
-
-  found_answers : (k : Key) (y : Option Row) (es : List (Key × ℕ)) → T (is_sorted by_bytes es) → to_left k (answer_all y es) ≡ answer_for (find by_bytes k es) y
+  found_answers : (k : Key) (y : Option Row) (es : List (Key × ℕ)) → T (is_sorted by_bytes es) → to_left k (answer_all y es) ≡ answer (find by_bytes k es) y
   found_answers k y [] s = refl
   found_answers k y (e ∷ es) s =
-      elim (same_bytes k e.0) as (λ t. same_bytes k e.0 ≡ t → cond t (record { hash = Some e.1; row = y } ∷ to_left k (answer_all y es)) (to_left k (answer_all y es)) ≡ answer_for (cond t (Some e.1) (find by_bytes k es)) y) [
+      elim (same_bytes k e.0) as (λ t. same_bytes k e.0 ≡ t → cond t (record { hash = Some e.1; row = y } ∷ to_left k (answer_all y es)) (to_left k (answer_all y es)) ≡ answer (cond t (Some e.1) (find by_bytes k es)) y) [
         | true ↦ λ t.
             let is : k ≡ e.0 = (keys_decided k e.0).0 t in
             let none : find by_bytes k es ≡ None = ap (λ q. find by_bytes q es) is ∙ find_below nat_list_cmp_total (λ x. 0) e.0 es (head_of _ _ s) in
-            ap (λ l. record { hash = Some e.1; row = y } ∷ l) (found_answers k y es (tail_of _ _ s) ∙ ap (λ w. answer_for w y) none)
+            ap (λ l. record { hash = Some e.1; row = y } ∷ l) (found_answers k y es (tail_of _ _ s) ∙ ap (λ w. answer w y) none)
         | false ↦ λ t. found_answers k y es (tail_of _ _ s)
       ] refl
 
-  pub all_answers : (k : Key) (y : Option Row) (m : FinMap by_bytes ℕ) → to_left k (answer_all y (fin.entries m)) ≡ answer_for (fin.get m k) y
-  all_answers k y m = found_answers k y (fin.entries m) (fin.entries_sorted m) ∙ ap (λ w. answer_for w y) (sym (fin.get-entries m k))
+  pub all_answers : (k : Key) (y : Option Row) (m : FinMap by_bytes ℕ) → to_left k (answer_all y (fin.entries m)) ≡ answer (fin.get m k) y
+  all_answers k y m = found_answers k y (fin.entries m) (fin.entries_sorted m) ∙ ap (λ w. answer w y) (sym (fin.get-entries m k))
 
   -- the answer to one subscription
   pub one_answers : (k c : Key) (i : Instruction) (h : Option ℕ) (y : Option Row) → IsAsking i h →
-      to_left k (answer_of c (answer_by i h y)) ≡ cond (same_bytes k c) (answer_to same_bytes (field_key fk) rules.hash (right_part rules p r) (joined_with kind set) (asking i h) y) []
+      to_left k (answer_of c (answer_by i h y)) ≡ cond (same_bytes k c) (answer_to (asking i h) y) []
   one_answers k c Delete h y e = elim (same_bytes k c) as (λ t. [] ≡ cond {A = List (Response Row)} t [] []) [ true ↦ refl | false ↦ refl ]
   one_answers k c DeleteAndAnswer h y e = refl
   one_answers k c AnswerAlways None y e = absurd e

@@ -3,10 +3,9 @@ use Rattle.std.proofs.Common.{◌≡◌, ℕ, List, [], ◌∷◌, ◌++◌, sli
 use Rattle.std.specs.Prelude.{option_map}
 use Rattle.std.proofs.lemmas.List.Sums.{fold-append}
 use Rattle.ks_row.specs.declared.record.TaskId.{TaskId}
-use Rattle.ks_row.specs.FieldKeys.{field_key}
 use Rattle.ks_expr.specs.declared.terms.JoinKind.{JoinKind}
 use Rattle.ks_expr.specs.Terms.{Set}
-use Rattle.ks_expr.specs.Eval.{Row, same_bytes}
+use Rattle.ks_expr.specs.Eval.{Row}
 use Rattle.ks_plan.specs.Plan.{Plan, Kind}
 use Rattle.ks_plan.specs.Plan.Kind.{ForeignKeyJoin}
 use Rattle.ks_def_maps.specs.FinMap as fin
@@ -24,9 +23,9 @@ use Rattle.ks_law_quiescence.proofs.Fits.{Fits}
 use Rattle.ks_law_quiescence.proofs.Mixed.{Stands_at}
 use Rattle.ks_law_quiescence.proofs.OneKey.{Sound, Sound-run, keys_decided}
 use Rattle.ks_law_quiescence.proofs.Placed.{placed_run}
-use Rattle.ks_law_fk_quiescence.specs.Seen.{joined_with, right_part}
+use Rattle.ks_law_fk_quiescence.specs.Seen.{JoinAt, join_at, protocol_of, Seen}
 use Rattle.ks_law_fk_quiescence.proofs.Waits.{Waits, waits_step, waits_initial}
-use Rattle.ks_law_fk_quiescence.proofs.Assembled.{Protocol, happen}
+use Rattle.ks_law_fk_quiescence.proofs.Assembled.{happen}
 use Rattle.ks_law_fk_quiescence.proofs.Simulated.{see, left_past, IsPast, step_is_events}
 
 -- a node by its number
@@ -37,8 +36,11 @@ node_is n (y ∷ ys) a k s = ⊎_elim
     (λ (e : (n < a) × Stands_at a k (suc n) ys). let more = node_is (suc n) ys a k e.1 in let is = more.1 in (suc more.0, omega arith, more.2)) s
 
 module _ (rules : Rules) (p : Plan) (fits : Fits p) (a l r : ℕ) (fk : List ℕ) (kind : JoinKind) (set : Set) (stands : Stands_at a (ForeignKeyJoin l r fk kind set) 0 p.kinds) where
-  abbrev pub protocol_run : List (Event Key Row Row) → Protocol rules p r fk kind set
-  protocol_run events = run_of same_bytes (field_key fk) rules.hash (right_part rules p r) (joined_with kind set) events
+  abbrev site : JoinAt
+  site = join_at rules p a l r fk kind set
+
+  abbrev pub protocol_run : List (Event Key Row Row) → Seen
+  protocol_run events = run_of (protocol_of site) events
 
   pub record Sees (k : Key) (st : State) : Type 0 where
     pub waits : Waits rules p fits a l r fk kind set stands st
@@ -55,8 +57,8 @@ module _ (rules : Rules) (p : Plan) (fits : Fits p) (a l r : ℕ) (fk : List ℕ
         waits = waits_step rules p fits a l r fk kind set stands st s q (x ∷ rest) e h.waits;
         events = h.events ++ more.events;
         had = more.then;
-        is = more.is ∙ ap (λ j. fold (happen rules p r fk kind set) j more.events) h.is
-            ∙ sym (fold-append (happen rules p r fk kind set) (nothing_yet same_bytes (field_key fk) rules.hash (right_part rules p r) (joined_with kind set)) h.events more.events);
+        is = more.is ∙ ap (λ j. fold (happen site) j more.events) h.is
+            ∙ sym (fold-append (happen site) nothing_yet h.events more.events);
         within = more.within h.within;
       }
 
@@ -84,10 +86,10 @@ module _ (rules : Rules) (p : Plan) (fits : Fits p) (a l r : ℕ) (fk : List ℕ
   pub had_apart : (k : Key) (st : State) (h : Sees k st) → NoneCollides rules.hash (left_past rules p fits a l r fk kind set stands k st) → join.NoCollision rules.hash h.had
   had_apart k st h none = λ v w i j e. none v w (h.within v i) (h.within w j) e
 
-  abbrev pub IsSound : Protocol rules p r fk kind set → Type 0
-  IsSound j = Sound same_bytes keys_decided (field_key fk) rules.hash (right_part rules p r) (joined_with kind set) j
+  abbrev pub IsSound : Seen → Type 0
+  IsSound j = Sound (protocol_of site) keys_decided j
 
   pub sees_sound : (k : Key) (st : State) (h : Sees k st) → NoneCollides rules.hash (left_past rules p fits a l r fk kind set stands k st) → IsSound (see rules p fits a l r fk kind set stands k h.had st)
   sees_sound k st h none =
-      let had : h.had ≡ (protocol_run h.events).had = ap (λ (j : Protocol rules p r fk kind set). j.had) h.is in
-      subst IsSound (sym h.is) (Sound-run same_bytes keys_decided (field_key fk) rules.hash (right_part rules p r) (joined_with kind set) h.events (subst (join.NoCollision rules.hash) had (had_apart k st h none)))
+      let had : h.had ≡ (protocol_run h.events).had = ap (λ (j : Seen). j.had) h.is in
+      subst IsSound (sym h.is) (Sound-run (protocol_of site) keys_decided h.events (subst (join.NoCollision rules.hash) had (had_apart k st h none)))

@@ -4,7 +4,6 @@ use Rattle.std.specs.Prelude.{option_map}
 use Rattle.std.proofs.lemmas.Bool.Decides.{Decides-eqb}
 use Rattle.ks_row.specs.declared.record.TaskId.{TaskId}
 use Rattle.ks_row.specs.Parts.{same_task}
-use Rattle.ks_row.specs.FieldKeys.{field_key}
 use Rattle.ks_expr.specs.declared.terms.JoinKind.{JoinKind}
 use Rattle.ks_expr.specs.Terms.{Set}
 use Rattle.ks_expr.specs.Eval.{Row, same_bytes}
@@ -32,7 +31,7 @@ use Rattle.ks_def_tasks.specs.Rest.{home}
 use Rattle.ks_def_tasks.proofs.Names.{names, same_task-is, same_place-is, topic-is, topic_itself}
 use Rattle.ks_law_quiescence.specs.States.{State, row_at, home_task}
 use Rattle.ks_law_quiescence.specs.Taken.{messages}
-use Rattle.ks_law_quiescence.specs.ForeignJoin.{Event, Join, apply, accept, answer_to}
+use Rattle.ks_law_quiescence.specs.ForeignJoin.{Event, now_had, apply, accept, answer, answer_to}
 use Rattle.ks_law_quiescence.specs.ForeignJoin as join
 use Rattle.ks_law_quiescence.proofs.Each.{Each, each_parts}
 use Rattle.ks_law_quiescence.proofs.Fits.{Fits, each_at, stands_within}
@@ -40,13 +39,13 @@ use Rattle.ks_law_quiescence.proofs.Follow.{value_is}
 use Rattle.ks_law_quiescence.proofs.Mixed.{Stands_at, picked, step_sends_own, apart_asked, apart_answered}
 use Rattle.ks_law_quiescence.proofs.OneKey.{keys_decided}
 use Rattle.ks_law_quiescence.proofs.Placed.{FitsAt}
-use Rattle.ks_law_fk_quiescence.specs.Seen.{asks, answers, asked_by, answered_to, right_task, answers_place, asking_place, seen, right_part, joined_with}
+use Rattle.ks_law_fk_quiescence.specs.Seen.{asks, answers, asked_by, answered_to, right_task, answers_place, asking_place, seen, JoinAt, join_at, protocol_of, Seen, key_part}
 use Rattle.ks_law_fk_quiescence.specs.Joins.{IsAsking, IsAnswer}
 use Rattle.ks_law_fk_quiescence.proofs.Waits.{owner, left_home, beside, asking_parts, taken_by_right, asking_part, answering_part, asked_is, answered_is, Waits, IsAsked, IsAnswered, stays_unchanged}
 use Rattle.ks_law_fk_quiescence.proofs.Parts.{same_itself, same_turned, one_answers, asked-append, answered-append, for_key, for_other, asked_sent, for_own, answered_sent, all_answers}
 use Rattle.ks_law_fk_quiescence.proofs.Steps as steps
 use Rattle.ks_law_fk_quiescence.proofs.Steps.{either_same, unchanged}
-use Rattle.ks_law_fk_quiescence.proofs.Assembled.{Protocol, happen, both_events, left_sent, left_result, had_then, right_sent, rows_change, nothing_happens, response_happens, subscription_happens, same_right, direct_shown, respond_shown, applied_is}
+use Rattle.ks_law_fk_quiescence.proofs.Assembled.{happen, both_events, left_sent, left_result, rows_change, nothing_happens, response_happens, subscription_happens, same_right, direct_shown, respond_shown, applied_is}
 use Rattle.ks_law_fk_quiescence.proofs.Quiet.{no_items, quiet_values}
 use Rattle.ks_law_fk_quiescence.proofs.Past.{had_before, had_after, row_written}
 
@@ -59,25 +58,28 @@ and_false true = refl
 and_false false = refl
 
 -- one more row at most
-had_grows : (rules : Rules) (p : Plan) (r : ℕ) (fk : List ℕ) (kind : JoinKind) (set : Set) (w : Option Row) (had : List Row) (v : Row) → join.In v (had_then rules p r fk kind set w had) → (w ≡ Some v) ⊎ join.In v had
-had_grows rules p r fk kind set None had v i = inr i
-had_grows rules p r fk kind set (Some u) had v i = ⊎_elim (λ (e : v ≡ u). inl (ap (λ n. Some n) (sym e))) (λ m. inr m) i
+had_grows : (w : Option Row) (had : List Row) (v : Row) → In v (now_had w had) → (w ≡ Some v) ⊎ In v had
+had_grows None had v i = inr i
+had_grows (Some u) had v i = ⊎_elim (λ (e : v ≡ u). inl (ap (λ n. Some n) (sym e))) (λ m. inr m) i
 
 module _ (rules : Rules) (p : Plan) (fits : Fits p) (a l r : ℕ) (fk : List ℕ) (kind : JoinKind) (set : Set) (stands : Stands_at a (ForeignKeyJoin l r fk kind set) 0 p.kinds) where
-  abbrev pub see : Key → List Row → State → Protocol rules p r fk kind set
-  see k had st = seen rules p a l r k had st
+  abbrev site : JoinAt
+  site = join_at rules p a l r fk kind set
+
+  abbrev pub see : Key → List Row → State → Seen
+  see k had st = seen site k had st
 
   abbrev pub left_past : Key → State → List Row
   left_past k st = rows_had k (past p st l (home rules p l k))
 
   -- rows that were had are in the past of the left node's changelog
   abbrev pub IsPast : Key → List Row → State → Type 0
-  IsPast k had st = (v : Row) → join.In v had → In v (left_past k st)
+  IsPast k had st = (v : Row) → In v had → In v (left_past k st)
 
   pub record Step (k : Key) (had : List Row) (st next : State) : Type 0 where
     pub events : List (Event Key Row Row)
     pub then : List Row
-    pub is : see k then next ≡ fold (happen rules p r fk kind set) (see k had st) events
+    pub is : see k then next ≡ fold (happen site) (see k had st) events
     pub within : IsPast k had st → IsPast k then next
 
   module _ (st : State) (s : Option TaskId) (q : Place) (x : Item) (rest : List Item) (waits : st.waiting s q ≡ x ∷ rest) (h : Waits rules p fits a l r fk kind set stands st) (k : Key) (had : List Row) where
@@ -102,7 +104,7 @@ module _ (rules : Rules) (p : Plan) (fits : Fits p) (a l r : ℕ) (fk : List ℕ
     abbrev me : TaskId
     me = home_task rules p a k
 
-    abbrev j : Protocol rules p r fk kind set
+    abbrev j : Seen
     j = see k had st
 
     at_key : is_changelog q.topic ≡ false → FitsAt rules p q x.message
@@ -153,35 +155,35 @@ module _ (rules : Rules) (p : Plan) (fits : Fits p) (a l r : ℕ) (fk : List ℕ
       stored_same b = steps.hash_kept rules p st s q x rest a no_asking (home_task rules p r b) b k
 
       asked_grows : (key : Option Key) → step_key x.message ≡ key → (b : Key) →
-          (see k had next).subscriptions b ≡ j.subscriptions b ++ cond (same_task me t) (asked_by b k (picked rules p (asking_place rules p a r b) (asking_part rules p a l r fk now (olds_at now key) (news_at rules p arr items (olds_at now key) key) key))) []
+          (see k had next).subscriptions b ≡ j.subscriptions b ++ cond (same_task me t) (asked_by b k (picked rules p (asking_place site b) (asking_part rules p a l r fk now (olds_at now key) (news_at rules p arr items (olds_at now key) key) key))) []
       asked_grows key is b =
           steps.list_grows rules p st s q x rest (asked_by b k) (asked-append b k) refl me (Subscriptions a) (home rules p r b) refl no_asking
           ∙ ap (λ ms. j.subscriptions b ++ cond (same_task me t) (asked_by b k ms) []) (asked_sends key is (home rules p r b))
 
-      answers_alone : (key : Option Key) → step_key x.message ≡ key → picked rules p (answers_place rules p a k) (whole_step rules p now arr).sends
-          ≡ picked rules p (answers_place rules p a k) (answering_part rules p a l r fk now (olds_at now key) (news_at rules p arr items (olds_at now key) key) key)
+      answers_alone : (key : Option Key) → step_key x.message ≡ key → picked rules p (answers_place site k) (whole_step rules p now arr).sends
+          ≡ picked rules p (answers_place site k) (answering_part rules p a l r fk now (olds_at now key) (news_at rules p arr items (olds_at now key) key) key)
       answers_alone key is =
-          let part = picked rules p (answers_place rules p a k) (answering_part rules p a l r fk now (olds_at now key) (news_at rules p arr items (olds_at now key) key) key) in
+          let part = picked rules p (answers_place site k) (answering_part rules p a l r fk now (olds_at now key) (news_at rules p arr items (olds_at now key) key) key) in
           answered_sends key is (home rules p a k)
-          ∙ ap (λ b. part ++ picked rules p (answers_place rules p a k) (answer_one a now r (cond b (Some x.message) None))) no_asking ∙ append-nil part
+          ∙ ap (λ b. part ++ picked rules p (answers_place site k) (answer_one a now r (cond b (Some x.message) None))) no_asking ∙ append-nil part
 
     -- ---- a record of neither of the join's topics
     module _ (no_asking : same_topic q.topic (Subscriptions a) ≡ false) (no_answer : same_topic q.topic (Responses a) ≡ false) where
       answered_grows : (key : Option Key) → step_key x.message ≡ key → (i : ℕ) →
-          (see k had next).responses i ≡ j.responses i ++ cond (same_task (right_task p r i) t) (answered_to k (picked rules p (answers_place rules p a k) (answering_part rules p a l r fk now (olds_at now key) (news_at rules p arr items (olds_at now key) key) key))) []
+          (see k had next).responses i ≡ j.responses i ++ cond (same_task (right_task site i) t) (answered_to k (picked rules p (answers_place site k) (answering_part rules p a l r fk now (olds_at now key) (news_at rules p arr items (olds_at now key) key) key))) []
       answered_grows key is i =
-          steps.list_grows rules p st s q x rest (answered_to k) (answered-append k) refl (right_task p r i) (Responses a) (home rules p a k) refl no_answer
-          ∙ ap (λ ms. j.responses i ++ cond (same_task (right_task p r i) t) (answered_to k ms) []) (answers_alone no_asking key is)
+          steps.list_grows rules p st s q x rest (answered_to k) (answered-append k) refl (right_task site i) (Responses a) (home rules p a k) refl no_answer
+          ∙ ap (λ ms. j.responses i ++ cond (same_task (right_task site i) t) (answered_to k ms) []) (answers_alone no_asking key is)
 
       without_key : step_key x.message ≡ None → Step k had st next
       without_key none = record {
         events = [];
         then = had;
-        is = rows_change rules p r fk kind set false false j (see k had next) None k None
+        is = rows_change site false false j (see k had next) None k None
             (ap (option_map shown) (steps.table_kept rules p st s q x rest none me l k)) (ap (option_map shown) (steps.table_kept rules p st s q x rest none me a k)) refl
             (λ b. ap (option_map shown) (steps.table_kept rules p st s q x rest none (home_task rules p r b) r b)) (stored_same no_asking)
             (λ b. asked_grows no_asking None none b ∙ ap (λ l. j.subscriptions b ++ l) (either_same (same_task me t) []))
-            (λ i. answered_grows None none i ∙ ap (λ l. j.responses i ++ l) (either_same (same_task (right_task p r i) t) []));
+            (λ i. answered_grows None none i ∙ ap (λ l. j.responses i ++ l) (either_same (same_task (right_task site i) t) []));
         within = λ was v i. past_grows v (was v i);
       }
 
@@ -213,49 +215,49 @@ module _ (rules : Rules) (p : Plan) (fits : Fits p) (a l r : ℕ) (fk : List ℕ
         result_other : news c a ≡ cond left (direct_value fk kind set (row_in (olds c) l) w (olds c a)) (olds c a)
         result_other = result_value c ∙ ap (λ b. cond left (direct_value fk kind set (row_in (olds c) l) w (olds c a)) (responded rules kind set w (cond b (Some x.message) None) (olds c a))) no_answer
 
-        result_then : (see k had next).result ≡ cond (left && same_bytes k c) (left_result rules p r fk kind set j.row w j.result) j.result
+        result_then : (see k had next).result ≡ cond (left && same_bytes k c) (left_result site j.row w j.result) j.result
         result_then =
             steps.value_then rules p st s q x rest c is me a k (option_map shown) left left_mine
             (λ e. ap (option_map shown) (sym (result_other ∙ ap (λ b. cond b (direct_value fk kind set (row_in (olds c) l) w (olds c a)) (olds c a)) e)))
             ∙ by_tests left (same_bytes k c) refl refl
           where
-            by_tests : (g d : Bool) → left ≡ g → same_bytes k c ≡ d → cond (g && d) (option_map shown (news c a)) j.result ≡ cond (g && d) (left_result rules p r fk kind set j.row w j.result) j.result
+            by_tests : (g d : Bool) → left ≡ g → same_bytes k c ≡ d → cond (g && d) (option_map shown (news c a)) j.result ≡ cond (g && d) (left_result site j.row w j.result) j.result
             by_tests true true g d =
                 ap (option_map shown) (result_other ∙ ap (λ b. cond b (direct_value fk kind set (row_in (olds c) l) w (olds c a)) (olds c a)) g)
-                ∙ direct_shown rules p r fk kind set (row_in (olds c) l) w (olds c a)
-                ∙ ap₂ (λ (u : TaskId) (m : Key). left_result rules p r fk kind set (row_at st u l m) w (row_at st u a m)) (sym (left_mine g d)) (sym ((keys_decided k c).0 d))
+                ∙ direct_shown site (row_in (olds c) l) w (olds c a)
+                ∙ ap₂ (λ (u : TaskId) (m : Key). left_result site (row_at st u l m) w (row_at st u a m)) (sym (left_mine g d)) (sym ((keys_decided k c).0 d))
             by_tests true false g d = refl
             by_tests false true g d = refl
             by_tests false false g d = refl
 
-        asked_then : (b : Key) → (see k had next).subscriptions b ≡ j.subscriptions b ++ cond (left && same_bytes k c) (left_sent rules p r fk kind set j.row w b) []
+        asked_then : (b : Key) → (see k had next).subscriptions b ≡ j.subscriptions b ++ cond (left && same_bytes k c) (left_sent site j.row w b) []
         asked_then b = asked_grows no_asking (Some c) is b ∙ ap (λ l. j.subscriptions b ++ l) (by_tests (same_task me t) left (same_bytes k c) refl refl refl)
           where
             by_tests : (m g d : Bool) → same_task me t ≡ m → left ≡ g → same_bytes k c ≡ d →
-                cond m (asked_by b k (picked rules p (asking_place rules p a r b) (cond g (send_subscriptions a c (subscriptions rules.hash fk (row_in (olds c) l) w)) []))) [] ≡ cond (g && d) (left_sent rules p r fk kind set j.row w b) []
+                cond m (asked_by b k (picked rules p (asking_place site b) (cond g (send_subscriptions a c (subscriptions rules.hash fk (row_in (olds c) l) w)) []))) [] ≡ cond (g && d) (left_sent site j.row w b) []
             by_tests true true true m g d =
-                asked_sent rules p a r fk kind set (asking_parts rules p fits a l r fk kind set stands) b k c (subscriptions rules.hash fk (row_in (olds c) l) w)
+                asked_sent site (asking_parts rules p fits a l r fk kind set stands) b k c (subscriptions rules.hash fk (row_in (olds c) l) w)
                 ∙ ap (λ t. for_key b t (subscriptions rules.hash fk (row_in (olds c) l) w)) d
-                ∙ for_own rules p a r fk kind set (asking_parts rules p fits a l r fk kind set stands) b (row_in (olds c) l) w
-                ∙ ap₂ (λ (u : TaskId) (m : Key). left_sent rules p r fk kind set (row_at st u l m) w b) (sym (left_mine g d)) (sym ((keys_decided k c).0 d))
+                ∙ for_own site (asking_parts rules p fits a l r fk kind set stands) b (row_in (olds c) l) w
+                ∙ ap₂ (λ (u : TaskId) (m : Key). left_sent site (row_at st u l m) w b) (sym (left_mine g d)) (sym ((keys_decided k c).0 d))
             by_tests true true false m g d =
-                asked_sent rules p a r fk kind set (asking_parts rules p fits a l r fk kind set stands) b k c (subscriptions rules.hash fk (row_in (olds c) l) w)
+                asked_sent site (asking_parts rules p fits a l r fk kind set stands) b k c (subscriptions rules.hash fk (row_in (olds c) l) w)
                 ∙ ap (λ t. for_key b t (subscriptions rules.hash fk (row_in (olds c) l) w)) d ∙ for_other b (subscriptions rules.hash fk (row_in (olds c) l) w)
             by_tests true false d m g e = refl
             by_tests false true true m g d = let f : false ≡ true = sym m ∙ (same_task-is me t).1 (left_mine g d) in cc
             by_tests false true false m g d = refl
             by_tests false false d m g e = refl
 
-        answered_then : (i : ℕ) → (see k had next).responses i ≡ j.responses i ++ cond (right && nat_eq i (right_part rules p r c)) (right_sent rules p r fk kind set (j.stored c) y) []
+        answered_then : (i : ℕ) → (see k had next).responses i ≡ j.responses i ++ cond (right && nat_eq i (key_part site c)) (answer (j.stored c) y) []
         answered_then i = answered_grows (Some c) is i ∙ ap (λ l. j.responses i ++ l) (by_test right refl)
           where
-            by_test : (g : Bool) → right ≡ g → cond (same_task (right_task p r i) t) (answered_to k (picked rules p (answers_place rules p a k) (cond g (send_responses a (answer_all y (fin.entries (now.hashes a c)))) []))) []
-                ≡ cond (g && nat_eq i (right_part rules p r c)) (right_sent rules p r fk kind set (j.stored c) y) []
+            by_test : (g : Bool) → right ≡ g → cond (same_task (right_task site i) t) (answered_to k (picked rules p (answers_place site k) (cond g (send_responses a (answer_all y (fin.entries (now.hashes a c)))) []))) []
+                ≡ cond (g && nat_eq i (key_part site c)) (answer (j.stored c) y) []
             by_test true g = ap₂ (λ (m : Bool) l. cond m l [])
-                (ap (same_task (right_task p r i)) (right_owner g) ∙ same_right rules p r i c)
-                (answered_sent rules p a r fk kind set k (answer_all y (fin.entries (now.hashes a c))) ∙ all_answers rules p a r fk kind set k y (now.hashes a c)
-                ∙ ap (λ u. right_sent rules p r fk kind set (fin.get ((st.stores u).hashes a c) k) y) (right_owner g))
-            by_test false g = either_same (same_task (right_task p r i) t) []
+                (ap (same_task (right_task site i)) (right_owner g) ∙ same_right site i c)
+                (answered_sent site k (answer_all y (fin.entries (now.hashes a c))) ∙ all_answers site k y (now.hashes a c)
+                ∙ ap (λ u. answer (fin.get ((st.stores u).hashes a c) k) y) (right_owner g))
+            by_test false g = either_same (same_task (right_task site i) t) []
 
         left_within : l < 0 + length p.kinds
         left_within = stands_within 0 p.kinds a (ForeignKeyJoin l r fk kind set) stands left_before
@@ -272,17 +274,17 @@ module _ (rules : Rules) (p : Plan) (fits : Fits p) (a l r : ℕ) (fk : List ℕ
             had_after k v (past p st l (home rules p l k)) (cond (same_task (home_task rules p l k) t) (sent_to m (record { topic = Changelog l; part = home rules p l k }) made) [])
             (subst (λ b. In v (rows_had k (cond b (sent_to m (record { topic = Changelog l; part = home rules p l k }) made) []))) (sym ((same_task-is (home_task rules p l k) t).1 (sym owns))) mine)
 
-        then_within : IsPast k had st → (g d : Bool) → left ≡ g → same_bytes k c ≡ d → IsPast k (cond (g && d) (had_then rules p r fk kind set w had) had) next
-        then_within was true true g d v i = ⊎_elim (λ (e : w ≡ Some v). written g d v e) (λ m. past_grows v (was v m)) (had_grows rules p r fk kind set w had v i)
+        then_within : IsPast k had st → (g d : Bool) → left ≡ g → same_bytes k c ≡ d → IsPast k (cond (g && d) (now_had w had) had) next
+        then_within was true true g d v i = ⊎_elim (λ (e : w ≡ Some v). written g d v e) (λ m. past_grows v (was v m)) (had_grows w had v i)
         then_within was true false g d v i = past_grows v (was v i)
         then_within was false true g d v i = past_grows v (was v i)
         then_within was false false g d v i = past_grows v (was v i)
 
         with_key : Step k had st next
         with_key = record {
-          events = both_events rules p r fk kind set (left && same_bytes k c) right w c y;
-          then = cond (left && same_bytes k c) (had_then rules p r fk kind set w had) had;
-          is = rows_change rules p r fk kind set (left && same_bytes k c) right j (see k (cond (left && same_bytes k c) (had_then rules p r fk kind set w had) had) next) w c y
+          events = both_events site (left && same_bytes k c) right w c y;
+          then = cond (left && same_bytes k c) (now_had w had) had;
+          is = rows_change site (left && same_bytes k c) right j (see k (cond (left && same_bytes k c) (now_had w had) had) next) w c y
               (steps.row_then rules p st s q x rest c is me l k left_mine) result_then refl
               (λ b. steps.row_then rules p st s q x rest c is (home_task rules p r b) r b (right_mine b)) (stored_same no_asking) asked_then answered_then;
           within = λ was. then_within was left (same_bytes k c) refl refl;
@@ -293,14 +295,14 @@ module _ (rules : Rules) (p : Plan) (fits : Fits p) (a l r : ℕ) (fk : List ℕ
     channel_head u at b = at_channel (machine rules p) (names rules p) st.waiting u s at q (x ∷ rest) waits b
 
     -- ---- a response
-    module _ (at : q.topic ≡ Responses a) (n : Key) (y : Answer) (is : x.message ≡ Answered n y) (source : ℕ) (from : s ≡ Some (right_task p r source)) (fit : IsAnswer y.hash y.right) where
+    module _ (at : q.topic ≡ Responses a) (n : Key) (y : Answer) (is : x.message ≡ Answered n y) (source : ℕ) (from : s ≡ Some (right_task site source)) (fit : IsAnswer y.hash y.right) where
       key : step_key x.message ≡ Some n
       key = ap step_key is
 
       not_asked : same_topic q.topic (Subscriptions a) ≡ false
       not_asked = ap (λ v. same_topic v (Subscriptions a)) at
 
-      place : q ≡ answers_place rules p a n
+      place : q ≡ answers_place site n
       place =
           let part : q.part ≡ rules.part n (parts_of_topic p q.topic) = subst (FitsAt rules p q) is (at_key (ap is_changelog at)) in
           ap₂ (λ (v : Topic) (i : ℕ). record { topic = v; part = i }) at (part ∙ ap (λ v. rules.part n (parts_of_topic p v)) at)
@@ -324,16 +326,16 @@ module _ (rules : Rules) (p : Plan) (fits : Fits p) (a l r : ℕ) (fk : List ℕ
       asked_same b =
           let sent = send_subscriptions a n (subscriptions rules.hash fk (row_in (olds n) l) (row_in (news n) l)) in
           asked_grows not_asked (Some n) key b
-          ∙ ap (λ g. j.subscriptions b ++ cond (same_task me t) (asked_by b k (picked rules p (asking_place rules p a r b) (cond g sent []))) []) left_quiet
+          ∙ ap (λ g. j.subscriptions b ++ cond (same_task me t) (asked_by b k (picked rules p (asking_place site b) (cond g sent []))) []) left_quiet
           ∙ ap (λ l. j.subscriptions b ++ l) (either_same (same_task me t) []) ∙ append-nil (j.subscriptions b)
 
-      answers_rest : (i : ℕ) → (see k had next).responses i ≡ answered_to k (messages (cond (same_channel (machine rules p) (Some (right_task p r i)) (answers_place rules p a k) s q) rest (st.waiting (Some (right_task p r i)) (answers_place rules p a k))))
+      answers_rest : (i : ℕ) → (see k had next).responses i ≡ answered_to k (messages (cond (same_channel (machine rules p) (Some (right_task site i)) (answers_place site k) s q) rest (st.waiting (Some (right_task site i)) (answers_place site k))))
       answers_rest i =
-          let before = answered_to k (messages (cond (same_channel (machine rules p) (Some (right_task p r i)) (answers_place rules p a k) s q) rest (st.waiting (Some (right_task p r i)) (answers_place rules p a k)))) in
+          let before = answered_to k (messages (cond (same_channel (machine rules p) (Some (right_task site i)) (answers_place site k) s q) rest (st.waiting (Some (right_task site i)) (answers_place site k)))) in
           let sent = send_responses a (answer_all (row_in (news n) r) (fin.entries (now.hashes a n))) in
-          steps.list_then rules p st s q x rest (answered_to k) (answered-append k) refl (right_task p r i) (answers_place rules p a k) refl
-          ∙ ap (λ ms. before ++ cond (same_task (right_task p r i) t) (answered_to k ms) []) (answers_alone not_asked (Some n) key ∙ ap (λ g. picked rules p (answers_place rules p a k) (cond g sent [])) right_quiet)
-          ∙ ap (λ l. before ++ l) (either_same (same_task (right_task p r i) t) []) ∙ append-nil before
+          steps.list_then rules p st s q x rest (answered_to k) (answered-append k) refl (right_task site i) (answers_place site k) refl
+          ∙ ap (λ ms. before ++ cond (same_task (right_task site i) t) (answered_to k ms) []) (answers_alone not_asked (Some n) key ∙ ap (λ g. picked rules p (answers_place site k) (cond g sent [])) right_quiet)
+          ∙ ap (λ l. before ++ l) (either_same (same_task (right_task site i) t) []) ∙ append-nil before
 
       result_is : news n a ≡ set_result (respond rules.hash kind set (row_in (news n) l) y) (olds n a)
       result_is =
@@ -348,25 +350,25 @@ module _ (rules : Rules) (p : Plan) (fits : Fits p) (a l r : ℕ) (fk : List ℕ
       answer_here : same_bytes k n ≡ true → Step k had st next
       answer_here d =
           let same : k ≡ n = (keys_decided k n).0 d in
-          let to_me : answers_place rules p a k ≡ q = ap (answers_place rules p a) same ∙ sym place in
+          let to_me : answers_place site k ≡ q = ap (answers_place site) same ∙ sym place in
           let after = answered_to k (messages rest) in
-          let head : st.waiting (Some (right_task p r source)) (answers_place rules p a k) ≡ x ∷ rest = ap₂ st.waiting (sym from) to_me ∙ waits in
-          let channel : (i : ℕ) → same_channel (machine rules p) (Some (right_task p r i)) (answers_place rules p a k) s q ≡ nat_eq i source = λ i.
-          ap₂ (λ u v. same_channel (machine rules p) (Some (right_task p r i)) (answers_place rules p a k) u v) from (sym to_me)
-          ∙ ap₂ (λ b c. b && c) (ap (λ b. b && nat_eq i source) ((Decides-eqb (sub_of p r) (sub_of p r)).1 refl)) ((same_place-is (answers_place rules p a k) (answers_place rules p a k)).1 refl) ∙ and_true (nat_eq i source) in
+          let head : st.waiting (Some (right_task site source)) (answers_place site k) ≡ x ∷ rest = ap₂ st.waiting (sym from) to_me ∙ waits in
+          let channel : (i : ℕ) → same_channel (machine rules p) (Some (right_task site i)) (answers_place site k) s q ≡ nat_eq i source = λ i.
+          ap₂ (λ u v. same_channel (machine rules p) (Some (right_task site i)) (answers_place site k) u v) from (sym to_me)
+          ∙ ap₂ (λ b c. b && c) (ap (λ b. b && nat_eq i source) ((Decides-eqb (sub_of p r) (sub_of p r)).1 refl)) ((same_place-is (answers_place site k) (answers_place site k)).1 refl) ∙ and_true (nat_eq i source) in
           record {
             events = join.Event.ResponseComes source ∷ [];
             then = had;
-            is = response_happens rules p r fk kind set j (see k had next) source (answers y) after
+            is = response_happens site j (see k had next) source (answers y) after
                 (ap (λ l. answered_to k (messages l)) head ∙ ap (λ m. answered_to k (m ∷ messages rest)) is ∙ ap (λ b. cond b (answers y ∷ after) after) d)
                 (row_same me l k left_quiet)
-                (result_here ∙ ap (λ b. cond b (option_map shown (news n a)) j.result) d ∙ ap (option_map shown) result_is ∙ respond_shown rules p r fk kind set (row_in (news n) l) y (olds n a) fit
-                ∙ ap (λ w. accept same_bytes (field_key fk) rules.hash (right_part rules p r) (joined_with kind set) w (option_map shown (olds n a)) (answers y)) (sym (unchanged (olds n) (news n) l left_quiet))
-                ∙ ap₂ (λ (u : TaskId) (m : Key). accept same_bytes (field_key fk) rules.hash (right_part rules p r) (joined_with kind set) (row_at st u l m) (row_at st u a m) (answers y)) (taker_is ∙ ap (home_task rules p a) (sym same)) (sym same))
+                (result_here ∙ ap (λ b. cond b (option_map shown (news n a)) j.result) d ∙ ap (option_map shown) result_is ∙ respond_shown site (row_in (news n) l) y (olds n a) fit
+                ∙ ap (λ w. accept (protocol_of site) w (option_map shown (olds n a)) (answers y)) (sym (unchanged (olds n) (news n) l left_quiet))
+                ∙ ap₂ (λ (u : TaskId) (m : Key). accept (protocol_of site) (row_at st u l m) (row_at st u a m) (answers y)) (taker_is ∙ ap (home_task rules p a) (sym same)) (sym same))
                 refl
                 (λ b. row_same (home_task rules p r b) r b right_quiet) (stored_same not_asked) asked_same
-                (λ i. answers_rest i ∙ ap (λ b. answered_to k (messages (cond b rest (st.waiting (Some (right_task p r i)) (answers_place rules p a k))))) (channel i)
-                ∙ elim (nat_eq i source) as (λ b. answered_to k (messages (cond b rest (st.waiting (Some (right_task p r i)) (answers_place rules p a k)))) ≡ cond b after (j.responses i)) [ true ↦ refl | false ↦ refl ]);
+                (λ i. answers_rest i ∙ ap (λ b. answered_to k (messages (cond b rest (st.waiting (Some (right_task site i)) (answers_place site k))))) (channel i)
+                ∙ elim (nat_eq i source) as (λ b. answered_to k (messages (cond b rest (st.waiting (Some (right_task site i)) (answers_place site k)))) ≡ cond b after (j.responses i)) [ true ↦ refl | false ↦ refl ]);
             within = λ was v i. past_grows v (was v i);
           }
 
@@ -374,12 +376,12 @@ module _ (rules : Rules) (p : Plan) (fits : Fits p) (a l r : ℕ) (fk : List ℕ
       answer_other d = record {
         events = [];
         then = had;
-        is = nothing_happens rules p r fk kind set j (see k had next)
+        is = nothing_happens site j (see k had next)
             (row_same me l k left_quiet) (result_here ∙ ap (λ b. cond b (option_map shown (news n a)) j.result) d) refl
             (λ b. row_same (home_task rules p r b) r b right_quiet) (stored_same not_asked) asked_same
-            (λ i. answers_rest i ∙ elim (same_channel (machine rules p) (Some (right_task p r i)) (answers_place rules p a k) s q) as (λ b. same_channel (machine rules p) (Some (right_task p r i)) (answers_place rules p a k) s q ≡ b →
-            answered_to k (messages (cond b rest (st.waiting (Some (right_task p r i)) (answers_place rules p a k)))) ≡ j.responses i) [
-              | true ↦ λ b. sym (ap (λ l. answered_to k (messages l)) (channel_head (Some (right_task p r i)) (answers_place rules p a k) b) ∙ ap (λ m. answered_to k (m ∷ messages rest)) is
+            (λ i. answers_rest i ∙ elim (same_channel (machine rules p) (Some (right_task site i)) (answers_place site k) s q) as (λ b. same_channel (machine rules p) (Some (right_task site i)) (answers_place site k) s q ≡ b →
+            answered_to k (messages (cond b rest (st.waiting (Some (right_task site i)) (answers_place site k)))) ≡ j.responses i) [
+              | true ↦ λ b. sym (ap (λ l. answered_to k (messages l)) (channel_head (Some (right_task site i)) (answers_place site k) b) ∙ ap (λ m. answered_to k (m ∷ messages rest)) is
                   ∙ ap (λ c. cond c (answers y ∷ answered_to k (messages rest)) (answered_to k (messages rest))) d)
               | false ↦ λ b. refl
             ] refl);
@@ -397,7 +399,7 @@ module _ (rules : Rules) (p : Plan) (fits : Fits p) (a l r : ℕ) (fk : List ℕ
       not_answered : same_topic q.topic (Responses a) ≡ false
       not_answered = ap (λ v. same_topic v (Responses a)) at
 
-      place_asked : q ≡ asking_place rules p a r c
+      place_asked : q ≡ asking_place site c
       place_asked =
           let part : q.part ≡ rules.part c (parts_of_topic p q.topic) = subst (FitsAt rules p q) is (at_key (ap is_changelog at)) in
           ap₂ (λ (v : Topic) (i : ℕ). record { topic = v; part = i }) at (part ∙ ap (λ v. rules.part c (parts_of_topic p v)) at ∙ ap (rules.part c) (asking_parts rules p fits a l r fk kind set stands))
@@ -427,33 +429,33 @@ module _ (rules : Rules) (p : Plan) (fits : Fits p) (a l r : ℕ) (fk : List ℕ
           by_tests false true m d = let f : false ≡ true = sym m ∙ (same_task-is (home_task rules p r b) t).1 (ap (home_task rules p r) ((keys_decided b c).0 d) ∙ sym right_taker) in cc
           by_tests false false m d = refl
 
-      asks_rest : (b : Key) → (see k had next).subscriptions b ≡ asked_by b k (messages (cond (same_channel (machine rules p) (Some me) (asking_place rules p a r b) s q) rest (st.waiting (Some me) (asking_place rules p a r b))))
+      asks_rest : (b : Key) → (see k had next).subscriptions b ≡ asked_by b k (messages (cond (same_channel (machine rules p) (Some me) (asking_place site b) s q) rest (st.waiting (Some me) (asking_place site b))))
       asks_rest b =
-          let before = asked_by b k (messages (cond (same_channel (machine rules p) (Some me) (asking_place rules p a r b) s q) rest (st.waiting (Some me) (asking_place rules p a r b)))) in
-          steps.list_then rules p st s q x rest (asked_by b k) (asked-append b k) refl me (asking_place rules p a r b) refl
+          let before = asked_by b k (messages (cond (same_channel (machine rules p) (Some me) (asking_place site b) s q) rest (st.waiting (Some me) (asking_place site b)))) in
+          steps.list_then rules p st s q x rest (asked_by b k) (asked-append b k) refl me (asking_place site b) refl
           ∙ ap (λ ms. before ++ cond (same_task me t) (asked_by b k ms) []) (asked_sends None none (home rules p r b))
           ∙ ap (λ l. before ++ l) (either_same (same_task me t) []) ∙ append-nil before
 
-      answers_then : (i : ℕ) → (see k had next).responses i ≡ j.responses i ++ cond (nat_eq i (right_part rules p r c)) (cond (same_bytes k n) (answer_to same_bytes (field_key fk) rules.hash (right_part rules p r) (joined_with kind set) (asks y) (j.right c)) []) []
+      answers_then : (i : ℕ) → (see k had next).responses i ≡ j.responses i ++ cond (nat_eq i (key_part site c)) (cond (same_bytes k n) (answer_to (asks y) (j.right c)) []) []
       answers_then i =
           let there = option_map shown (fin.get (now.tables r) c) in
-          steps.list_grows rules p st s q x rest (answered_to k) (answered-append k) refl (right_task p r i) (Responses a) (home rules p a k) refl not_answered
-          ∙ ap (λ ms. j.responses i ++ cond (same_task (right_task p r i) t) (answered_to k ms) [])
-          (answered_sends None none (home rules p a k) ∙ ap (λ m. picked rules p (answers_place rules p a k) (answer_one a now r m)) here)
-          ∙ ap (λ l. j.responses i ++ cond (same_task (right_task p r i) t) l []) (answered_sent rules p a r fk kind set k (answer_of n (to_answer y there)) ∙ one_answers rules p a r fk kind set k n y.instruction y.hash there fit)
-          ∙ ap₂ (λ (b : Bool) (w : Option Row). j.responses i ++ cond b (cond (same_bytes k n) (answer_to same_bytes (field_key fk) rules.hash (right_part rules p r) (joined_with kind set) (asks y) w) []) [])
-          (ap (same_task (right_task p r i)) right_taker ∙ same_right rules p r i c) (ap (λ u. row_at st u r c) right_taker)
+          steps.list_grows rules p st s q x rest (answered_to k) (answered-append k) refl (right_task site i) (Responses a) (home rules p a k) refl not_answered
+          ∙ ap (λ ms. j.responses i ++ cond (same_task (right_task site i) t) (answered_to k ms) [])
+          (answered_sends None none (home rules p a k) ∙ ap (λ m. picked rules p (answers_place site k) (answer_one a now r m)) here)
+          ∙ ap (λ l. j.responses i ++ cond (same_task (right_task site i) t) l []) (answered_sent site k (answer_of n (to_answer y there)) ∙ one_answers site k n y.instruction y.hash there fit)
+          ∙ ap₂ (λ (b : Bool) (w : Option Row). j.responses i ++ cond b (cond (same_bytes k n) (answer_to (asks y) w) []) [])
+          (ap (same_task (right_task site i)) right_taker ∙ same_right site i c) (ap (λ u. row_at st u r c) right_taker)
 
       -- the head of a list that was taken, as b sees it
-      head_seen : (b : Key) (d e : Bool) → same_bytes c b ≡ d → same_bytes k n ≡ e → st.waiting (Some me) (asking_place rules p a r b) ≡ x ∷ rest →
+      head_seen : (b : Key) (d e : Bool) → same_bytes c b ≡ d → same_bytes k n ≡ e → st.waiting (Some me) (asking_place site b) ≡ x ∷ rest →
           j.subscriptions b ≡ cond (d && e) (asks y ∷ asked_by b k (messages rest)) (asked_by b k (messages rest))
       head_seen b d e f g head = ap (λ l. asked_by b k (messages l)) head ∙ ap (λ m. asked_by b k (m ∷ messages rest)) is
           ∙ ap₂ (λ u v. cond (u && v) (asks y ∷ asked_by b k (messages rest)) (asked_by b k (messages rest))) f g
 
       rest_of : (b : Key) (e : Bool) → same_bytes k n ≡ e → (same_bytes c b && e) ≡ false → (see k had next).subscriptions b ≡ j.subscriptions b
-      rest_of b e g apart = asks_rest b ∙ elim (same_channel (machine rules p) (Some me) (asking_place rules p a r b) s q) as (λ t. same_channel (machine rules p) (Some me) (asking_place rules p a r b) s q ≡ t →
-          asked_by b k (messages (cond t rest (st.waiting (Some me) (asking_place rules p a r b)))) ≡ j.subscriptions b) [
-            | true ↦ λ t. sym (head_seen b (same_bytes c b) e refl g (channel_head (Some me) (asking_place rules p a r b) t) ∙ ap (λ u. cond u (asks y ∷ asked_by b k (messages rest)) (asked_by b k (messages rest))) apart)
+      rest_of b e g apart = asks_rest b ∙ elim (same_channel (machine rules p) (Some me) (asking_place site b) s q) as (λ t. same_channel (machine rules p) (Some me) (asking_place site b) s q ≡ t →
+          asked_by b k (messages (cond t rest (st.waiting (Some me) (asking_place site b)))) ≡ j.subscriptions b) [
+            | true ↦ λ t. sym (head_seen b (same_bytes c b) e refl g (channel_head (Some me) (asking_place site b) t) ∙ ap (λ u. cond u (asks y ∷ asked_by b k (messages rest)) (asked_by b k (messages rest))) apart)
             | false ↦ λ t. refl
           ] refl
 
@@ -462,23 +464,23 @@ module _ (rules : Rules) (p : Plan) (fits : Fits p) (a l r : ℕ) (fk : List ℕ
           let same : k ≡ n = (keys_decided k n).0 d in
           let mine : s ≡ Some me = from ∙ ap (λ u. Some (home_task rules p a u)) (sym same) in
           let after = asked_by c k (messages rest) in
-          let head : st.waiting (Some me) (asking_place rules p a r c) ≡ x ∷ rest = ap₂ st.waiting (sym mine) (sym place_asked) ∙ waits in
+          let head : st.waiting (Some me) (asking_place site c) ≡ x ∷ rest = ap₂ st.waiting (sym mine) (sym place_asked) ∙ waits in
           record {
             events = join.Event.SubscriptionComes c ∷ [];
             then = had;
-            is = subscription_happens rules p r fk kind set j (see k had next) c (asks y) after (head_seen c true true (same_itself c) d head)
+            is = subscription_happens site j (see k had next) c (asks y) after (head_seen c true true (same_itself c) d head)
                 (row_kept me l k) (row_kept me a k) refl (λ b. row_kept (home_task rules p r b) r b)
-                (λ b. stored_is b ∙ ap₂ (λ u w. cond (same_bytes b c && u) w (j.stored b)) d (sym (applied_is rules p r fk kind set (j.stored c) y.instruction y.hash fit))
+                (λ b. stored_is b ∙ ap₂ (λ u w. cond (same_bytes b c && u) w (j.stored b)) d (sym (applied_is site (j.stored c) y.instruction y.hash fit))
                 ∙ ap (λ t. cond t (apply (j.stored c) (asks y)) (j.stored b)) (and_true (same_bytes b c)))
                 (λ b. elim (same_bytes b c) as (λ t. same_bytes b c ≡ t → (see k had next).subscriptions b ≡ cond t after (j.subscriptions b)) [
                   | true ↦ λ t.
                       let is_c : b ≡ c = (keys_decided b c).0 t in
-                      let channel : same_channel (machine rules p) (Some me) (asking_place rules p a r b) s q ≡ true =
-                      ap₂ (λ u v. same_channel (machine rules p) (Some me) (asking_place rules p a r b) u v) mine (place_asked ∙ ap (asking_place rules p a r) (sym is_c)) ∙ same_channel_refl (machine rules p) (names rules p) (Some me) (asking_place rules p a r b) in
-                      asks_rest b ∙ ap (λ t. asked_by b k (messages (cond t rest (st.waiting (Some me) (asking_place rules p a r b))))) channel ∙ ap (λ b. asked_by b k (messages rest)) is_c
+                      let channel : same_channel (machine rules p) (Some me) (asking_place site b) s q ≡ true =
+                      ap₂ (λ u v. same_channel (machine rules p) (Some me) (asking_place site b) u v) mine (place_asked ∙ ap (asking_place site) (sym is_c)) ∙ same_channel_refl (machine rules p) (names rules p) (Some me) (asking_place site b) in
+                      asks_rest b ∙ ap (λ t. asked_by b k (messages (cond t rest (st.waiting (Some me) (asking_place site b))))) channel ∙ ap (λ b. asked_by b k (messages rest)) is_c
                   | false ↦ λ t. rest_of b true d (ap (λ u. u && true) (same_turned c b ∙ t))
                 ] refl)
-                (λ i. answers_then i ∙ ap (λ u. j.responses i ++ cond (nat_eq i (right_part rules p r c)) (cond u (answer_to same_bytes (field_key fk) rules.hash (right_part rules p r) (joined_with kind set) (asks y) (j.right c)) []) []) d);
+                (λ i. answers_then i ∙ ap (λ u. j.responses i ++ cond (nat_eq i (key_part site c)) (cond u (answer_to (asks y) (j.right c)) []) []) d);
             within = λ was v i. past_grows v (was v i);
           }
 
@@ -486,11 +488,11 @@ module _ (rules : Rules) (p : Plan) (fits : Fits p) (a l r : ℕ) (fk : List ℕ
       asking_other d = record {
         events = [];
         then = had;
-        is = nothing_happens rules p r fk kind set j (see k had next) (row_kept me l k) (row_kept me a k) refl (λ b. row_kept (home_task rules p r b) r b)
+        is = nothing_happens site j (see k had next) (row_kept me l k) (row_kept me a k) refl (λ b. row_kept (home_task rules p r b) r b)
             (λ b. stored_is b ∙ ap (λ u. cond (same_bytes b c && u) (subscribed y) (j.stored b)) d ∙ ap (λ t. cond t (subscribed y) (j.stored b)) (and_false (same_bytes b c)))
             (λ b. rest_of b false d (and_false (same_bytes c b)))
-            (λ i. answers_then i ∙ ap (λ u. j.responses i ++ cond (nat_eq i (right_part rules p r c)) (cond u (answer_to same_bytes (field_key fk) rules.hash (right_part rules p r) (joined_with kind set) (asks y) (j.right c)) []) []) d
-            ∙ ap (λ l. j.responses i ++ l) (either_same (nat_eq i (right_part rules p r c)) []) ∙ append-nil (j.responses i));
+            (λ i. answers_then i ∙ ap (λ u. j.responses i ++ cond (nat_eq i (key_part site c)) (cond u (answer_to (asks y) (j.right c)) []) []) d
+            ∙ ap (λ l. j.responses i ++ l) (either_same (nat_eq i (key_part site c)) []) ∙ append-nil (j.responses i));
         within = λ was v i. past_grows v (was v i);
       }
 

@@ -37,7 +37,7 @@ use Rattle.ks_law_quiescence.proofs.Fits.{Fits, Beside, each_at}
 use Rattle.ks_law_quiescence.proofs.Mixed.{messages-append, Stands_at, picked, picked-append, made_is, step_sends_own, apart_asked, apart_answered}
 use Rattle.ks_law_quiescence.proofs.Placed.{FitsAt, Owned, Placed, values_owned, items_owned, fits_key, placed_step, placed_run}
 use Rattle.ks_law_fk_quiescence.specs.Joins.{IsAsking, IsAnswer}
-use Rattle.ks_law_fk_quiescence.specs.Seen.{right_task}
+use Rattle.ks_law_fk_quiescence.specs.Seen.{JoinAt, join_at, right_task}
 
 -- ---- a row is the same as itself
 field_itself : (f : Field) → same_field f f ≡ true
@@ -170,6 +170,9 @@ module _ (rules : Rules) (p : Plan) (a : ℕ) where
         ∙ ap (λ xs. xs ++ picked rules p q (answer_one a st r m)) (picked-append rules p q (asking_part (Some c)) (answering_part (Some c)) ∙ ap (λ xs. xs ++ picked rules p q (answering_part (Some c))) none)
 
 module _ (rules : Rules) (p : Plan) (fits : Fits p) (a l r : ℕ) (fk : List ℕ) (kind : JoinKind) (set : Set) (stands : Stands_at a (ForeignKeyJoin l r fk kind set) 0 p.kinds) where
+  abbrev site : JoinAt
+  site = join_at rules p a l r fk kind set
+
   abbrev pub beside : Beside p l a
   beside = (each_at p 0 p.kinds a (ForeignKeyJoin l r fk kind set) fits stands).0
 
@@ -181,7 +184,7 @@ module _ (rules : Rules) (p : Plan) (fits : Fits p) (a l r : ℕ) (fk : List ℕ
   IsAsked s m = ⊥
 
   abbrev pub IsAnswered : Option TaskId → Message → Type 0
-  IsAnswered s (Answered k x) = ((j : ℕ) × (s ≡ Some (right_task p r j))) × IsAnswer x.hash x.right
+  IsAnswered s (Answered k x) = ((j : ℕ) × (s ≡ Some (right_task site j))) × IsAnswer x.hash x.right
   IsAnswered s m = ⊥
 
   pub record Waits (st : RunState TaskId Place Store Item) : Type 0 where
@@ -189,7 +192,7 @@ module _ (rules : Rules) (p : Plan) (fits : Fits p) (a l r : ℕ) (fk : List ℕ
     pub asked : (s : Option TaskId) (j : ℕ) → Each (IsAsked s) (messages (st.waiting s (record { topic = Subscriptions a; part = j })))
     pub answered : (s : Option TaskId) (j : ℕ) → Each (IsAnswered s) (messages (st.waiting s (record { topic = Responses a; part = j })))
 
-  pub taken_by_right : (j : ℕ) → (machine rules p).reader (record { topic = Subscriptions a; part = j }) ≡ right_task p r j
+  pub taken_by_right : (j : ℕ) → (machine rules p).reader (record { topic = Subscriptions a; part = j }) ≡ right_task site j
   taken_by_right j = ap (λ k. record { sub = sub_of p (right_of k); part = j }) (kind_is p a (ForeignKeyJoin l r fk kind set) stands)
 
   pub asking_parts : parts_of_topic p (Subscriptions a) ≡ parts_of p r
@@ -229,7 +232,7 @@ module _ (rules : Rules) (p : Plan) (fits : Fits p) (a l r : ℕ) (fk : List ℕ
           | false ↦ λ e. each_nothing _
         ] refl
 
-    answers_each : (j : ℕ) → t ≡ right_task p r j → (rs : List (Key × Response)) → Each (λ (e : Key × Response). IsAnswer e.1.hash e.1.right) rs → Each (λ (s : Sent). IsAnswered (Some t) s.message) (send_responses a rs)
+    answers_each : (j : ℕ) → t ≡ right_task site j → (rs : List (Key × Response)) → Each (λ (e : Key × Response). IsAnswer e.1.hash e.1.right) rs → Each (λ (s : Sent). IsAnswered (Some t) s.message) (send_responses a rs)
     answers_each j is [] e = each_nothing _
     answers_each j is (y ∷ ys) e =
         let parts = each_parts (λ (e : Key × Response). IsAnswer e.1.hash e.1.right) y ys e in
@@ -266,7 +269,7 @@ module _ (rules : Rules) (p : Plan) (fits : Fits p) (a l r : ℕ) (fk : List ℕ
       | false ↦ λ e. each_nothing _
     ] refl
       where
-        by_message : t ≡ right_task p r q.part → (m : Message) (s : Option TaskId) → IsAsked s m → Each (IsAnswered (Some t)) (picked rules p (record { topic = Responses a; part = j }) (answer_one a st r (Some m)))
+        by_message : t ≡ right_task site q.part → (m : Message) (s : Option TaskId) → IsAsked s m → Each (IsAnswered (Some t)) (picked rules p (record { topic = Responses a; part = j }) (answer_one a st r (Some m)))
         by_message is (Asked b k y) s h =
             let row = option_map shown (fin.get (st.tables r) b) in
             picked_each rules p (IsAnswered (Some t)) (record { topic = Responses a; part = j }) (send_responses a (answer_of k (answer_to y row))) (answers_each q.part is (answer_of k (answer_to y row)) (one_answer y.instruction y.hash h.1 k row))

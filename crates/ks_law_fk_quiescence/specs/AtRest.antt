@@ -30,7 +30,8 @@ HashesRest = (rules : Rules) (d : DraftView) (records : List Input) (schedule : 
     let st = state_of rules p records schedule in
     IsDrained st → NoCollision rules p st →
     (n l r : ℕ) (fk : Name) (kind : JoinKind) (set : Set) → IsNode p n (ForeignKeyJoin l r fk kind set) → (u : TaskId) (b k : Key) →
-    map.get ((st.stores u).hashes n b) k ≡ cond (same_task u (home_task rules p r b)) (option_and_then (hash_for rules fk b) (row_at st (home_task rules p l k) l k)) None
+    map.get ((st.stores u).hashes n b) k
+    ≡ cond (same_task u (home_task rules p r b)) (option_and_then (hash_for rules fk b) (row_at st (home_task rules p l k) l k)) None
 
 -- and the join's table is the query's where its inputs are
 abbrev pub JoinsRest : Type 0

@@ -5,10 +5,10 @@ use Rattle.ks_row.specs.declared.record.TaskId.{TaskId}
 use Rattle.ks_row.specs.FieldKeys.{field_key}
 use Rattle.ks_expr.specs.declared.terms.JoinKind.{JoinKind}
 use Rattle.ks_expr.specs.Terms.{Set}
-use Rattle.ks_expr.specs.Eval.{Row, same_bytes, joined}
+use Rattle.ks_expr.specs.Eval.{Row, joined}
 use Rattle.ks_plan.specs.declared.node.Topic.TheVariants.{Subscriptions, Responses}
 use Rattle.ks_plan.specs.Drafts.{DraftView, Name}
-use Rattle.ks_plan.specs.Plan.{Plan, plan_of}
+use Rattle.ks_plan.specs.Plan.{plan_of}
 use Rattle.ks_plan.specs.Plan.Kind.{ForeignKeyJoin}
 use Rattle.ks_query.specs.Streams.{Key, Input}
 use Rattle.ks_def_tasks.specs.Messages.{Place, Instruction, Message, Rules}
@@ -16,12 +16,12 @@ use Rattle.ks_def_tasks.specs.Messages.Instruction.{Delete, DeleteAndAnswer, Ans
 use Rattle.ks_def_tasks.specs.Messages.Message.{Asked, Answered}
 use Rattle.ks_def_tasks.specs.Collision.{In, IsNode, NoCollision, past, rows_had}
 use Rattle.ks_def_tasks.specs.Rest.{home}
-use Rattle.ks_law_quiescence.specs.ForeignJoin.{Response, Join, apply, accept, same_key}
+use Rattle.ks_law_quiescence.specs.ForeignJoin.{Subscription, Response, apply, accept, same_key}
 use Rattle.ks_law_quiescence.specs.ForeignJoin.Subscription.{Forget, ForgetAndAnswer, Ask}
-use Rattle.ks_law_quiescence.specs.States.{State, state_of, home_task}
+use Rattle.ks_law_quiescence.specs.States.{State, state_of}
 use Rattle.ks_law_quiescence.specs.Taken.{messages}
 use Rattle.ks_law_quiescence.specs.WellFormed.{IsWellFormed}
-use Rattle.ks_law_fk_quiescence.specs.Seen.{seen, right_task, right_part, joined_with}
+use Rattle.ks_law_fk_quiescence.specs.Seen.{JoinAt, join_at, protocol_of, Seen, seen, left_task, left_part, right_task, key_part}
 use Rattle.ks_law_fk_quiescence.specs.AtRest.{hash_for}
 
 -- ---- what waits
@@ -38,102 +38,116 @@ IsAnswer None (Some y) = ⊥
 IsAnswer h y = Unit {0}
 
 -- a subscription comes from the task of its left key, and stands at the partition of its foreign key
-abbrev pub IsAskedAt : Rules → Plan → ℕ → ℕ → Option TaskId → ℕ → Message → Type 0
-IsAskedAt rules p n r s i (Asked b k x) = record {
-  sender : s ≡ Some (home_task rules p n k);
-  part : i ≡ home rules p r b;
+abbrev pub IsAskedAt : JoinAt → Option TaskId → ℕ → Message → Type 0
+IsAskedAt at s i (Asked b k x) = record {
+  sender : s ≡ Some (left_task at k);
+  part : i ≡ key_part at b;
   asks : IsAsking x.instruction x.hash;
 }
-IsAskedAt rules p n r s i m = ⊥
+IsAskedAt at s i m = ⊥
 
 -- a response comes from a task of the right side, and stands at the partition of its left key
-abbrev pub IsAnsweredAt : Rules → Plan → ℕ → ℕ → Option TaskId → ℕ → Message → Type 0
-IsAnsweredAt rules p n r s i (Answered k y) = record {
-  sender : (j : ℕ) × (s ≡ Some (right_task p r j));
-  part : i ≡ home rules p n k;
+abbrev pub IsAnsweredAt : JoinAt → Option TaskId → ℕ → Message → Type 0
+IsAnsweredAt at s i (Answered k y) = record {
+  sender : (j : ℕ) × (s ≡ Some (right_task at j));
+  part : i ≡ left_part at k;
   answers : IsAnswer y.hash y.right;
 }
-IsAnsweredAt rules p n r s i m = ⊥
+IsAnsweredAt at s i m = ⊥
 
 abbrev pub MessagesStand : Type 0
 MessagesStand = (rules : Rules) (d : DraftView) (records : List Input) (schedule : List (Option TaskId × Place)) → IsWellFormed d →
     let p = plan_of d in
     let st = state_of rules p records schedule in
-    (n l r : ℕ) (fk : Name) (kind : JoinKind) (set : Set) → IsNode p n (ForeignKeyJoin l r fk kind set) → (s : Option TaskId) (i : ℕ) (m : Message) →
+    (n l r : ℕ) (fk : Name) (kind : JoinKind) (set : Set) → IsNode p n (ForeignKeyJoin l r fk kind set) →
+    let at = join_at rules p n l r fk kind set in
+    (s : Option TaskId) (i : ℕ) (m : Message) →
     record {
-      asked : In m (messages (st.waiting s (record { topic = Subscriptions n; part = i }))) → IsAskedAt rules p n r s i m;
-      answered : In m (messages (st.waiting s (record { topic = Responses n; part = i }))) → IsAnsweredAt rules p n r s i m;
+      asked : In m (messages (st.waiting s (record { topic = Subscriptions n; part = i }))) → IsAskedAt at s i m;
+      answered : In m (messages (st.waiting s (record { topic = Responses n; part = i }))) → IsAnsweredAt at s i m;
     }
 
 -- ---- what a left key sees, with the rows that it has had
-abbrev pub seen_in : Rules → Plan → ℕ → ℕ → ℕ → Key → State → Join Key Row Row Row
-seen_in rules p n l r k st = seen rules p n l r k (rows_had k (past p st l (home rules p l k))) st
+abbrev pub seen_in : JoinAt → Key → State → Seen
+seen_in at k st = seen at k (rows_had k (past at.plan st at.left (home at.rules at.plan at.left k))) st
 
 -- a law of each left key of each join
-abbrev pub OfEach : (Rules → ℕ → Name → JoinKind → Set → Plan → Join Key Row Row Row → Type 0) → Type 0
+abbrev pub OfEach : (JoinAt → Seen → Type 0) → Type 0
 OfEach law = (rules : Rules) (d : DraftView) (records : List Input) (schedule : List (Option TaskId × Place)) → IsWellFormed d →
     let p = plan_of d in
     let st = state_of rules p records schedule in
     NoCollision rules p st →
-    (n l r : ℕ) (fk : Name) (kind : JoinKind) (set : Set) → IsNode p n (ForeignKeyJoin l r fk kind set) → (k : Key) →
-    law rules r fk kind set p (seen_in rules p n l r k st)
+    (n l r : ℕ) (fk : Name) (kind : JoinKind) (set : Set) → IsNode p n (ForeignKeyJoin l r fk kind set) →
+    let at = join_at rules p n l r fk kind set in
+    (k : Key) → law at (seen_in at k st)
 
 -- it has had a row with this foreign key and this hash
-abbrev pub HasHad : Rules → Name → Join Key Row Row Row → Key → ℕ → Type 0
-HasHad rules fk j b h = (v : Row) × (In v j.had) × (rules.hash v ≡ h) × (field_key fk v ≡ Some b)
+abbrev pub HasHad : JoinAt → Seen → Key → ℕ → Type 0
+HasHad at j b h = (v : Row) × (In v j.had) × (at.rules.hash v ≡ h) × (field_key at.fk v ≡ Some b)
 
 -- each hash that is stored, or waits in a subscription, is that of a row that the key has had whose foreign key is b; each waiting
 -- response with a hash comes from the task of the foreign key of a row that it has had with that hash
-abbrev pub HashesAreHad : Rules → ℕ → Name → JoinKind → Set → Plan → Join Key Row Row Row → Type 0
-HashesAreHad rules r fk kind set p j = record {
-  stored : (b : Key) (h : ℕ) → j.stored b ≡ Some h → HasHad rules fk j b h;
-  asked : (b : Key) (h : ℕ) → In (Ask h) (j.subscriptions b) → HasHad rules fk j b h;
-  answered : (i h : ℕ) (y : Option Row) → In (record { hash = Some h; row = y }) (j.responses i) → (b : Key) × (home rules p r b ≡ i) × HasHad rules fk j b h;
+abbrev pub HashesAreHad : JoinAt → Seen → Type 0
+HashesAreHad at j = record {
+  stored : (b : Key) (h : ℕ) → j.stored b ≡ Some h → HasHad at j b h;
+  asked : (b : Key) (h : ℕ) → In (Ask h) (j.subscriptions b) → HasHad at j b h;
+  answered : (i h : ℕ) (y : Option Row) → In (record { hash = Some h; row = y }) (j.responses i) →
+      (b : Key) × (key_part at b ≡ i) × HasHad at j b h;
 }
+
+-- the stored hash after all waiting subscriptions is the present row's where b is its foreign key, and none elsewhere
+abbrev pub HashesFollow : JoinAt → Seen → Type 0
+HashesFollow at j = (b : Key) → fold apply (j.stored b) (j.subscriptions b) ≡ option_and_then (hash_for at.rules at.fk b) j.row
 
 abbrev pub last : {A : Type 0} → List A → Option A
 last [] = None
 last (x ∷ xs) = option_or (last xs) (Some x)
 
--- the stored hash after all waiting subscriptions is the present row's where b is its foreign key, and none elsewhere
-abbrev pub HashesFollow : Rules → ℕ → Name → JoinKind → Set → Plan → Join Key Row Row Row → Type 0
-HashesFollow rules r fk kind set p j = (b : Key) → fold apply (j.stored b) (j.subscriptions b) ≡ option_and_then (hash_for rules fk b) j.row
+-- the last waiting subscription of a foreign key
+abbrev pub last_asked : Seen → Key → Option Subscription
+last_asked j b = last (j.subscriptions b)
 
 -- where b isn't the foreign key of the present row: the last waiting subscription is 0 or 1, or none waits and nothing is stored
-abbrev pub OthersAreForgotten : Rules → ℕ → Name → JoinKind → Set → Plan → Join Key Row Row Row → Type 0
-OthersAreForgotten rules r fk kind set p j = (b : Key) → option_and_then (field_key fk) j.row ≢ Some b →
-    ((last (j.subscriptions b) ≡ Some Forget) ⊎ (last (j.subscriptions b) ≡ Some ForgetAndAnswer)) ⊎ ((j.subscriptions b ≡ []) × (j.stored b ≡ None))
+abbrev pub OthersAreForgotten : JoinAt → Seen → Type 0
+OthersAreForgotten at j = (b : Key) → option_and_then (field_key at.fk) j.row ≢ Some b →
+    ((last_asked j b ≡ Some Forget) ⊎ (last_asked j b ≡ Some ForgetAndAnswer)) ⊎ ((j.subscriptions b ≡ []) × (j.stored b ≡ None))
 
 -- the row of the last response with this hash
 abbrev pub last_with : {Y : Type 0} → ℕ → List (Response Y) → Option (Option Y)
 last_with h [] = None
 last_with h (y ∷ ys) = option_or (last_with h ys) (cond (same_key nat_eq (Some h) y.hash) (Some y.row) None)
 
+-- the row of the last waiting response of a right task with this hash
+abbrev pub last_answer : Seen → ℕ → ℕ → Option (Option Row)
+last_answer j i h = last_with h (j.responses i)
+
 -- where the present row v has the foreign key a: the last waiting subscription is 2 with v's hash, or none waits, v's hash is stored,
 -- and either the last waiting response with it carries the right row of the moment, or none with it waits and the result is that
 -- row's; responses with v's hash come from a's task alone
-abbrev pub PresentIsAnswered : Rules → ℕ → Name → JoinKind → Set → Plan → Join Key Row Row Row → Type 0
-PresentIsAnswered rules r fk kind set p j = (v : Row) (a : Key) → j.row ≡ Some v → field_key fk v ≡ Some a →
+abbrev pub PresentIsAnswered : JoinAt → Seen → Type 0
+PresentIsAnswered at j = (v : Row) (a : Key) → j.row ≡ Some v → field_key at.fk v ≡ Some a →
+    let h = at.rules.hash v in
+    let part = key_part at a in
     record {
-      stands : (last (j.subscriptions a) ≡ Some (Ask (rules.hash v))) ⊎ record {
+      stands : (last_asked j a ≡ Some (Ask h)) ⊎ record {
         none_waits : j.subscriptions a ≡ [];
-        stored : j.stored a ≡ Some (rules.hash v);
-        answered : (last_with (rules.hash v) (j.responses (home rules p r a)) ≡ Some (j.right a))
-            ⊎ ((last_with (rules.hash v) (j.responses (home rules p r a)) ≡ None) × (j.result ≡ joined kind set (Some v) (j.right a)));
+        stored : j.stored a ≡ Some h;
+        answered : (last_answer j part h ≡ Some (j.right a))
+            ⊎ ((last_answer j part h ≡ None) × (j.result ≡ joined at.kind at.set (Some v) (j.right a)));
       };
-      alone : (i : ℕ) → i ≢ home rules p r a → last_with (rules.hash v) (j.responses i) ≡ None;
+      alone : (i : ℕ) → i ≢ part → last_answer j i h ≡ None;
     }
 
 -- the result after all waiting responses of the foreign key's task is the right row's of the moment
-abbrev pub ResultsFollow : Rules → ℕ → Name → JoinKind → Set → Plan → Join Key Row Row Row → Type 0
-ResultsFollow rules r fk kind set p j = (v : Row) (a : Key) → j.row ≡ Some v → field_key fk v ≡ Some a → j.subscriptions a ≡ [] →
-    fold (accept same_bytes (field_key fk) rules.hash (right_part rules p r) (joined_with kind set) (Some v)) j.result (j.responses (home rules p r a)) ≡ joined kind set (Some v) (j.right a)
+abbrev pub ResultsFollow : JoinAt → Seen → Type 0
+ResultsFollow at j = (v : Row) (a : Key) → j.row ≡ Some v → field_key at.fk v ≡ Some a → j.subscriptions a ≡ [] →
+    fold (accept (protocol_of at) (Some v)) j.result (j.responses (key_part at a)) ≡ joined at.kind at.set (Some v) (j.right a)
 
 -- without a left row: no result, or a subscription 1 or a response without a hash waits
-abbrev pub GoneIsTold : Rules → ℕ → Name → JoinKind → Set → Plan → Join Key Row Row Row → Type 0
-GoneIsTold rules r fk kind set p j = j.row ≡ None →
-    (j.result ≡ None) ⊎ (((b : Key) × In ForgetAndAnswer (j.subscriptions b)) ⊎ ((i : ℕ) × In (record { hash = None; row = None }) (j.responses i)))
+abbrev pub GoneIsTold : JoinAt → Seen → Type 0
+GoneIsTold at j = j.row ≡ None → (j.result ≡ None)
+    ⊎ (((b : Key) × In ForgetAndAnswer (j.subscriptions b)) ⊎ ((i : ℕ) × In (record { hash = None; row = None }) (j.responses i)))
 
 -- where the present row has no foreign key: the result is that of no right row
-abbrev pub AloneIsJoined : Rules → ℕ → Name → JoinKind → Set → Plan → Join Key Row Row Row → Type 0
-AloneIsJoined rules r fk kind set p j = (v : Row) → j.row ≡ Some v → field_key fk v ≡ None → j.result ≡ joined kind set (Some v) None
+abbrev pub AloneIsJoined : JoinAt → Seen → Type 0
+AloneIsJoined at j = (v : Row) → j.row ≡ Some v → field_key at.fk v ≡ None → j.result ≡ joined at.kind at.set (Some v) None

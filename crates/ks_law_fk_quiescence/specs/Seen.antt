@@ -1,10 +1,12 @@
--- A state of a run as one left key of a join on a foreign key sees it (KIP-213).
+-- A join on a foreign key where it stands in a plan, and a state of a run as one left key of it sees it (KIP-213).
 use Rattle.std.specs.Prelude.{ℕ, List, [], ◌∷◌, Option, Some, None, cond, ◌&&◌}
 use Rattle.ks_row.specs.declared.record.TaskId.{TaskId}
+use Rattle.ks_row.specs.FieldKeys.{field_key}
 use Rattle.ks_expr.specs.declared.terms.JoinKind.{JoinKind}
 use Rattle.ks_expr.specs.Terms.{Set}
 use Rattle.ks_expr.specs.Eval.{Row, same_bytes, joined}
 use Rattle.ks_wire.specs.declared.values.Response.{Response as Answer}
+use Rattle.ks_plan.specs.Drafts.{Name}
 use Rattle.ks_plan.specs.Plan.{Plan}
 use Rattle.ks_plan.specs.Layout.{sub_of}
 use Rattle.ks_plan.specs.declared.node.Topic.TheVariants.{Subscriptions, Responses}
@@ -16,9 +18,71 @@ use Rattle.ks_def_tasks.specs.Messages.Message.{Asked, Answered}
 use Rattle.ks_def_tasks.specs.Rest.{home}
 use Rattle.ks_law_quiescence.specs.States.{State, row_at, home_task}
 use Rattle.ks_law_quiescence.specs.Taken.{messages}
-use Rattle.ks_law_quiescence.specs.ForeignJoin.{Subscription, Response, Join}
+use Rattle.ks_law_quiescence.specs.ForeignJoin.{Protocol, Subscription, Response, Join}
 use Rattle.ks_law_quiescence.specs.ForeignJoin.Subscription.{Forget, ForgetAndAnswer, Ask}
 
+-- ---- a join on a foreign key
+pub record JoinAt : Type 0 where
+  -- how keys are spread and rows hashed, in which plan
+  pub rules : Rules
+  pub plan : Plan
+  -- the join's node, and those of its two sides
+  pub node : ℕ
+  pub left : ℕ
+  pub right : ℕ
+  -- the field of left rows that has the foreign key
+  pub fk : Name
+  pub kind : JoinKind
+  -- the fields of its own rows
+  pub set : Set
+
+abbrev pub join_at : Rules → Plan → ℕ → ℕ → ℕ → Name → JoinKind → Set → JoinAt
+join_at rules plan node left right fk kind set = record {
+  rules = rules;
+  plan = plan;
+  node = node;
+  left = left;
+  right = right;
+  fk = fk;
+  kind = kind;
+  set = set;
+}
+
+-- the task and the partition of a left key, and those of a foreign key
+abbrev pub left_task : JoinAt → Key → TaskId
+left_task at k = home_task at.rules at.plan at.node k
+
+abbrev pub left_part : JoinAt → Key → ℕ
+left_part at k = home at.rules at.plan at.node k
+
+abbrev pub key_task : JoinAt → Key → TaskId
+key_task at b = home_task at.rules at.plan at.right b
+
+abbrev pub key_part : JoinAt → Key → ℕ
+key_part at b = home at.rules at.plan at.right b
+
+-- the tasks of the right side by their partitions
+abbrev pub right_task : JoinAt → ℕ → TaskId
+right_task at j = record { sub = sub_of at.plan at.right; part = j }
+
+-- where the answers to a left key come, and the subscriptions for a foreign key
+abbrev pub answers_place : JoinAt → Key → Place
+answers_place at k = record { topic = Responses at.node; part = left_part at k }
+
+abbrev pub asking_place : JoinAt → Key → Place
+asking_place at b = record { topic = Subscriptions at.node; part = key_part at b }
+
+-- the protocol that it keeps to
+abbrev pub protocol_of : JoinAt → Protocol Key Row Row Row
+protocol_of at = record {
+  alike = same_bytes;
+  foreign_key = field_key at.fk;
+  hash = at.rules.hash;
+  part = key_part at;
+  joined = λ v y. joined at.kind at.set (Some v) y;
+}
+
+-- ---- messages, as the protocol has them
 -- an instruction with a hash; those that are never sent count as the first
 abbrev pub asking : Instruction → Option ℕ → Subscription
 asking Delete hash = Forget
@@ -45,32 +109,17 @@ answered_to k [] = []
 answered_to k (Answered q r ∷ ms) = cond (same_bytes k q) (answers r ∷ answered_to k ms) (answered_to k ms)
 answered_to k (m ∷ ms) = answered_to k ms
 
--- the tasks of the join n and of its right side by their partitions
-abbrev pub right_task : Plan → ℕ → ℕ → TaskId
-right_task p r j = record { sub = sub_of p r; part = j }
+-- ---- a state as a left key of the join sees it; the rows that the key has had are given
+abbrev pub Seen : Type 0
+Seen = Join Key Row Row Row
 
--- where the left key's answers come, and the foreign key's subscriptions
-abbrev pub answers_place : Rules → Plan → ℕ → Key → Place
-answers_place rules p n k = record { topic = Responses n; part = home rules p n k }
-
-abbrev pub asking_place : Rules → Plan → ℕ → ℕ → Key → Place
-asking_place rules p n r b = record { topic = Subscriptions n; part = home rules p r b }
-
--- the left key k of the join n of the nodes l and r; the rows that it has had are given
-abbrev pub seen : Rules → Plan → ℕ → ℕ → ℕ → Key → List Row → State → Join Key Row Row Row
-seen rules p n l r k had st = record {
-  row = row_at st (home_task rules p n k) l k;
-  result = row_at st (home_task rules p n k) n k;
+abbrev pub seen : JoinAt → Key → List Row → State → Seen
+seen at k had st = record {
+  row = row_at st (left_task at k) at.left k;
+  result = row_at st (left_task at k) at.node k;
   had = had;
-  right = λ b. row_at st (home_task rules p r b) r b;
-  stored = λ b. map.get ((st.stores (home_task rules p r b)).hashes n b) k;
-  subscriptions = λ b. asked_by b k (messages (st.waiting (Some (home_task rules p n k)) (asking_place rules p n r b)));
-  responses = λ j. answered_to k (messages (st.waiting (Some (right_task p r j)) (answers_place rules p n k)));
+  right = λ b. row_at st (key_task at b) at.right b;
+  stored = λ b. map.get ((st.stores (key_task at b)).hashes at.node b) k;
+  subscriptions = λ b. asked_by b k (messages (st.waiting (Some (left_task at k)) (asking_place at b)));
+  responses = λ j. answered_to k (messages (st.waiting (Some (right_task at j)) (answers_place at k)));
 }
-
--- the functions of the join's protocol
-abbrev pub joined_with : JoinKind → Set → Row → Option Row → Option Row
-joined_with kind set v y = joined kind set (Some v) y
-
-abbrev pub right_part : Rules → Plan → ℕ → Key → ℕ
-right_part rules p r b = home rules p r b
