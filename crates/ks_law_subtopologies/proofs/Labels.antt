@@ -81,11 +81,11 @@ either_greater Q x y a b = ⊎_elim (λ (e : x ≡ y). let f : max x y ≡ x = o
 -- ---- the labels of the first nodes
 module _ (p : Plan) (ordered : InputsComeFirst p) where
   -- each label is that of a node before it which labels itself; it is connected with it; an edge joins nodes of one label
-  record Labelled (ls : List ℕ) : Type 0 where
-    low : (i : ℕ) → i < length ls → at ls i ≤ i
-    own : (i : ℕ) → i < length ls → at ls (at ls i) ≡ at ls i
-    linked : (i : ℕ) → i < length ls → Connected p i (at ls i)
-    edges : (i m : ℕ) → i < length ls → LiesWith p i m → at ls i ≡ at ls m
+  pub record Labelled (ls : List ℕ) : Type 0 where
+    pub low : (i : ℕ) → i < length ls → at ls i ≤ i
+    pub own : (i : ℕ) → i < length ls → at ls (at ls i) ≡ at ls i
+    pub linked : (i : ℕ) → i < length ls → Connected p i (at ls i)
+    pub edges : (i m : ℕ) → i < length ls → LiesWith p i m → at ls i ≡ at ls m
 
   -- one more node, which labels itself or is labelled as one before it
   grown : (ls : List ℕ) (x : ℕ) → Labelled ls → x ≤ length ls → at (ls ++ x ∷ []) x ≡ x → Connected p (length ls) x → ((m : ℕ) → LiesWith p (length ls) m → x ≡ at ls m) → Labelled (ls ++ x ∷ [])
@@ -233,7 +233,7 @@ module _ (p : Plan) (ordered : InputsComeFirst p) where
       let more = labelled_all (label_next ls k) (suc n) ks (omega (arith, e, label_count ls k)) next places.1 in
       (more.0, omega (arith, more.1))
 
-  all_labels : Labelled (labels p) × (length (labels p) ≡ 0 + length p.kinds)
+  pub all_labels : Labelled (labels p) × (length (labels p) ≡ 0 + length p.kinds)
   all_labels = labelled_all [] 0 p.kinds refl (record {
     low = λ i lt. absurd (omega (arith, lt));
     own = λ i lt. absurd (omega (arith, lt));
@@ -241,7 +241,7 @@ module _ (p : Plan) (ordered : InputsComeFirst p) where
     edges = λ i m lt d. absurd (omega (arith, lt));
   }) (at_places p [] p.kinds refl 0 refl)
 
-  within : (n : ℕ) → n < length p.kinds → n < length (labels p)
+  pub within : (n : ℕ) → n < length p.kinds → n < length (labels p)
   within n lt = omega (arith, lt, all_labels.1)
 
   -- ---- connected nodes have one label

@@ -46,3 +46,39 @@ SameSubtopologyIsConnected = (p : Plan) → InputsComeFirst p → (n m : ℕ) �
 -- connected nodes are in one subtopology
 abbrev pub ConnectedIsSameSubtopology : Type 0
 ConnectedIsSameSubtopology = (p : Plan) → InputsComeFirst p → (n m : ℕ) → Connected p n m → sub_of p n ≡ sub_of p m
+
+-- ---- their numbers
+-- f is the first node that n is connected with
+pub record IsFirstOf (p : Plan) (n f : ℕ) : Type 0 where
+  pub connected : Connected p n f
+  pub least : (m : ℕ) → Connected p n m → f ≤ m
+
+-- a node that begins a subtopology: none before it is connected with it
+abbrev pub IsFirst : Plan → ℕ → Type 0
+IsFirst p n = IsFirstOf p n n
+
+-- of the nodes below n, c are the first of their subtopologies
+pub data HasFirsts (p : Plan) : ℕ → ℕ → Type 0 where
+  NoNodes : HasFirsts p 0 0
+  OneMore : (n c : ℕ) → HasFirsts p n c → IsFirst p n → HasFirsts p (suc n) (suc c)
+  AsMany : (n c : ℕ) → HasFirsts p n c → (IsFirst p n → ⊥) → HasFirsts p (suc n) c
+
+-- a node's label is the first node that it is connected with
+abbrev pub LabelsAreFirstNodes : Type 0
+LabelsAreFirstNodes = (p : Plan) → InputsComeFirst p → (n : ℕ) → n < length p.kinds → IsFirstOf p n (at (labels p) n)
+
+-- the number of a node's subtopology is how many subtopologies begin before its own
+abbrev pub SubtopologiesAreNumberedByFirstNodes : Type 0
+SubtopologiesAreNumberedByFirstNodes = (p : Plan) → InputsComeFirst p → (n f : ℕ) → n < length p.kinds → IsFirstOf p n f → HasFirsts p f (sub_of p n)
+
+-- a plan has as many subtopologies as nodes that begin one
+abbrev pub SubtopologiesAreCounted : Type 0
+SubtopologiesAreCounted = (p : Plan) → InputsComeFirst p → HasFirsts p (length p.kinds) (sub_count p)
+
+-- each node lies in one of them
+abbrev pub NodesLieInSubtopologies : Type 0
+NodesLieInSubtopologies = (p : Plan) → InputsComeFirst p → (n : ℕ) → n < length p.kinds → sub_of p n < sub_count p
+
+-- and in each of them lies a node
+abbrev pub SubtopologiesHaveNodes : Type 0
+SubtopologiesHaveNodes = (p : Plan) → InputsComeFirst p → (s : ℕ) → s < sub_count p → (n : ℕ) × (n < length p.kinds) × (sub_of p n ≡ s)

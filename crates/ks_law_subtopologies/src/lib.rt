@@ -1,11 +1,23 @@
 //! Which nodes are in one subtopology. Laws alone: each public function has an empty body, and its contract is the law.
 #![tactic(auto)]
 
-ghost use Rattle.ks_law_subtopologies.specs.Connected.{SameSubtopologyIsConnected, ConnectedIsSameSubtopology};
+ghost use Rattle.ks_law_subtopologies.specs.Connected.{
+    SameSubtopologyIsConnected, ConnectedIsSameSubtopology, LabelsAreFirstNodes, SubtopologiesAreNumberedByFirstNodes, SubtopologiesAreCounted, NodesLieInSubtopologies, SubtopologiesHaveNodes
+};
 
 /// In every plan whose nodes read only nodes that are numbered before them: two nodes are in the same subtopology exactly when they are
 /// connected by edges with no repartition topic between.
 pub fn a_subtopology_is_what_is_connected()
     ensures connected { SameSubtopologyIsConnected }
     ensures same { ConnectedIsSameSubtopology }
+{}
+
+/// In every such plan: a node's label is the first node that it is connected with; the number of its subtopology is how many subtopologies
+/// begin before its own; and there are as many subtopologies as nodes that begin one, each with a node in it.
+pub fn subtopologies_are_numbered_by_first_nodes()
+    ensures label { LabelsAreFirstNodes }
+    ensures number { SubtopologiesAreNumberedByFirstNodes }
+    ensures count { SubtopologiesAreCounted }
+    ensures within { NodesLieInSubtopologies }
+    ensures inhabited { SubtopologiesHaveNodes }
 {}
