@@ -1,10 +1,11 @@
 -- Which nodes are in one subtopology: those that are connected by edges with no repartition topic between.
 -- Kafka Streams developer guide, "Architecture: stream partitions and tasks": a sub-topology is a set of processors that are connected
 -- without a topic between them; a repartition topic ends one and begins the next.
-use Rattle.std.specs.Prelude.{◌≡◌, ℕ, zero, suc, ◌<◌, ◌≤◌, List, length, Bool, false, ◌⊎◌}
+use Rattle.std.specs.Prelude.{◌≡◌, ℕ, zero, suc, ◌<◌, ◌≤◌, List, length, None, Bool, false, ◌⊎◌}
 use Rattle.ks_plan.specs.Drafts.{DraftView}
 use Rattle.ks_plan.specs.Plan.{Plan, Kind, plan_of}
 use Rattle.ks_plan.specs.Plan.Kind.{StreamSource, TableSource, StreamFilter, TableFilter, StreamMap, TableMap, KeySelected, StreamAggregate, TableAggregate, Windowed, KeyJoin, ForeignKeyJoin}
+use Rattle.ks_plan.specs.Faults.{fault_of}
 use Rattle.ks_plan.specs.Layout.{at, kind_at, labels, sub_of, sub_count}
 
 -- a node reads node m with no repartition topic between: sources read topics, a count or sum of a table is always behind a repartition
@@ -37,6 +38,10 @@ pub data Connected (p : Plan) : ℕ → ℕ → Type 0 where
 -- an edge leads to a node that is numbered before
 abbrev pub InputsComeFirst : Plan → Type 0
 InputsComeFirst p = (n m : ℕ) → LiesWith p n m → m < n
+
+-- so it is in the plan of every draft without a fault
+abbrev pub WellFormedInputsComeFirst : Type 0
+WellFormedInputsComeFirst = (d : DraftView) → fault_of d ≡ None → InputsComeFirst (plan_of d)
 
 -- ---- the laws
 -- nodes in one subtopology are connected

@@ -2,8 +2,13 @@
 #![tactic(auto)]
 
 ghost use Rattle.ks_law_subtopologies.specs.Connected.{
-    SameSubtopologyIsConnected, ConnectedIsSameSubtopology, LabelsAreFirstNodes, SubtopologiesAreNumberedByFirstNodes, SubtopologiesAreCounted, NodesLieInSubtopologies, SubtopologiesHaveNodes
+    WellFormedInputsComeFirst, SameSubtopologyIsConnected, ConnectedIsSameSubtopology, LabelsAreFirstNodes, SubtopologiesAreNumberedByFirstNodes, SubtopologiesAreCounted, NodesLieInSubtopologies, SubtopologiesHaveNodes
 };
+
+/// The plan of every draft without a fault is such as the laws below ask: its nodes read only nodes that are numbered before them.
+pub fn inputs_come_first()
+    ensures { WellFormedInputsComeFirst }
+{}
 
 /// In every plan whose nodes read only nodes that are numbered before them: two nodes are in the same subtopology exactly when they are
 /// connected by edges with no repartition topic between.
