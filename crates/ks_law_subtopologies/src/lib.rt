@@ -4,6 +4,7 @@
 ghost use Rattle.ks_law_subtopologies.specs.Connected.{
     WellFormedInputsComeFirst, SameSubtopologyIsConnected, ConnectedIsSameSubtopology, LabelsAreFirstNodes, SubtopologiesAreNumberedByFirstNodes, SubtopologiesAreCounted, NodesLieInSubtopologies, SubtopologiesHaveNodes
 };
+ghost use Rattle.ks_law_subtopologies.specs.Topics.{NumbersArePlaces, TopicsStandAtTheirNumbers, TopicsHaveTheirOwnNumbers};
 
 /// The plan of every draft without a fault is such as the laws below ask: its nodes read only nodes that are numbered before them.
 pub fn inputs_come_first()
@@ -25,4 +26,11 @@ pub fn subtopologies_are_numbered_by_first_nodes()
     ensures count { SubtopologiesAreCounted }
     ensures within { NodesLieInSubtopologies }
     ensures inhabited { SubtopologiesHaveNodes }
+{}
+
+/// In every plan: a topic's number is its place in the list of topics, at its number stands that topic, and no two have one number.
+pub fn topics_have_their_own_numbers()
+    ensures place { NumbersArePlaces }
+    ensures topic { TopicsStandAtTheirNumbers }
+    ensures own { TopicsHaveTheirOwnNumbers }
 {}
