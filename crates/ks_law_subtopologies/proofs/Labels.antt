@@ -1,5 +1,5 @@
 -- Labels are connected: each node's label is the first node that it is connected with.
-use Rattle.std.proofs.Common.{◌≡◌, ℕ, zero, suc, ◌+◌, ◌≤◌, ◌<◌, Bool, true, false, cond, List, length, length-append, [], ◌∷◌, ◌++◌, map, fold, get_or, refl, sym, ap, ap₂, subst, ◌∙◌, arith, append_assoc, nat_eq, ⊎_elim, ◌⊎◌, inl, inr}
+use Rattle.std.proofs.Common.{◌≡◌, ℕ, zero, suc, ◌+◌, ◌≤◌, ◌<◌, true, false, cond, List, length, length-append, [], ◌∷◌, ◌++◌, map, fold, get_or, refl, sym, ap, ap₂, subst, ◌∙◌, arith, append_assoc, nat_eq, ⊎_elim, ◌⊎◌, inl, inr}
 use Rattle.std.specs.Prelude.{min, max}
 use Rattle.std.proofs.lemmas.List.{length-map}
 use Rattle.std.proofs.lemmas.Bool.{eqb-false, cases_order}
@@ -39,7 +39,7 @@ abbrev AtPlace : Plan → ℕ → List Kind → Type 0
 AtPlace p n [] = Unit {0}
 AtPlace p n (k ∷ ks) = (kind_at p n ≡ k) × AtPlace p (suc n) ks
 
-get_end : (xs : List Kind) (x : Kind) (ys : List Kind) → get_or (xs ++ x ∷ ys) (length xs) no_kind ≡ x
+pub get_end : (xs : List Kind) (x : Kind) (ys : List Kind) → get_or (xs ++ x ∷ ys) (length xs) no_kind ≡ x
 get_end [] x ys = refl
 get_end (y ∷ xs) x ys = get_end xs x ys
 
@@ -50,7 +50,7 @@ at_places p before (k ∷ ks) is n e = (
   at_places p (before ++ k ∷ []) ks (is ∙ sym (append_assoc before (k ∷ []) ks)) (suc n) (omega (arith, e, length-append before (k ∷ []))),
 )
 
-kind_past : (ks : List Kind) (n : ℕ) → length ks ≤ n → get_or ks n no_kind ≡ no_kind
+pub kind_past : (ks : List Kind) (n : ℕ) → length ks ≤ n → get_or ks n no_kind ≡ no_kind
 kind_past [] n le = refl
 kind_past (k ∷ ks) zero le = absurd (omega arith)
 kind_past (k ∷ ks) (suc n) le = kind_past ks n (omega arith)
@@ -198,13 +198,13 @@ module _ (p : Plan) (ordered : InputsComeFirst p) where
     labelled_next (StreamAggregate f y field true) e = fresh ls h (λ m d. not_through (subst (λ k. ReadsDirectly k m) e d).0)
       where
         not_through : true ≡ false → ⊥
-        not_through g = cc
+        not_through same = cc
     labelled_next (StreamAggregate f y field false) e = follows ls f h (subst (λ k. ReadsDirectly k f) (sym e) (refl, refl)) (λ m d. (subst (λ k. ReadsDirectly k m) e d).1)
     labelled_next (TableAggregate f y field) e = fresh ls h (λ m d. subst (λ k. ReadsDirectly k m) e d)
     labelled_next (Windowed f y w true) e = fresh ls h (λ m d. not_through (subst (λ k. ReadsDirectly k m) e d).0)
       where
         not_through : true ≡ false → ⊥
-        not_through g = cc
+        not_through same = cc
     labelled_next (Windowed f y w false) e = follows ls f h (subst (λ k. ReadsDirectly k f) (sym e) (refl, refl)) (λ m d. (subst (λ k. ReadsDirectly k m) e d).1)
     labelled_next (KeyJoin l r kind s) e = joins ls l r h (subst (λ k. ReadsDirectly k l) (sym e) (inl refl)) (subst (λ k. ReadsDirectly k r) (sym e) (inr refl)) (λ m d. subst (λ k. ReadsDirectly k m) e d)
     labelled_next (ForeignKeyJoin l r key kind s) e = follows ls l h (subst (λ k. ReadsDirectly k l) (sym e) refl) (λ m d. subst (λ k. ReadsDirectly k m) e d)

@@ -1,12 +1,12 @@
 -- Subtopologies are numbered by their first nodes.
-use Rattle.std.proofs.Common.{◌≡◌, ℕ, zero, suc, ◌+◌, ◌≤◌, ◌<◌, Bool, true, false, cond, List, length, [], ◌∷◌, refl, sym, ap, subst, ◌∙◌, arith, nat_eq, ⊎_elim, ◌⊎◌, inl, inr}
+use Rattle.std.proofs.Common.{◌≡◌, ℕ, zero, suc, ◌+◌, ◌≤◌, ◌<◌, Bool, true, false, cond, List, length, [], ◌∷◌, refl, sym, ap, subst, ◌∙◌, arith, nat_eq, ⊎_elim, ◌⊎◌}
 use Rattle.std.proofs.lemmas.Bool.{eqb-false, cases_order}
 use Rattle.std.proofs.lemmas.Bool.Decides.{Decides-eqb}
 use Rattle.ks_plan.specs.Plan.{Plan}
 use Rattle.ks_plan.specs.Layout.{at, labels, firsts, sub_of, sub_count}
-use Rattle.ks_law_subtopologies.specs.Connected.{Connected, InputsComeFirst, IsFirstOf, IsFirst, HasFirsts, LabelsAreFirstNodes, SubtopologiesAreNumberedByFirstNodes, SubtopologiesAreCounted, NodesLieInSubtopologies, SubtopologiesHaveNodes}
+use Rattle.ks_law_subtopologies.specs.Connected.{InputsComeFirst, IsFirstOf, IsFirst, HasFirsts, LabelsAreFirstNodes, SubtopologiesAreNumberedByFirstNodes, SubtopologiesAreCounted, NodesLieInSubtopologies, SubtopologiesHaveNodes}
 use Rattle.ks_law_subtopologies.specs.Connected.HasFirsts.{NoNodes, OneMore, AsMany}
-use Rattle.ks_law_subtopologies.proofs.Labels.{Labelled, all_labels, within, one_label, firsts-more}
+use Rattle.ks_law_subtopologies.proofs.Labels.{all_labels, within, one_label, firsts-more}
 
 at_past : (ls : List ℕ) (n : ℕ) → length ls ≤ n → at ls n ≡ 0
 at_past [] n le = refl
@@ -66,8 +66,8 @@ module _ (p : Plan) (ordered : InputsComeFirst p) where
       by true e l more = ⊎_elim
           (λ (same : s ≡ firsts (labels p) n). (n, omega arith, ap (firsts (labels p)) ((Decides-eqb (at (labels p) n) n).0 e) ∙ sym same))
           (λ (o : (s < firsts (labels p) n) ⊎ (firsts (labels p) n < s)). ⊎_elim
-              (λ (less : s < firsts (labels p) n). let x = more less in (x.0, omega (arith, x.1), x.2))
-              (λ (g : firsts (labels p) n < s). absurd (omega (arith, g, l))) o)
+          (λ (less : s < firsts (labels p) n). let x = more less in (x.0, omega (arith, x.1), x.2))
+          (λ (g : firsts (labels p) n < s). absurd (omega (arith, g, l))) o)
           (cases_order s (firsts (labels p) n))
 
 pub labels_are_first_nodes : LabelsAreFirstNodes

@@ -1,14 +1,13 @@
 -- The list of a plan's topics has each topic once: a rank rises along it.
-use Rattle.std.proofs.Common.{◌≡◌, ℕ, zero, suc, ◌+◌, ◌≤◌, ◌<◌, Bool, true, false, cond, List, length, [], ◌∷◌, ◌++◌, map, Option, Some, refl, sym, ap, subst, ◌∙◌, arith, nat_eq}
+use Rattle.std.proofs.Common.{◌≡◌, ℕ, zero, suc, ◌+◌, ◌≤◌, true, false, cond, List, length, [], ◌∷◌, ◌++◌, map, Some, refl, sym, ap, subst, ◌∙◌, arith}
 use Rattle.std.specs.Prelude.{slice_get}
-use Rattle.std.specs.List.{Contains}
 use Rattle.std.proofs.lemmas.Option.{slice_get_read}
 use Rattle.std.proofs.lemmas.Bool.Decides.{Decides-eqb}
 use Rattle.ks_plan.specs.declared.node.Topic.{Topic}
 use Rattle.ks_plan.specs.declared.node.Topic.TheVariants.{Input, Repartition, Subscriptions, Responses, Changelog, HashChangelog}
 use Rattle.ks_plan.specs.Plan.{Plan, Kind}
 use Rattle.ks_plan.specs.Plan.Kind.{StreamSource, TableSource, StreamFilter, TableFilter, StreamMap, TableMap, KeySelected, StreamAggregate, TableAggregate, Windowed, KeyJoin, ForeignKeyJoin}
-use Rattle.ks_plan.specs.Layout.{same_topic, place_of, topics_of, number_of, topic_at, by_node, through_topics, changelogs_of, input_topics, up_to}
+use Rattle.ks_plan.specs.Layout.{same_topic, place_of, topics_of, topic_at, by_node, through_topics, changelogs_of, input_topics, up_to}
 use Rattle.ks_law_subtopologies.specs.Topics.{NumbersArePlaces, TopicsStandAtTheirNumbers, TopicsHaveTheirOwnNumbers}
 
 topic-is : (a b : Topic) → same_topic a b ≡ true → a ≡ b

@@ -1,5 +1,5 @@
 -- The nodes of a well-formed draft read nodes that stand before them.
-use Rattle.std.proofs.Common.{◌+◌, ◌≡◌, ℕ, zero, suc, ◌<◌, ◌≤◌, Bool, true, false, cond, not, ◌||◌, List, length, length-append, [], ◌∷◌, ◌++◌, map, get_or, Option, Some, None, fold, refl, sym, ap, subst, ◌∙◌, arith, append_assoc, append-nil, ◌⊎◌, inl, inr, ⊎_elim}
+use Rattle.std.proofs.Common.{◌≡◌, ℕ, zero, suc, ◌<◌, ◌≤◌, Bool, true, false, cond, not, ◌||◌, List, length, length-append, [], ◌∷◌, ◌++◌, map, get_or, Option, Some, None, fold, refl, sym, ap, subst, ◌∙◌, arith, append_assoc, append-nil, ◌⊎◌, ⊎_elim}
 use Rattle.std.specs.Prelude.{ℤ}
 use Rattle.std.specs.Option.{option_or}
 use Rattle.std.proofs.lemmas.Bool.{cases_order}
@@ -8,10 +8,11 @@ use Rattle.std.proofs.lemmas.List.Sums.{fold-append}
 use Rattle.ks_expr.specs.Eval.{same_bytes}
 use Rattle.ks_plan.specs.declared.fault.TopoFault.TheVariants.{UnknownInput}
 use Rattle.ks_plan.specs.Drafts.{Name, OpView, StreamOf, TableOf, FilterOf, MapOf, KeyOf, CountOf, SumOf, WindowedOf, JoinOf, FkJoinOf, NodeView, DraftView}
-use Rattle.ks_plan.specs.Plan.{Plan, Kind, Known, is_stream, known_of, learn, known_from, known_at, known_names, name_place, node_number, plan_of}
+use Rattle.ks_plan.specs.Plan.{Kind, Known, is_stream, known_of, learn, known_from, known_at, known_names, name_place, node_number}
 use Rattle.ks_plan.specs.Layout.{no_kind}
 use Rattle.ks_plan.specs.Faults.{Line, first_fitting, first_of, has_name, names_of, unknown_lines, inputs_in, node_table, nodes_fault, size_lines, print_fault}
-use Rattle.ks_law_subtopologies.specs.Connected.{ReadsDirectly, InputsComeFirst, WellFormedInputsComeFirst}
+use Rattle.ks_law_subtopologies.specs.Connected.{ReadsDirectly, WellFormedInputsComeFirst}
+use Rattle.ks_law_subtopologies.proofs.Labels.{get_end, kind_past}
 
 -- ---- no fault, line by line
 none_of : {A : Type 0} (x y : Option A) → option_or x y ≡ None → (x ≡ None) × (y ≡ None)
@@ -44,15 +45,6 @@ kind_before [] ys n lt = absurd (omega arith)
 kind_before (x ∷ xs) ys zero lt = refl
 kind_before (x ∷ xs) ys (suc n) lt = kind_before xs ys n (omega arith)
 
-kind_end : (xs : List Kind) (x : Kind) → get_or (xs ++ x ∷ []) (length xs) no_kind ≡ x
-kind_end [] x = refl
-kind_end (y ∷ xs) x = kind_end xs x
-
-kind_past : (xs : List Kind) (n : ℕ) → length xs ≤ n → get_or xs n no_kind ≡ no_kind
-kind_past [] n le = refl
-kind_past (x ∷ xs) zero le = absurd (omega arith)
-kind_past (x ∷ xs) (suc n) le = kind_past xs n (omega arith)
-
 abbrev ReadsBelow : ℕ → Kind → Type 0
 ReadsBelow n k = (m : ℕ) → ReadsDirectly k m → m < n
 
@@ -62,11 +54,11 @@ Ordered ks = (n : ℕ) → ReadsBelow n (get_or ks n no_kind)
 ordered_push : (ks : List Kind) (k : Kind) → Ordered ks → ReadsBelow (length ks) k → Ordered (ks ++ k ∷ [])
 ordered_push ks k h new n m d = ⊎_elim
     (λ (e : n ≡ length ks).
-    let same : get_or (ks ++ k ∷ []) n no_kind ≡ k = ap (λ i. get_or (ks ++ k ∷ []) i no_kind) e ∙ kind_end ks k in
+    let same : get_or (ks ++ k ∷ []) n no_kind ≡ k = ap (λ i. get_or (ks ++ k ∷ []) i no_kind) e ∙ get_end ks k [] in
     omega (arith, e, new m (subst (λ x. ReadsDirectly x m) same d)))
     (λ (o : (n < length ks) ⊎ (length ks < n)). ⊎_elim
-        (λ (l : n < length ks). h n m (subst (λ x. ReadsDirectly x m) (kind_before ks (k ∷ []) n l) d))
-        (λ (g : length ks < n). absurd (subst (λ x. ReadsDirectly x m) (kind_past (ks ++ k ∷ []) n (omega (arith, g, length-append ks (k ∷ [])))) d)) o)
+    (λ (l : n < length ks). h n m (subst (λ x. ReadsDirectly x m) (kind_before ks (k ∷ []) n l) d))
+    (λ (g : length ks < n). absurd (subst (λ x. ReadsDirectly x m) (kind_past (ks ++ k ∷ []) n (omega (arith, g, length-append ks (k ∷ [])))) d)) o)
     (cases_order n (length ks))
 
 -- ---- node by node

@@ -1,15 +1,17 @@
--- Which nodes are in one subtopology: those that are connected by edges with no repartition topic between.
--- Kafka Streams developer guide, "Architecture: stream partitions and tasks": a sub-topology is a set of processors that are connected
--- without a topic between them; a repartition topic ends one and begins the next.
-use Rattle.std.specs.Prelude.{◌≡◌, ℕ, zero, suc, ◌<◌, ◌≤◌, List, length, None, Bool, false, ◌⊎◌}
+-- Which nodes are in one subtopology: those connected by edges with no repartition topic between.
+-- Kafka Streams developer guide, "Stream partitions and tasks": a sub-topology is a set of
+-- processors that are transitively connected as parent and child or by state stores; different
+-- ones exchange data through topics.
+use Rattle.std.specs.Prelude.{◌≡◌, ℕ, suc, ◌<◌, ◌≤◌, length, None, false, ◌⊎◌}
 use Rattle.ks_plan.specs.Drafts.{DraftView}
 use Rattle.ks_plan.specs.Plan.{Plan, Kind, plan_of}
 use Rattle.ks_plan.specs.Plan.Kind.{StreamSource, TableSource, StreamFilter, TableFilter, StreamMap, TableMap, KeySelected, StreamAggregate, TableAggregate, Windowed, KeyJoin, ForeignKeyJoin}
 use Rattle.ks_plan.specs.Faults.{fault_of}
 use Rattle.ks_plan.specs.Layout.{at, kind_at, labels, sub_of, sub_count}
 
--- a node reads node m with no repartition topic between: sources read topics, a count or sum of a table is always behind a repartition
--- topic, and a foreign-key join's right side is behind its subscription and response topics
+-- a node of this kind reads node m with no topic between. A source reads a topic; an aggregate may
+-- be behind a repartition topic, one of a table always is; the right side of a foreign-key join is
+-- behind the topics of subscriptions and responses
 abbrev pub ReadsDirectly : Kind → ℕ → Type 0
 ReadsDirectly (StreamSource t) m = ⊥
 ReadsDirectly (TableSource t) m = ⊥
@@ -35,6 +37,7 @@ pub data Connected (p : Plan) : ℕ → ℕ → Type 0 where
   Back : (n m : ℕ) → Connected p n m → Connected p m n
   Chain : (n m o : ℕ) → Connected p n m → Connected p m o → Connected p n o
 
+-- ---- the plans of which the laws speak
 -- an edge leads to a node that is numbered before
 abbrev pub InputsComeFirst : Plan → Type 0
 InputsComeFirst p = (n m : ℕ) → LiesWith p n m → m < n
@@ -43,14 +46,17 @@ InputsComeFirst p = (n m : ℕ) → LiesWith p n m → m < n
 abbrev pub WellFormedInputsComeFirst : Type 0
 WellFormedInputsComeFirst = (d : DraftView) → fault_of d ≡ None → InputsComeFirst (plan_of d)
 
--- ---- the laws
+-- ---- one subtopology
 -- nodes in one subtopology are connected
 abbrev pub SameSubtopologyIsConnected : Type 0
-SameSubtopologyIsConnected = (p : Plan) → InputsComeFirst p → (n m : ℕ) → n < length p.kinds → m < length p.kinds → sub_of p n ≡ sub_of p m → Connected p n m
+SameSubtopologyIsConnected = (p : Plan) → InputsComeFirst p →
+    (n m : ℕ) → n < length p.kinds → m < length p.kinds →
+    sub_of p n ≡ sub_of p m → Connected p n m
 
 -- connected nodes are in one subtopology
 abbrev pub ConnectedIsSameSubtopology : Type 0
-ConnectedIsSameSubtopology = (p : Plan) → InputsComeFirst p → (n m : ℕ) → Connected p n m → sub_of p n ≡ sub_of p m
+ConnectedIsSameSubtopology = (p : Plan) → InputsComeFirst p →
+    (n m : ℕ) → Connected p n m → sub_of p n ≡ sub_of p m
 
 -- ---- their numbers
 -- f is the first node that n is connected with
@@ -62,7 +68,7 @@ pub record IsFirstOf (p : Plan) (n f : ℕ) : Type 0 where
 abbrev pub IsFirst : Plan → ℕ → Type 0
 IsFirst p n = IsFirstOf p n n
 
--- of the nodes below n, c are the first of their subtopologies
+-- of the nodes below n, c begin a subtopology
 pub data HasFirsts (p : Plan) : ℕ → ℕ → Type 0 where
   NoNodes : HasFirsts p 0 0
   OneMore : (n c : ℕ) → HasFirsts p n c → IsFirst p n → HasFirsts p (suc n) (suc c)
@@ -70,20 +76,25 @@ pub data HasFirsts (p : Plan) : ℕ → ℕ → Type 0 where
 
 -- a node's label is the first node that it is connected with
 abbrev pub LabelsAreFirstNodes : Type 0
-LabelsAreFirstNodes = (p : Plan) → InputsComeFirst p → (n : ℕ) → n < length p.kinds → IsFirstOf p n (at (labels p) n)
+LabelsAreFirstNodes = (p : Plan) → InputsComeFirst p →
+    (n : ℕ) → n < length p.kinds → IsFirstOf p n (at (labels p) n)
 
 -- the number of a node's subtopology is how many subtopologies begin before its own
 abbrev pub SubtopologiesAreNumberedByFirstNodes : Type 0
-SubtopologiesAreNumberedByFirstNodes = (p : Plan) → InputsComeFirst p → (n f : ℕ) → n < length p.kinds → IsFirstOf p n f → HasFirsts p f (sub_of p n)
+SubtopologiesAreNumberedByFirstNodes = (p : Plan) → InputsComeFirst p →
+    (n f : ℕ) → n < length p.kinds → IsFirstOf p n f → HasFirsts p f (sub_of p n)
 
 -- a plan has as many subtopologies as nodes that begin one
 abbrev pub SubtopologiesAreCounted : Type 0
-SubtopologiesAreCounted = (p : Plan) → InputsComeFirst p → HasFirsts p (length p.kinds) (sub_count p)
+SubtopologiesAreCounted = (p : Plan) → InputsComeFirst p →
+    HasFirsts p (length p.kinds) (sub_count p)
 
 -- each node lies in one of them
 abbrev pub NodesLieInSubtopologies : Type 0
-NodesLieInSubtopologies = (p : Plan) → InputsComeFirst p → (n : ℕ) → n < length p.kinds → sub_of p n < sub_count p
+NodesLieInSubtopologies = (p : Plan) → InputsComeFirst p →
+    (n : ℕ) → n < length p.kinds → sub_of p n < sub_count p
 
 -- and in each of them lies a node
 abbrev pub SubtopologiesHaveNodes : Type 0
-SubtopologiesHaveNodes = (p : Plan) → InputsComeFirst p → (s : ℕ) → s < sub_count p → (n : ℕ) × (n < length p.kinds) × (sub_of p n ≡ s)
+SubtopologiesHaveNodes = (p : Plan) → InputsComeFirst p →
+    (s : ℕ) → s < sub_count p → (n : ℕ) × (n < length p.kinds) × (sub_of p n ≡ s)
