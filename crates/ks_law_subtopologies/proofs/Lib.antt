@@ -1,0 +1,4 @@
+pub mod Labels
+pub mod Numbers
+pub mod WellFormed
+pub mod Places
