@@ -1,0 +1,96 @@
+-- Which windows the steps of a run drop, and that the late counts are how many these are.
+-- Kafka Streams developer guide, "Windowing": a record is dropped from a window whose grace period
+-- is over in stream time, which is the greatest time that the task has seen.
+use Rattle.std.specs.Prelude.{◌≡◌, ℕ, List, [], ◌∷◌, ◌++◌, length, map, Option, Some, None}
+use Rattle.std.specs.Prelude.{not, cond}
+use Rattle.std.specs.List.{filter, count_by, sum_by}
+use Rattle.std.specs.Ordering.{eq_by_cmp}
+use Rattle.ks_row.specs.declared.record.TaskId.{TaskId}
+use Rattle.ks_row.specs.Parts.{same_task}
+use Rattle.ks_plan.specs.Plan.{Plan, Kind, Window}
+use Rattle.ks_plan.specs.Plan.Kind.{Windowed}
+use Rattle.ks_plan.specs.Layout.{kind_at, up_to}
+use Rattle.ks_query.specs.Streams.{Key, Input, StreamItem}
+use Rattle.ks_query.specs.Windows.{WindowKey, by_window, windows}
+use Rattle.ks_query.specs.Grace.{is_open}
+use Rattle.ks_def_runs.specs.Run.{Taken, late_all}
+use Rattle.ks_def_tasks.specs.Messages.{Place, Item, Store, Rules}
+use Rattle.ks_def_tasks.specs.Windowed.{greater}
+use Rattle.ks_def_tasks.specs.Step.{Arrival, item_into, items_from}
+use Rattle.ks_def_tasks.specs.Tasks.{machine, step}
+use Rattle.ks_law_quiescence.specs.States.{state_of}
+use Rattle.ks_law_quiescence.specs.Windows.{late_pairs}
+
+-- ---- one item
+-- of a group's windows with these starts, those whose grace period is over at this time
+abbrev pub closed_windows : Window → ℕ → Key → List ℕ → List WindowKey
+closed_windows w now g starts =
+    map (λ s. (g, s)) (filter (λ s. not (is_open w now s)) starts)
+
+-- an item of a group is dropped from those of its windows that are closed at the greatest time
+-- seen, its own time among them
+abbrev pub dropped_of_group : Window → Option ℕ → ℕ → Option Key → List WindowKey
+dropped_of_group w seen time None = []
+dropped_of_group w seen time (Some g) =
+    closed_windows w (greater seen time) g (windows w time)
+
+abbrev pub dropped_of_item : Window → Option ℕ → Option StreamItem → List WindowKey
+dropped_of_item w seen None = []
+dropped_of_item w seen (Some x) = dropped_of_group w seen x.time x.key
+
+-- ---- one step
+-- the windows from which node n drops the item that comes into it: a windowed count alone drops
+abbrev pub dropped_at : ℕ → Store → Arrival → (ℕ → Option StreamItem) → Kind → List WindowKey
+dropped_at n st a items (Windowed f by w through) =
+    dropped_of_item w (st.times n) (item_into a items n f through)
+dropped_at n st a items _ = []
+
+-- those that a task with this store drops at node n, when it takes this record
+abbrev pub dropped_by_step : Plan → ℕ → Store → Place → Item → List WindowKey
+dropped_by_step p n st q x =
+    let a : Arrival = record { topic = q.topic; item = x } in
+    dropped_at n st a (items_from a (λ m. None) 0 p.kinds) (kind_at p n)
+
+-- ---- a run
+abbrev pub TakenRecords : Type 0
+TakenRecords = List (Taken TaskId Place Item)
+
+-- those that are dropped at node n when these records are taken one after another, each by the
+-- task that reads it, with the store that the task's own steps before left it
+abbrev pub dropped_from : Rules → Plan → ℕ → (TaskId → Store) → TakenRecords → List WindowKey
+dropped_from rules p n stores [] = []
+dropped_from rules p n stores (t ∷ ts) =
+    let u = (machine rules p).reader t.place in
+    let left = (step rules p u (stores u) t.place t.item).store in
+    dropped_by_step p n (stores u) t.place t.item
+    ++ dropped_from rules p n (λ v. cond (same_task v u) left (stores v)) ts
+
+-- from empty stores
+abbrev pub dropped : Rules → Plan → ℕ → TakenRecords → List WindowKey
+dropped rules p n ts = dropped_from rules p n (machine rules p).start ts
+
+-- how often a window stands in a list
+abbrev pub times_in : WindowKey → List WindowKey → ℕ
+times_in k ks = count_by (eq_by_cmp by_window k) ks
+
+-- how many are dropped, over all nodes of the plan
+abbrev pub dropped_in_all : Rules → Plan → TakenRecords → ℕ
+dropped_in_all rules p ts = sum_by (λ n. length (dropped rules p n ts)) (up_to (length p.kinds))
+
+-- ---- the laws
+-- a window's late pairs are how often it stands among the windows that the steps dropped
+abbrev pub LatePairsAreDropped : Type 0
+LatePairsAreDropped = (rules : Rules) (p : Plan) (n : ℕ) (k : WindowKey) (ts : TakenRecords) →
+    late_pairs rules p n k ts ≡ times_in k (dropped rules p n ts)
+
+-- a run's late total is how many windows its steps dropped
+abbrev pub LateIsDropped : Type 0
+LateIsDropped = (rules : Rules) (p : Plan) (ts : TakenRecords) →
+    late_all (machine rules p) (machine rules p).start ts ≡ dropped_in_all rules p ts
+
+-- and so is the late count in every state of every run
+abbrev pub LateCountIsDropped : Type 0
+LateCountIsDropped = (rules : Rules) (p : Plan) (records : List Input) →
+    (schedule : List (Option TaskId × Place)) →
+    let st = state_of rules p records schedule in
+    st.late ≡ dropped_in_all rules p st.taken
