@@ -1,3 +1,4 @@
+pub mod Premises
 pub mod Ended
 pub mod Requesting
 pub mod ByKind

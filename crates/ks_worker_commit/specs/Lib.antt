@@ -1,3 +1,4 @@
+pub mod Premises
 pub mod Outcomes
 pub mod Outputs
 pub mod Underway

@@ -1,17 +1,16 @@
 //! A commit, from its first request to its end.
-ghost use Rattle.std.specs.Prelude.{◌≡◌, ◌≢◌, ◌≤◌, ◌+◌, ℕ, true, false, [], IfOk, OnOk};
+ghost use Rattle.std.specs.Prelude.{◌≡◌, ◌≢◌, ◌≤◌, [], IfOk, OnOk};
 ghost use Rattle.ks_history.specs.State.{pending_of};
 ghost use Rattle.ks_history.specs.History.{at};
 ghost use Rattle.ks_history.specs.Touched.{touched};
-ghost use Rattle.ks_client.specs.Turns.{HasRoomFor};
 ghost use Rattle.ks_client.specs.Calls.{MayCall, Later};
 ghost use Rattle.ks_client.specs.Members.{MemberHasSeen, IsProducer};
-ghost use Rattle.ks_worker_commit.specs.Outcomes.{with_cuts};
 ghost use Rattle.ks_shared.specs.Calls.{setup_in};
 ghost use Rattle.ks_commit.specs.Alone.{IsNumbered};
 ghost use Rattle.ks_commit.specs.Sending.{pendings_of};
 ghost use Rattle.ks_commit.specs.Committed.{works_of, EachOf, AreApart};
-ghost use Rattle.ks_worker_commit.specs.Outcomes.{Requests, cuts_in};
+ghost use Rattle.ks_worker_commit.specs.Premises.{MayRequest};
+ghost use Rattle.ks_worker_commit.specs.Outcomes.{Requests, with_cuts, cuts_in};
 ghost use Rattle.ks_worker_commit.specs.Outputs.{contents_of};
 ghost use Rattle.ks_worker_commit.specs.Underway.{memory, IsWorker, AreActiveWorks};
 ghost use Rattle.ks_worker_commit.specs.Leaves.{LeavesTasks, LeavesProducer, LeavesNoMarker};
@@ -40,10 +39,7 @@ fn send_and_decide<R: Wait, W: Work, G: Gate>(
     member: Member,
     works: &[Frozen],
 ) -> Result<(), Halt>
-    requires own { session.old.client.pass.lock ≡ shared.now.growing.id }
-    requires free { session.old.client.pass.holds ≡ false }
-    requires room { HasRoomFor session.old.client.gate }
-    requires worker { member.number ≤ 16 }
+    requires may { MayRequest shared.now.growing.id member.number session.old }
     requires known { IsWorker W.plan session.old.client.pass member.number member.epoch member.generation
         session.old.last (works_of works.now) }
     requires numbered { touched member.number session.old.client.pass.seen ≡ session.old.last
@@ -80,10 +76,7 @@ fn write_markers<R: Wait, W: Work, G: Gate>(
     session: &mut Session<W, G>,
     member: Member,
 ) -> Result<(), Halt>
-    requires own { session.old.client.pass.lock ≡ shared.now.growing.id }
-    requires free { session.old.client.pass.holds ≡ false }
-    requires room { HasRoomFor session.old.client.gate }
-    requires worker { member.number ≤ 16 }
+    requires may { MayRequest shared.now.growing.id member.number session.old }
     ensures requests { Requests W.plan session.old.client.pass session.new.client.pass member.number }
     ensures none { OnOk result (((at (setup_in W.plan session.old.client.pass.frame)
         session.new.client.pass.seen).producer member.number).waiting ≡ []) }
@@ -123,10 +116,7 @@ fn turn_back<R: Wait, W: Work, G: Gate>(
     session: &mut Session<W, G>,
     member: Member,
 ) -> Result<Outcome, AllocError>
-    requires own { session.old.client.pass.lock ≡ shared.now.growing.id }
-    requires free { session.old.client.pass.holds ≡ false }
-    requires room { HasRoomFor session.old.client.gate }
-    requires worker { member.number ≤ 16 }
+    requires may { MayRequest shared.now.growing.id member.number session.old }
     ensures requests { Requests W.plan session.old.client.pass session.new.client.pass member.number }
     ensures so { IfOk result (TurnsBackSo W.plan session.old.client.pass session.new.client.pass
         member.number member.epoch
@@ -149,10 +139,7 @@ fn abort<R: Wait, W: Work, G: Gate>(
     session: &mut Session<W, G>,
     member: Member,
 ) -> Result<Outcome, AllocError>
-    requires own { session.old.client.pass.lock ≡ shared.now.growing.id }
-    requires free { session.old.client.pass.holds ≡ false }
-    requires room { HasRoomFor session.old.client.gate }
-    requires worker { member.number ≤ 16 }
+    requires may { MayRequest shared.now.growing.id member.number session.old }
     ensures requests { Requests W.plan session.old.client.pass session.new.client.pass member.number }
     ensures so { IfOk result (AbortsSo W.plan session.old.client.pass session.new.client.pass member.number member.epoch
         (memory session.old.last session.old.numbers.items session.old.ends.items)
@@ -181,10 +168,7 @@ fn finish<R: Wait, W: Work, G: Gate>(
     session: &mut Session<W, G>,
     member: Member,
 ) -> Result<Outcome, AllocError>
-    requires own { session.old.client.pass.lock ≡ shared.now.growing.id }
-    requires free { session.old.client.pass.holds ≡ false }
-    requires room { HasRoomFor session.old.client.gate }
-    requires worker { member.number ≤ 16 }
+    requires may { MayRequest shared.now.growing.id member.number session.old }
     ensures requests { Requests W.plan session.old.client.pass session.new.client.pass member.number }
     ensures same { memory session.new.last session.new.numbers.items session.new.ends.items
         ≡ memory session.old.last session.old.numbers.items session.old.ends.items }

@@ -4,13 +4,12 @@ ghost use Rattle.ks_history.specs.declared.journal.Request.TheVariants.{Decide};
 ghost use Rattle.ks_history.specs.State.{IsPart, has_task};
 ghost use Rattle.ks_history.specs.History.{at, are_offsets, CommitsFaithfully};
 ghost use Rattle.ks_history.specs.Touched.{touched};
-ghost use Rattle.ks_client.specs.Turns.{HasRoomFor};
-ghost use Rattle.ks_worker_commit.specs.Outcomes.{with_cuts};
 ghost use Rattle.ks_shared.specs.Calls.{setup_in};
 ghost use Rattle.ks_law_restore.specs.Views.{pending_work};
 ghost use Rattle.ks_law_transaction.specs.Building.{with_part, with_records, with_pending_offsets};
 ghost use Rattle.ks_commit.specs.Work.{work_view};
-ghost use Rattle.ks_worker_commit.specs.Outcomes.{Requests, cuts_in, halted, written};
+ghost use Rattle.ks_worker_commit.specs.Premises.{MayRequest};
+ghost use Rattle.ks_worker_commit.specs.Outcomes.{Requests, with_cuts, cuts_in, halted, written};
 ghost use Rattle.ks_worker_commit.specs.Ends.{NeverBarred};
 ghost use Rattle.ks_worker_commit.specs.Underway.{memory, with_end, Carries, Decides, Aborts, always, has_added, has_work};
 
@@ -84,10 +83,7 @@ pub fn add_part<R: Wait, W: Work, G: Gate>(
     member: Member,
     part: PartId,
 ) -> Result<(), Halt>
-    requires own { session.old.client.pass.lock ≡ shared.now.growing.id }
-    requires free { session.old.client.pass.holds ≡ false }
-    requires room { HasRoomFor session.old.client.gate }
-    requires worker { member.number ≤ 16 }
+    requires may { MayRequest shared.now.growing.id member.number session.old }
     requires part { IsPart (setup_in W.plan session.old.client.pass.frame) part }
     ensures requests { Requests W.plan session.old.client.pass session.new.client.pass member.number }
     ensures carries { Carries W.plan session.old.client.pass session.new.client.pass
@@ -123,10 +119,7 @@ pub fn append_output<R: Wait, W: Work, G: Gate>(
     task: TaskId,
     out: &(PartId, Seq<Rec>),
 ) -> Result<(), Halt>
-    requires own { session.old.client.pass.lock ≡ shared.now.growing.id }
-    requires free { session.old.client.pass.holds ≡ false }
-    requires room { HasRoomFor session.old.client.gate }
-    requires worker { member.number ≤ 16 }
+    requires may { MayRequest shared.now.growing.id member.number session.old }
     requires part { IsPart (setup_in W.plan session.old.client.pass.frame) out.now.0 }
     requires task { has_task task (setup_in W.plan session.old.client.pass.frame).tasks ≡ true }
     ensures requests { Requests W.plan session.old.client.pass session.new.client.pass member.number }
@@ -166,10 +159,7 @@ pub fn send_offsets<R: Wait, W: Work, G: Gate>(
     member: Member,
     work: &Frozen,
 ) -> Result<(), Halt>
-    requires own { session.old.client.pass.lock ≡ shared.now.growing.id }
-    requires free { session.old.client.pass.holds ≡ false }
-    requires room { HasRoomFor session.old.client.gate }
-    requires worker { member.number ≤ 16 }
+    requires may { MayRequest shared.now.growing.id member.number session.old }
     requires task { has_task work.now.task (setup_in W.plan session.old.client.pass.frame).tasks ≡ true }
     requires offsets { are_offsets (setup_in W.plan session.old.client.pass.frame)
         (at (setup_in W.plan session.old.client.pass.frame) session.old.client.pass.seen) work.now.task work.now.offsets
@@ -212,10 +202,7 @@ pub fn decide_commit<R: Wait, W: Work, G: Gate>(
     session: &mut Session<W, G>,
     member: Member,
 ) -> Result<(), Halt>
-    requires own { session.old.client.pass.lock ≡ shared.now.growing.id }
-    requires free { session.old.client.pass.holds ≡ false }
-    requires room { HasRoomFor session.old.client.gate }
-    requires worker { member.number ≤ 16 }
+    requires may { MayRequest shared.now.growing.id member.number session.old }
     requires within { session.old.last ≤ length session.old.client.pass.seen }
     requires faithful { CommitsFaithfully (setup_in W.plan session.old.client.pass.frame)
         (at (setup_in W.plan session.old.client.pass.frame) session.old.client.pass.seen)
@@ -242,10 +229,7 @@ pub fn decide_abort<R: Wait, W: Work, G: Gate>(
     session: &mut Session<W, G>,
     member: Member,
 ) -> Result<(), Halt>
-    requires own { session.old.client.pass.lock ≡ shared.now.growing.id }
-    requires free { session.old.client.pass.holds ≡ false }
-    requires room { HasRoomFor session.old.client.gate }
-    requires worker { member.number ≤ 16 }
+    requires may { MayRequest shared.now.growing.id member.number session.old }
     ensures requests { Requests W.plan session.old.client.pass session.new.client.pass member.number }
     ensures aborts { Aborts W.plan session.old.client.pass session.new.client.pass member.number member.epoch
         (memory session.old.last session.old.numbers.items session.old.ends.items)
@@ -267,10 +251,7 @@ pub fn write_marker<R: Wait, W: Work, G: Gate>(
     session: &mut Session<W, G>,
     member: Member,
 ) -> Result<bool, Halt>
-    requires own { session.old.client.pass.lock ≡ shared.now.growing.id }
-    requires free { session.old.client.pass.holds ≡ false }
-    requires room { HasRoomFor session.old.client.gate }
-    requires worker { member.number ≤ 16 }
+    requires may { MayRequest shared.now.growing.id member.number session.old }
     ensures requests { Requests W.plan session.old.client.pass session.new.client.pass member.number }
     ensures same { memory session.new.last session.new.numbers.items session.new.ends.items
         ≡ memory session.old.last session.old.numbers.items session.old.ends.items }

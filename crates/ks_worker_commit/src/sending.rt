@@ -1,15 +1,13 @@
 //! The loops of a commit over partitions and works.
-ghost use Rattle.std.specs.Prelude.{◌≡◌, ◌≢◌, ◌≤◌, ◌+◌, ℕ, true, false, [], OnOk};
+ghost use Rattle.std.specs.Prelude.{◌≡◌, ◌≢◌, true, [], OnOk};
 ghost use Rattle.std.specs.List.{All};
 ghost use Rattle.ks_history.specs.State.{IsPart, has_task};
 ghost use Rattle.ks_history.specs.History.{at};
 ghost use Rattle.ks_history.specs.Touched.{touched};
-ghost use Rattle.ks_client.specs.Turns.{HasRoomFor};
-ghost use Rattle.ks_worker_commit.specs.Outcomes.{with_cuts};
 ghost use Rattle.ks_shared.specs.Calls.{setup_in};
-ghost use Rattle.ks_commit.specs.Work.{work_view};
 ghost use Rattle.ks_commit.specs.Committed.{works_of, EachOf};
-ghost use Rattle.ks_worker_commit.specs.Outcomes.{Requests, cuts_in};
+ghost use Rattle.ks_worker_commit.specs.Premises.{MayRequest};
+ghost use Rattle.ks_worker_commit.specs.Outcomes.{Requests, with_cuts, cuts_in};
 ghost use Rattle.ks_worker_commit.specs.Outputs.{add_all, put_output, put_outputs, put_works, put_all, send_all, sends_of};
 ghost use Rattle.ks_worker_commit.specs.Underway.{memory, Carries, always, has_added, have_added, have_works};
 
@@ -33,10 +31,7 @@ pub(crate) fn add_parts<R: Wait, W: Work, G: Gate>(
     member: Member,
     parts: &[PartId],
 ) -> Result<(), Halt>
-    requires own { session.old.client.pass.lock ≡ shared.now.growing.id }
-    requires free { session.old.client.pass.holds ≡ false }
-    requires room { HasRoomFor session.old.client.gate }
-    requires worker { member.number ≤ 16 }
+    requires may { MayRequest shared.now.growing.id member.number session.old }
     requires parts { All (IsPart (setup_in W.plan session.old.client.pass.frame)) parts.now }
     ensures requests { Requests W.plan session.old.client.pass session.new.client.pass member.number }
     ensures carries { Carries W.plan session.old.client.pass session.new.client.pass
@@ -65,10 +60,7 @@ fn append_if_in<R: Wait, W: Work, G: Gate>(
     place: (TaskId, PartId),
     out: &(PartId, Seq<Rec>),
 ) -> Result<(), Halt>
-    requires own { session.old.client.pass.lock ≡ shared.now.growing.id }
-    requires free { session.old.client.pass.holds ≡ false }
-    requires room { HasRoomFor session.old.client.gate }
-    requires worker { member.number ≤ 16 }
+    requires may { MayRequest shared.now.growing.id member.number session.old }
     requires part { IsPart (setup_in W.plan session.old.client.pass.frame) out.now.0 }
     requires task { has_task place.0 (setup_in W.plan session.old.client.pass.frame).tasks ≡ true }
     ensures requests { Requests W.plan session.old.client.pass session.new.client.pass member.number }
@@ -95,10 +87,7 @@ fn append_outputs<R: Wait, W: Work, G: Gate>(
     place: (TaskId, PartId),
     outputs: &[(PartId, Seq<Rec>)],
 ) -> Result<(), Halt>
-    requires own { session.old.client.pass.lock ≡ shared.now.growing.id }
-    requires free { session.old.client.pass.holds ≡ false }
-    requires room { HasRoomFor session.old.client.gate }
-    requires worker { member.number ≤ 16 }
+    requires may { MayRequest shared.now.growing.id member.number session.old }
     requires parts { All (λ out. IsPart (setup_in W.plan session.old.client.pass.frame) out.0) outputs.now }
     requires task { has_task place.0 (setup_in W.plan session.old.client.pass.frame).tasks ≡ true }
     ensures requests { Requests W.plan session.old.client.pass session.new.client.pass member.number }
@@ -128,10 +117,7 @@ fn append_work<R: Wait, W: Work, G: Gate>(
     part: PartId,
     work: &Frozen,
 ) -> Result<(), Halt>
-    requires own { session.old.client.pass.lock ≡ shared.now.growing.id }
-    requires free { session.old.client.pass.holds ≡ false }
-    requires room { HasRoomFor session.old.client.gate }
-    requires worker { member.number ≤ 16 }
+    requires may { MayRequest shared.now.growing.id member.number session.old }
     requires parts { All (λ out. IsPart (setup_in W.plan session.old.client.pass.frame) out.0) work.now.outputs }
     requires task { has_task work.now.task (setup_in W.plan session.old.client.pass.frame).tasks ≡ true }
     ensures requests { Requests W.plan session.old.client.pass session.new.client.pass member.number }
@@ -164,10 +150,7 @@ fn append_part<R: Wait, W: Work, G: Gate>(
     part: PartId,
     works: &[Frozen],
 ) -> Result<(), Halt>
-    requires own { session.old.client.pass.lock ≡ shared.now.growing.id }
-    requires free { session.old.client.pass.holds ≡ false }
-    requires room { HasRoomFor session.old.client.gate }
-    requires worker { member.number ≤ 16 }
+    requires may { MayRequest shared.now.growing.id member.number session.old }
     requires works { EachOf (setup_in W.plan session.old.client.pass.frame)
         (at (setup_in W.plan session.old.client.pass.frame) session.old.client.pass.seen) (works_of works.now) }
     ensures requests { Requests W.plan session.old.client.pass session.new.client.pass member.number }
@@ -197,10 +180,7 @@ pub(crate) fn append_parts<R: Wait, W: Work, G: Gate>(
     parts: &[PartId],
     works: &[Frozen],
 ) -> Result<(), Halt>
-    requires own { session.old.client.pass.lock ≡ shared.now.growing.id }
-    requires free { session.old.client.pass.holds ≡ false }
-    requires room { HasRoomFor session.old.client.gate }
-    requires worker { member.number ≤ 16 }
+    requires may { MayRequest shared.now.growing.id member.number session.old }
     requires works { EachOf (setup_in W.plan session.old.client.pass.frame)
         (at (setup_in W.plan session.old.client.pass.frame) session.old.client.pass.seen) (works_of works.now) }
     ensures requests { Requests W.plan session.old.client.pass session.new.client.pass member.number }
@@ -229,10 +209,7 @@ pub(crate) fn send_works<R: Wait, W: Work, G: Gate>(
     member: Member,
     works: &[Frozen],
 ) -> Result<(), Halt>
-    requires own { session.old.client.pass.lock ≡ shared.now.growing.id }
-    requires free { session.old.client.pass.holds ≡ false }
-    requires room { HasRoomFor session.old.client.gate }
-    requires worker { member.number ≤ 16 }
+    requires may { MayRequest shared.now.growing.id member.number session.old }
     requires works { EachOf (setup_in W.plan session.old.client.pass.frame)
         (at (setup_in W.plan session.old.client.pass.frame) session.old.client.pass.seen) (works_of works.now) }
     ensures requests { Requests W.plan session.old.client.pass session.new.client.pass member.number }
@@ -265,10 +242,7 @@ pub(crate) fn send<R: Wait, W: Work, G: Gate>(
     parts: &[PartId],
     works: &[Frozen],
 ) -> Result<(), Halt>
-    requires own { session.old.client.pass.lock ≡ shared.now.growing.id }
-    requires free { session.old.client.pass.holds ≡ false }
-    requires room { HasRoomFor session.old.client.gate }
-    requires worker { member.number ≤ 16 }
+    requires may { MayRequest shared.now.growing.id member.number session.old }
     requires parts { All (IsPart (setup_in W.plan session.old.client.pass.frame)) parts.now }
     requires works { EachOf (setup_in W.plan session.old.client.pass.frame)
         (at (setup_in W.plan session.old.client.pass.frame) session.old.client.pass.seen) (works_of works.now) }

@@ -1,12 +1,16 @@
 use Rattle.ks_worker_commit.specs.Underway.{memory}
 use Rattle.ks_worker_commit.specs.Ends.{AbortsSo}
+use Rattle.ks_worker_commit.proofs.Premises.{may_later}
 use Rattle.ks_worker_commit.proofs.Requesting.{requests_both}
 use Rattle.ks_worker_commit.proofs.Carrying.{ok_then}
 use Rattle.ks_worker_commit.proofs.Turning.{ends_otherwise, ends_aborted, stops_so, room_then, gate_done, gate_stopped}
 use Rattle.ks_worker_commit.proofs.committing.abort.Goals as goal
 
-pub write_markers-requires-clause-room : goal.write_markers-requires-clause-room
-write_markers-requires-clause-room g c = room_then c.args.session.now.client.gate c.turn_back.new.session.client.gate c.turn_back.result c.in-Ok.outcome c.in-Ok.is c.in-Aborted.is c.turn_back.ensures.gate c.requires.room
+pub write_markers-requires : goal.write_markers-requires
+write_markers-requires g c = record {
+  may = may_later g.W.Work.plan _ c.args.member.number _ _ c.requires.may c.turn_back.ensures.requests
+      (room_then c.args.session.now.client.gate c.turn_back.new.session.client.gate c.turn_back.result c.in-Ok.outcome c.in-Ok.is c.in-Aborted.is c.turn_back.ensures.gate c.requires.may.room);
+}
 
 pub returns-in_default-clause-so : goal.returns-in_default-clause-so
 returns-in_default-clause-so g c = ends_otherwise g.W.Work.plan _ _ c.args.member.number c.args.member.epoch (memory c.args.session.now.last c.args.session.now.numbers.items c.args.session.now.ends.items) (memory c.turn_back.new.session.last c.turn_back.new.session.numbers.items c.turn_back.new.session.ends.items) c.turn_back.result c.in-Ok.outcome c.in-Ok.is c.turn_back.ensures.so c.in_default.not-Aborted
