@@ -1,2 +1,3 @@
 pub mod Enlisted
 pub mod Passes
+pub mod Turned

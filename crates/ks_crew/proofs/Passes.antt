@@ -79,11 +79,11 @@ written_back len new items long is =
     ∙ ap (take len) (append-nil new)
     ∙ take_all len new (omega (arith, long, is))
 
--- a vector whose slice was changed has the passes of that slice
-pub keys_back : {A E F : Type 0} (pass : A → PassView E F) (items old new : List A) (len : ℕ) → old ≡ items → len ≡ length items → HaveKeys pass old new → HaveKeys pass items (take len (new ++ drop (length new) items))
-keys_back pass items old new len at_first sized keys =
-    let same : map (λ w. pass_key (pass w)) new ≡ map (λ w. pass_key (pass w)) items = keys ∙ ap (map (λ w. pass_key (pass w))) at_first in
-    ap (map (λ w. pass_key (pass w))) (written_back len new items (keys_length (λ w. pass_key (pass w)) new items same) sized) ∙ same
+-- what is told of a vector's slice before and after a change that kept its keys is told of the vector
+pub slice_back : {A E F : Type 0} (P : List A → List A → Type 0) (pass : A → PassView E F) (items old new : List A) (len : ℕ) → old ≡ items → len ≡ length items → HaveKeys pass old new → P old new → P items (take len (new ++ drop (length new) items))
+slice_back P pass items old new len at_first sized keys told =
+    let long : length new ≡ length items = keys_length (λ w. pass_key (pass w)) new old keys ∙ ap length at_first in
+    subst (P items) (sym (written_back len new items long sized)) (subst (λ l. P l new) at_first told)
 
 -- all passes of a lock, after the workers ran
 pub closing : {A W : Type 0} (lock : TableId) (count : ℕ) (pass : A → PassView Entry (Frame W)) (first : PassView Entry (Frame W)) (items new : List A) (all : List (PassView Entry (Frame W))) →

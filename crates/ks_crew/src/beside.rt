@@ -1,13 +1,13 @@
 //! A feed beside the workers.
-ghost use Rattle.std.specs.Prelude.{◌<◌, length, IfOk};
+ghost use Rattle.std.specs.Prelude.{◌≡◌, ◌<◌, length, IfOk, OnOk};
 ghost use Rattle.std.specs.List.{All};
 ghost use Rattle.ks_topo.specs.Topologies.{draft_of};
 ghost use Rattle.ks_worker.specs.Beginning.{MayRun};
 ghost use Rattle.ks_feed.specs.Feeding.{MayFeed, FaultsBy, HasFed};
 ghost use Rattle.ks_crew.specs.Members.{HaveKeys};
-ghost use Rattle.ks_crew.specs.Working.{MayWork};
+ghost use Rattle.ks_crew.specs.Working.{MayWork, TurnOrStarve, HaveTurned, is_one_starved};
 
-use crate::working::{Team, work_together};
+use crate::working::{CrewMember, Team, work_together};
 use ks_cluster::Work;
 use ks_edge::{Gate, Source};
 use ks_feed::{Feeder, feed};
@@ -59,6 +59,8 @@ fn feed_first<
         team.old feeder.old }
     ensures keys { HaveKeys (λ m. m.worker.state.session.client.pass)
         team.old.members.items team.new.members.items }
+    ensures turned { OnOk result (TurnOrStarve W.plan (draft_of topology.now) team.old.turns
+        team.old.members.items team.new.members.items) }
     ensures fed { IfOk result (λ e. HasFed feeder.old feeder.new (S.left input.old) (S.left input.new) e) }
     ensures faults { IfOk result (λ e. FaultsBy e (S.faults input.old) (S.faults input.new)) }
 {
@@ -90,6 +92,8 @@ fn feed_beside<
         team.old feeder.old }
     ensures keys { HaveKeys (λ m. m.worker.state.session.client.pass)
         team.old.members.items team.new.members.items }
+    ensures turned { OnOk result (TurnOrStarve W.plan (draft_of topology.now) team.old.turns
+        team.old.members.items team.new.members.items) }
     ensures fed { IfOk result (λ e. HasFed feeder.old feeder.new (S.left input.old) (S.left input.new) e) }
     ensures faults { IfOk result (λ e. FaultsBy e (S.faults input.old) (S.faults input.new)) }
 {
@@ -104,7 +108,8 @@ fn feed_beside<
             requires { (0 < length slice.now)
                 × All (λ m. MayRun W.plan W.good H.hash_of shared.now.growing.id (draft_of topology.now)
                 m.worker.placing turns m.worker.state) slice.now }
-            ensures { HaveKeys (λ m. m.worker.state.session.client.pass) slice.entry.now slice.exit.now }
+            ensures { HaveKeys (λ m. m.worker.state.session.client.pass) slice.entry.now slice.exit.now
+                × TurnOrStarve W.plan (draft_of topology.entry.now) turns slice.entry.now slice.exit.now }
         { work_together::<H, R, W, G>(rt, alloc, topology, shared, slice, turns, flag) },
         &mut || -> Result<JobEnd, AllocError>
             requires { MayFeed W.plan shared.now.growing.id feeder.now }
@@ -115,7 +120,52 @@ fn feed_beside<
     end
 }
 
-/// Feeds the records of a job while the workers take their turns, or before where they wait.
+// Feeds the records of a job while the workers take their turns, or before where they wait.
+fn feed_team<
+    H: Hash128 + Sync,
+    R: Threads + Wait + Sync,
+    W: Work + Send + Sync,
+    G: Gate + Send,
+    S: Source,
+>(
+    rt: &R,
+    alloc: Global,
+    topology: &Topology,
+    shared: &Shared<W>,
+    input: &mut S,
+    feeder: &mut Feeder<W>,
+    team: &mut Team<W, G>,
+) -> Result<JobEnd, AllocError>
+    requires { MayWork W.plan W.good H.hash_of shared.now.growing.id (draft_of topology.now)
+        team.old feeder.old }
+    ensures keys { HaveKeys (λ m. m.worker.state.session.client.pass)
+        team.old.members.items team.new.members.items }
+    ensures turned { OnOk result (TurnOrStarve W.plan (draft_of topology.now) team.old.turns
+        team.old.members.items team.new.members.items) }
+    ensures fed { IfOk result (λ e. HasFed feeder.old feeder.new (S.left input.old) (S.left input.new) e) }
+    ensures faults { IfOk result (λ e. FaultsBy e (S.faults input.old) (S.faults input.new)) }
+{
+    if team.waits {
+        feed_first::<H, R, W, G, S>(rt, alloc, topology, shared, input, feeder, team)
+    } else {
+        feed_beside::<H, R, W, G, S>(rt, alloc, topology, shared, input, feeder, team)
+    }
+}
+
+// Whether one of them ran out of memory.
+fn is_one_starved<W: Work, G: Gate>(members: &[CrewMember<W, G>]) -> bool
+    ensures { result ≡ is_one_starved members.now }
+{
+    for member in members {
+        if member.is_starved {
+            return true;
+        }
+    }
+    false
+}
+
+/// Feeds the records of a job while the workers take their turns, or before where they wait. Want of memory, also in a
+/// worker, is the one error.
 pub fn feed_and_work<
     H: Hash128 + Sync,
     R: Threads + Wait + Sync,
@@ -135,12 +185,14 @@ pub fn feed_and_work<
         team.old feeder.old }
     ensures keys { HaveKeys (λ m. m.worker.state.session.client.pass)
         team.old.members.items team.new.members.items }
+    ensures turned { OnOk result (HaveTurned W.plan (draft_of topology.now) team.old.turns
+        team.old.members.items team.new.members.items) }
     ensures fed { IfOk result (λ e. HasFed feeder.old feeder.new (S.left input.old) (S.left input.new) e) }
     ensures faults { IfOk result (λ e. FaultsBy e (S.faults input.old) (S.faults input.new)) }
 {
-    if team.waits {
-        feed_first::<H, R, W, G, S>(rt, alloc, topology, shared, input, feeder, team)
-    } else {
-        feed_beside::<H, R, W, G, S>(rt, alloc, topology, shared, input, feeder, team)
+    let end = feed_team::<H, R, W, G, S>(rt, alloc, topology, shared, input, feeder, team)?;
+    if is_one_starved(team.members.as_slice()) {
+        return Err(AllocError);
     }
+    Ok(end)
 }

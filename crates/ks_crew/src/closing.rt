@@ -23,16 +23,6 @@ use std::alloc::{AllocError, Global};
 use std::sync::Wait;
 use std::thread::Threads;
 
-// Whether one of them ran out of memory.
-fn is_one_starved<W: Work, G: Gate>(members: &[CrewMember<W, G>]) -> bool {
-    for member in members {
-        if member.is_starved {
-            return true;
-        }
-    }
-    false
-}
-
 // All passes of a lock: the first, and those of the workers, which are let go.
 fn passes_of<W: Work, G: Gate>(
     alloc: Global,
@@ -63,9 +53,6 @@ fn close_with<W: Work, G: Gate>(
     ensures frame { IfOk result (λ c. frame_of c ≡ frame_of shared.growing.first) }
     ensures reserved { IfOk result (λ c. filter is_callers c.journal ≡ filter is_callers first.seen) }
 {
-    if is_one_starved(members.as_slice()) {
-        return Err(AllocError);
-    }
     let passes = passes_of(alloc, first, members)?;
     Ok(shared.close(passes))
 }

@@ -4,6 +4,7 @@ ghost use Rattle.std.specs.List.{All};
 ghost use Rattle.ks_topo.specs.Topologies.{draft_of};
 ghost use Rattle.ks_worker.specs.Beginning.{MayRun};
 ghost use Rattle.ks_crew.specs.Members.{pass_key, HaveKeys};
+ghost use Rattle.ks_crew.specs.Working.{TurnsOrStarves, TurnOrStarve};
 
 use ks_cluster::Work;
 use ks_edge::Gate;
@@ -34,7 +35,7 @@ pub struct Team<W: Work, G: Gate> {
     pub waits: bool,
 }
 
-// One worker takes its turns.
+// One worker takes its turns, or is starved.
 fn take_turns<H: Hash128, R: Wait, W: Work, G: Gate>(
     rt: &R,
     alloc: Global,
@@ -46,7 +47,9 @@ fn take_turns<H: Hash128, R: Wait, W: Work, G: Gate>(
 )
     requires may { MayRun W.plan W.good H.hash_of shared.now.growing.id (draft_of topology.now)
         member.old.worker.placing turns member.old.worker.state }
-    ensures { pass_key member.new.worker.state.session.client.pass ≡ pass_key member.old.worker.state.session.client.pass }
+    ensures key { pass_key member.new.worker.state.session.client.pass
+        ≡ pass_key member.old.worker.state.session.client.pass }
+    ensures turned { TurnsOrStarves W.plan (draft_of topology.now) turns member.old member.new }
 {
     let answer = member
         .worker
@@ -54,8 +57,8 @@ fn take_turns<H: Hash128, R: Wait, W: Work, G: Gate>(
     member.is_starved = answer.is_err();
 }
 
-/// All workers take their turns, each in a thread of its own where one can be made. Their passes are of
-/// this lock still, with their numbers, and none holds the value.
+/// All workers take their turns, each in a thread of its own where one can be made; who runs out of memory is starved. Their
+/// passes are of this lock still, with their numbers, and none holds the value.
 pub fn work_together<
     H: Hash128 + Sync,
     R: Threads + Wait + Sync,
@@ -73,15 +76,17 @@ pub fn work_together<
     requires some { 0 < length members.old }
     requires may { All (λ m. MayRun W.plan W.good H.hash_of shared.now.growing.id (draft_of topology.now)
         m.worker.placing turns m.worker.state) members.old }
-    ensures { HaveKeys (λ m. m.worker.state.session.client.pass) members.old members.new }
+    ensures keys { HaveKeys (λ m. m.worker.state.session.client.pass) members.old members.new }
+    ensures turned { TurnOrStarve W.plan (draft_of topology.now) turns members.old members.new }
 {
     share_topology();
     let count = members.len();
     let each = |_: usize, member: &mut CrewMember<W, G>|
         requires { MayRun W.plan W.good H.hash_of shared.now.growing.id (draft_of topology.now)
             member.now.worker.placing turns member.now.worker.state }
-        ensures { pass_key member.exit.now.worker.state.session.client.pass
-            ≡ pass_key member.entry.now.worker.state.session.client.pass }
+        ensures { (pass_key member.exit.now.worker.state.session.client.pass
+            ≡ pass_key member.entry.now.worker.state.session.client.pass)
+            × TurnsOrStarves W.plan (draft_of topology.entry.now) turns member.entry.now member.exit.now }
     { take_turns::<H, R, W, G>(rt, alloc, topology, shared, member, turns, feeding) };
     thread::for_each_mut(rt, members, count, &each);
 }

@@ -3,7 +3,9 @@ use Rattle.std.specs.List.{All}
 use Rattle.ks_topo.specs.Topologies.{draft_of}
 use Rattle.ks_worker.specs.Beginning.{MayRun}
 use Rattle.ks_crew.specs.Members.{HaveKeys}
-use Rattle.ks_crew.proofs.Passes.{keys_back}
+use Rattle.ks_crew.specs.Working.{TurnOrStarve}
+use Rattle.ks_crew.proofs.Passes.{slice_back}
+use Rattle.ks_crew.proofs.Turned.{always_ok, turned_into}
 use Rattle.ks_crew.proofs.beside.feed_beside.Goals as goal
 
 pub join_mut-end-requires-after_bounds : goal.join_mut-end-requires-after_bounds
@@ -19,4 +21,13 @@ join_mut-end-requires-after_bounds g c κs within = (
 pub returns-clause-keys : goal.returns-clause-keys
 returns-clause-keys g c =
     let keys : HaveKeys (λ m. m.worker.state.session.client.pass) c.as_mut_slice-slice.result.now c.slice-1.given.0 = search rules in
-    keys_back (λ m. m.worker.state.session.client.pass) c.args.team.now.members.items c.as_mut_slice-slice.result.now _ c.args.team.now.members.len c.as_mut_slice-slice.ensures.value c.args.team.now.members.ok.0 keys
+    slice_back (HaveKeys (λ m. m.worker.state.session.client.pass)) (λ m. m.worker.state.session.client.pass) c.args.team.now.members.items c.as_mut_slice-slice.result.now _ c.args.team.now.members.len
+    c.as_mut_slice-slice.ensures.value c.args.team.now.members.ok.0 keys keys
+
+pub returns-clause-turned : goal.returns-clause-turned
+returns-clause-turned g c =
+    let keys : HaveKeys (λ m. m.worker.state.session.client.pass) c.as_mut_slice-slice.result.now c.slice-1.given.0 = search rules in
+    let turned : TurnOrStarve g.W.Work.plan (draft_of c.args.topology.now) c.args.team.now.turns c.as_mut_slice-slice.result.now c.slice-1.given.0 =
+        turned_into g.W.Work.plan (draft_of c.args.topology.now) c.args.team.now.turns c.as_mut_slice-slice.result.now c.join_mut-end.ensures.0.met.1.1 (search rules) in
+    always_ok c.join_mut-end.result.1 (slice_back (TurnOrStarve g.W.Work.plan (draft_of c.args.topology.now) c.args.team.now.turns) (λ m. m.worker.state.session.client.pass) c.args.team.now.members.items c.as_mut_slice-slice.result.now _
+    c.args.team.now.members.len c.as_mut_slice-slice.ensures.value c.args.team.now.members.ok.0 keys turned)
