@@ -61,7 +61,8 @@ impl<W: Work, G: Gate> ClusterClient<W, G> {
         ensures gate { self.new.gate ≡ counts_after self.old.gate result }
         ensures later { Later W.plan self.old.pass self.new.pass }
         ensures offsets { IfOk result (λ r. IfOk r (λ v. v.items
-            ≡ committed_offsets (setup_in W.plan self.old.pass.frame) (state_seen W.plan self.new.pass) task)) }
+            ≡ committed_offsets (setup_in W.plan self.old.pass.frame)
+            (state_seen W.plan self.new.pass) task)) }
         ensures refused { IfOk result (λ r. Refuses
             (committed_refusal (state_seen W.plan self.new.pass) w generation task) r) }
     {
@@ -81,7 +82,8 @@ impl<W: Work, G: Gate> ClusterClient<W, G> {
         requires parts { All (IsPart (setup_in W.plan self.old.pass.frame)) parts.now }
         ensures gate { self.new.gate ≡ counts_after self.old.gate result }
         ensures later { Later W.plan self.old.pass self.new.pass }
-        ensures ends { IfOk result (λ v. v.items ≡ ends_of (state_seen W.plan self.new.pass) parts.now) }
+        ensures ends { IfOk result (λ v. v.items
+            ≡ ends_of (state_seen W.plan self.new.pass) parts.now) }
     {
         self.gate.pass_step()?;
         or_halt(shared.ends(rt, alloc, parts, &mut self.pass))

@@ -31,7 +31,12 @@ impl<G: Gate> Model for TurnGate<G> {
 impl<G: Gate> TurnGate<G> {
     /// This gate, at the beginning of a turn.
     pub fn new(gate: G) -> TurnGate<G>
-        ensures { result ≡ record { asked = G.asked gate; stops = G.stops gate; calls = G.calls gate; cuts = G.cuts gate } }
+        ensures { result ≡ record {
+          asked = G.asked gate;
+          stops = G.stops gate;
+          calls = G.calls gate;
+          cuts = G.cuts gate;
+        } }
     {
         TurnGate { gate, step: 0 }
     }
@@ -60,7 +65,11 @@ impl<G: Gate> TurnGate<G> {
     /// The worker's next act.
     pub fn next(&mut self, view: TurnView) -> Act
         requires { HasRoomFor self.old }
-        ensures { self.new ≡ record self.old { asked = self.old.asked + 1; stops = self.old.stops + stops_of result; calls = self.old.calls + calls_of result } }
+        ensures { self.new ≡ record self.old {
+          asked = self.old.asked + 1;
+          stops = self.old.stops + stops_of result;
+          calls = self.old.calls + calls_of result;
+        } }
     {
         self.gate.next(view)
     }

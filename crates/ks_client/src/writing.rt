@@ -34,7 +34,8 @@ impl<W: Work, G: Gate> ClusterClient<W, G> {
         requires worker { w ≤ 15 }
         ensures gate { self.new.gate ≡ counts_after self.old.gate result }
         ensures later { Later W.plan self.old.pass self.new.pass }
-        ensures wrote { IfOk result (λ n. Wrote W.plan self.old.pass self.new.pass (Init w) (Number n)) }
+        ensures wrote { IfOk result (λ n. Wrote W.plan self.old.pass self.new.pass (Init w)
+            (Number n)) }
         ensures last { IfOk result (λ n. last.new ≡ touched w self.new.pass.seen) }
         ensures last_stays { OnErr result (last.new ≡ last.old) }
     {
@@ -54,7 +55,8 @@ impl<W: Work, G: Gate> ClusterClient<W, G> {
         requires worker { w ≤ 16 }
         ensures gate { self.new.gate ≡ counts_after self.old.gate result }
         ensures later { Later W.plan self.old.pass self.new.pass }
-        ensures wrote { IfOk result (λ n. Wrote W.plan self.old.pass self.new.pass (MarkNext w) (Marked n)) }
+        ensures wrote { IfOk result (λ n. Wrote W.plan self.old.pass self.new.pass (MarkNext w)
+            (Marked n)) }
     {
         self.gate.pass_step()?;
         or_halt(shared.mark_next(rt, alloc, w, &mut self.pass))
@@ -73,7 +75,8 @@ impl<W: Work, G: Gate> ClusterClient<W, G> {
         requires worker { w ≤ 15 }
         ensures gate { self.new.gate ≡ counts_after self.old.gate result }
         ensures later { Later W.plan self.old.pass self.new.pass }
-        ensures wrote { IfOk result (λ n. Wrote W.plan self.old.pass self.new.pass (Join w) (Number n)) }
+        ensures wrote { IfOk result (λ n. Wrote W.plan self.old.pass self.new.pass (Join w)
+            (Number n)) }
     {
         self.gate.pass_step()?;
         or_halt(shared.join(rt, alloc, w, &mut self.pass))
@@ -91,7 +94,8 @@ impl<W: Work, G: Gate> ClusterClient<W, G> {
         requires worker { w ≤ 16 }
         ensures gate { self.new.gate ≡ counts_after self.old.gate result }
         ensures later { Later W.plan self.old.pass self.new.pass }
-        ensures wrote { IfOk result (λ n. Wrote W.plan self.old.pass self.new.pass (Expire w) (Truth n)) }
+        ensures wrote { IfOk result (λ n. Wrote W.plan self.old.pass self.new.pass (Expire w)
+            (Truth n)) }
     {
         self.gate.pass_step()?;
         or_halt(shared.expire(rt, alloc, w, &mut self.pass))
@@ -111,7 +115,8 @@ impl<W: Work, G: Gate> ClusterClient<W, G> {
         requires tasks { are_tasks (setup_in W.plan self.old.pass.frame) held.now ≡ true }
         ensures gate { self.new.gate ≡ counts_after self.old.gate result }
         ensures later { Later W.plan self.old.pass self.new.pass }
-        ensures wrote { IfOk result (λ n. Wrote W.plan self.old.pass self.new.pass (Hold w held.now) Done) }
+        ensures wrote { IfOk result (λ n. Wrote W.plan self.old.pass self.new.pass (Hold w held.now)
+            Done) }
     {
         self.gate.pass_step()?;
         or_halt(shared.hold(rt, alloc, w, held, &mut self.pass))
@@ -130,7 +135,8 @@ impl<W: Work, G: Gate> ClusterClient<W, G> {
         requires worker { w ≤ 16 }
         ensures gate { self.new.gate ≡ counts_after self.old.gate result }
         ensures later { Later W.plan self.old.pass self.new.pass }
-        ensures wrote { IfOk result (λ n. Wrote W.plan self.old.pass self.new.pass (Probe w generation) (number_or n)) }
+        ensures wrote { IfOk result (λ n. Wrote W.plan self.old.pass self.new.pass
+            (Probe w generation) (number_or n)) }
     {
         self.gate.pass_step()?;
         or_halt(shared.probe(rt, alloc, w, generation, &mut self.pass))
@@ -152,11 +158,13 @@ impl<W: Work, G: Gate> ClusterClient<W, G> {
         requires active { are_places (setup_in W.plan self.old.pass.frame) a.now.active ≡ true }
         requires standby { are_places (setup_in W.plan self.old.pass.frame) a.now.standby ≡ true }
         requires warmup { are_places (setup_in W.plan self.old.pass.frame) a.now.warmup ≡ true }
-        requires good { IsGoodAt (good_in W.good self.old.pass.frame) (setup_in W.plan self.old.pass.frame)
+        requires good { IsGoodAt (good_in W.good self.old.pass.frame)
+            (setup_in W.plan self.old.pass.frame)
             self.old.pass.seen generation a.now }
         ensures gate { self.new.gate ≡ counts_after self.old.gate result }
         ensures later { Later W.plan self.old.pass self.new.pass }
-        ensures wrote { IfOk result (λ n. Wrote W.plan self.old.pass self.new.pass (Assign w generation a.now) (truth_or n)) }
+        ensures wrote { IfOk result (λ n. Wrote W.plan self.old.pass self.new.pass
+            (Assign w generation a.now) (truth_or n)) }
     {
         self.gate.pass_step()?;
         or_halt(shared.assign(rt, alloc, w, generation, a, &mut self.pass))

@@ -31,7 +31,8 @@ fn feed_while<R: Threads + Wait + Sync, W: Work, S: Source>(
     feeding: &AtomicBool,
 ) -> Result<JobEnd, AllocError>
     requires may { MayFeed W.plan shared.now.growing.id feeder.old }
-    ensures fed { IfOk result (λ e. HasFed feeder.old feeder.new (S.left input.old) (S.left input.new) e) }
+    ensures fed { IfOk result (λ e. HasFed feeder.old feeder.new (S.left input.old)
+        (S.left input.new) e) }
     ensures faults { IfOk result (λ e. FaultsBy e (S.faults input.old) (S.faults input.new)) }
 {
     let end = feed(rt, alloc, shared, input, feeder);
@@ -61,7 +62,8 @@ fn feed_first<
         team.old.members.items team.new.members.items }
     ensures turned { OnOk result (TurnOrStarve W.plan (draft_of topology.now) team.old.turns
         team.old.members.items team.new.members.items) }
-    ensures fed { IfOk result (λ e. HasFed feeder.old feeder.new (S.left input.old) (S.left input.new) e) }
+    ensures fed { IfOk result (λ e. HasFed feeder.old feeder.new (S.left input.old)
+        (S.left input.new) e) }
     ensures faults { IfOk result (λ e. FaultsBy e (S.faults input.old) (S.faults input.new)) }
 {
     let feeding = AtomicBool::new(false);
@@ -94,7 +96,8 @@ fn feed_beside<
         team.old.members.items team.new.members.items }
     ensures turned { OnOk result (TurnOrStarve W.plan (draft_of topology.now) team.old.turns
         team.old.members.items team.new.members.items) }
-    ensures fed { IfOk result (λ e. HasFed feeder.old feeder.new (S.left input.old) (S.left input.new) e) }
+    ensures fed { IfOk result (λ e. HasFed feeder.old feeder.new (S.left input.old)
+        (S.left input.new) e) }
     ensures faults { IfOk result (λ e. FaultsBy e (S.faults input.old) (S.faults input.new)) }
 {
     share_topology();
@@ -106,15 +109,20 @@ fn feed_beside<
         rt,
         &mut ||
             requires { (0 < length slice.now)
-                × All (λ m. MayRun W.plan W.good H.hash_of shared.now.growing.id (draft_of topology.now)
+                × All (λ m. MayRun W.plan W.good H.hash_of shared.now.growing.id
+                (draft_of topology.now)
                 m.worker.placing turns m.worker.state) slice.now }
-            ensures { HaveKeys (λ m. m.worker.state.session.client.pass) slice.entry.now slice.exit.now
-                × TurnOrStarve W.plan (draft_of topology.entry.now) turns slice.entry.now slice.exit.now }
+            ensures { HaveKeys (λ m. m.worker.state.session.client.pass) slice.entry.now
+                slice.exit.now
+                × TurnOrStarve W.plan (draft_of topology.entry.now) turns slice.entry.now
+                slice.exit.now }
         { work_together::<H, R, W, G>(rt, alloc, topology, shared, slice, turns, flag) },
         &mut || -> Result<JobEnd, AllocError>
             requires { MayFeed W.plan shared.now.growing.id feeder.now }
-            ensures { IfOk result (λ e. HasFed feeder.entry.now feeder.exit.now (S.left input.entry.now) (S.left input.exit.now) e)
-                × IfOk result (λ e. FaultsBy e (S.faults input.entry.now) (S.faults input.exit.now)) }
+            ensures { IfOk result (λ e. HasFed feeder.entry.now feeder.exit.now
+                (S.left input.entry.now) (S.left input.exit.now) e)
+                × IfOk result (λ e. FaultsBy e (S.faults input.entry.now)
+                (S.faults input.exit.now)) }
         { feed_while(rt, alloc, shared, input, feeder, flag) },
     );
     end
@@ -142,7 +150,8 @@ fn feed_team<
         team.old.members.items team.new.members.items }
     ensures turned { OnOk result (TurnOrStarve W.plan (draft_of topology.now) team.old.turns
         team.old.members.items team.new.members.items) }
-    ensures fed { IfOk result (λ e. HasFed feeder.old feeder.new (S.left input.old) (S.left input.new) e) }
+    ensures fed { IfOk result (λ e. HasFed feeder.old feeder.new (S.left input.old)
+        (S.left input.new) e) }
     ensures faults { IfOk result (λ e. FaultsBy e (S.faults input.old) (S.faults input.new)) }
 {
     if team.waits {
@@ -187,7 +196,8 @@ pub fn feed_and_work<
         team.old.members.items team.new.members.items }
     ensures turned { OnOk result (HaveTurned W.plan (draft_of topology.now) team.old.turns
         team.old.members.items team.new.members.items) }
-    ensures fed { IfOk result (λ e. HasFed feeder.old feeder.new (S.left input.old) (S.left input.new) e) }
+    ensures fed { IfOk result (λ e. HasFed feeder.old feeder.new (S.left input.old)
+        (S.left input.new) e) }
     ensures faults { IfOk result (λ e. FaultsBy e (S.faults input.old) (S.faults input.new)) }
 {
     let end = feed_team::<H, R, W, G, S>(rt, alloc, topology, shared, input, feeder, team)?;

@@ -29,7 +29,8 @@ fn passes_of<W: Work, G: Gate>(
     first: Pass<SharedState<W>>,
     members: Vec<CrewMember<W, G>>,
 ) -> Result<Vec<Pass<SharedState<W>>>, AllocError>
-    ensures { IfOk result (λ v. v.items ≡ first ∷ map (λ m. m.worker.state.session.client.pass) members.items) }
+    ensures { IfOk result (λ v. v.items ≡ first
+        ∷ map (λ m. m.worker.state.session.client.pass) members.items) }
 {
     let mut passes = Vec::new(alloc);
     passes.push(first)?;
@@ -48,10 +49,12 @@ fn close_with<W: Work, G: Gate>(
     members: Vec<CrewMember<W, G>>,
 ) -> Result<Cluster<W>, AllocError>
     requires first { IsPass shared.growing.id 0 first }
-    requires passes { ArePasses shared.growing.id (map (λ m. m.worker.state.session.client.pass) members.items) }
+    requires passes { ArePasses shared.growing.id
+        (map (λ m. m.worker.state.session.client.pass) members.items) }
     requires all { length members.items + 1 ≡ shared.growing.passes }
     ensures frame { IfOk result (λ c. frame_of c ≡ frame_of shared.growing.first) }
-    ensures reserved { IfOk result (λ c. filter is_callers c.journal ≡ filter is_callers first.seen) }
+    ensures reserved { IfOk result (λ c. filter is_callers c.journal
+        ≡ filter is_callers first.seen) }
 {
     let passes = passes_of(alloc, first, members)?;
     Ok(shared.close(passes))
@@ -75,11 +78,13 @@ pub fn work_and_close<
     mut feeder: Feeder<W>,
     mut team: Team<W, G>,
 ) -> Result<(Cluster<W>, JobEnd), AllocError>
-    requires may { MayWork W.plan W.good H.hash_of shared.growing.id (draft_of topology.now) team feeder }
+    requires may { MayWork W.plan W.good H.hash_of shared.growing.id (draft_of topology.now) team
+        feeder }
     requires passes { ArePasses shared.growing.id
         (map (λ m. m.worker.state.session.client.pass) team.members.items) }
     requires all { length team.members.items + 1 ≡ shared.growing.passes }
-    ensures fed { IfOk result (λ r. HasClosed shared.growing.first r.0 feeder (S.left input.old) (S.left input.new) r.1) }
+    ensures fed { IfOk result (λ r. HasClosed shared.growing.first r.0 feeder (S.left input.old)
+        (S.left input.new) r.1) }
     ensures faults { IfOk result (λ r. FaultsBy r.1 (S.faults input.old) (S.faults input.new)) }
 {
     let end = feed_and_work::<H, R, W, G, S>(

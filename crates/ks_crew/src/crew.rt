@@ -70,10 +70,12 @@ fn run_gated<
     input: &mut S,
     crew: Crew<G>,
 ) -> Result<(Cluster<W>, JobEnd), AllocError>
-    requires ready { IsReady W.plan W.good H.hash_of (draft_of topology.now) cluster intake (placing_of crew.settings) }
+    requires ready { IsReady W.plan W.good H.hash_of (draft_of topology.now) cluster intake
+        (placing_of crew.settings) }
     requires settings { HasRanges crew.settings }
     requires gates { length crew.gates.items ≡ 16 }
-    ensures worked { IfOk result (λ r. HasWorked cluster r.0 intake (S.left input.old) (S.left input.new) r.1) }
+    ensures worked { IfOk result (λ r. HasWorked cluster r.0 intake (S.left input.old)
+        (S.left input.new) r.1) }
     ensures faults { IfOk result (λ r. FaultsBy r.1 (S.faults input.old) (S.faults input.new)) }
 {
     let _nodes = topology.nodes();
@@ -114,10 +116,12 @@ pub fn run_crew<H: Hash128 + Sync, R: Threads + Wait + Sync, W: Work + Send + Sy
     input: &mut S,
     crew: Crew<Box<dyn Gate + Send>>,
 ) -> Result<(Cluster<W>, JobEnd), AllocError>
-    requires ready { IsReady W.plan W.good H.hash_of (draft_of topology.now) cluster intake (placing_of crew.settings) }
+    requires ready { IsReady W.plan W.good H.hash_of (draft_of topology.now) cluster intake
+        (placing_of crew.settings) }
     requires settings { HasRanges crew.settings }
     requires gates { length crew.gates.items ≡ 16 }
-    ensures worked { IfOk result (λ r. HasWorked cluster r.0 intake (S.left input.old) (S.left input.new) r.1) }
+    ensures worked { IfOk result (λ r. HasWorked cluster r.0 intake (S.left input.old)
+        (S.left input.new) r.1) }
     ensures faults { IfOk result (λ r. FaultsBy r.1 (S.faults input.old) (S.faults input.new)) }
 {
     let Crew { settings, gates } = crew;

@@ -60,9 +60,11 @@ pub fn enlist<W: Work, G: Gate>(
     requires gates { length passes.items ≤ length gates.items }
     requires few { length passes.items ≤ 16 }
     requires instances { length passes.items ≤ 4 * settings.now.threads }
-    ensures passes { IfOk result (λ v. map (λ m. m.worker.state.session.client.pass) v.items ≡ passes.items) }
+    ensures passes { IfOk result (λ v. map (λ m. m.worker.state.session.client.pass) v.items
+        ≡ passes.items) }
     ensures enlisted { IfOk result (λ v. All (λ m. IsEnlisted m.worker.state) v.items) }
-    ensures placing { IfOk result (λ v. All (λ m. m.worker.placing ≡ placing_of settings.now) v.items) }
+    ensures placing { IfOk result (λ v. All (λ m. m.worker.placing ≡ placing_of settings.now)
+        v.items) }
 {
     let mut members = Vec::new(alloc);
     let mut gates = gates.into_iter();

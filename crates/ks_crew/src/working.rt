@@ -74,7 +74,8 @@ pub fn work_together<
     feeding: &AtomicBool,
 )
     requires some { 0 < length members.old }
-    requires may { All (λ m. MayRun W.plan W.good H.hash_of shared.now.growing.id (draft_of topology.now)
+    requires may { All (λ m. MayRun W.plan W.good H.hash_of shared.now.growing.id
+        (draft_of topology.now)
         m.worker.placing turns m.worker.state) members.old }
     ensures keys { HaveKeys (λ m. m.worker.state.session.client.pass) members.old members.new }
     ensures turned { TurnOrStarve W.plan (draft_of topology.now) turns members.old members.new }
@@ -86,7 +87,8 @@ pub fn work_together<
             member.now.worker.placing turns member.now.worker.state }
         ensures { (pass_key member.exit.now.worker.state.session.client.pass
             ≡ pass_key member.entry.now.worker.state.session.client.pass)
-            × TurnsOrStarves W.plan (draft_of topology.entry.now) turns member.entry.now member.exit.now }
+            × TurnsOrStarves W.plan (draft_of topology.entry.now) turns member.entry.now
+            member.exit.now }
     { take_turns::<H, R, W, G>(rt, alloc, topology, shared, member, turns, feeding) };
     thread::for_each_mut(rt, members, count, &each);
 }

@@ -58,7 +58,8 @@ fn feed_rest<R: Threads + Wait + Sync, W: Work, S: Source>(
     requires may { MayFeed W.plan shared.now.growing.id feeder.old }
     requires reading { IsReading feeder.old.rest.standing }
     requires none { feeder.old.records.items ≡ [] }
-    ensures fed { IfOk result (λ e. HasFed feeder.old feeder.new (S.left input.old) (S.left input.new) e) }
+    ensures fed { IfOk result (λ e. HasFed feeder.old feeder.new (S.left input.old)
+        (S.left input.new) e) }
     ensures faults { IfOk result (λ e. FaultsBy e (S.faults input.old) (S.faults input.new)) }
 {
     loop {
@@ -84,7 +85,8 @@ pub fn feed<R: Threads + Wait + Sync, W: Work, S: Source>(
     feeder: &mut Feeder<W>,
 ) -> Result<JobEnd, AllocError>
     requires { MayFeed W.plan shared.now.growing.id feeder.old }
-    ensures fed { IfOk result (λ e. HasFed feeder.old feeder.new (S.left input.old) (S.left input.new) e) }
+    ensures fed { IfOk result (λ e. HasFed feeder.old feeder.new (S.left input.old)
+        (S.left input.new) e) }
     ensures faults { IfOk result (λ e. FaultsBy e (S.faults input.old) (S.faults input.new)) }
 {
     let records = mem::replace(&mut feeder.records, Vec::new(alloc));

@@ -55,7 +55,8 @@ fn produce_one<R: Wait, W: Work>(
     requires counts { counts.now ≡ (setup_in W.plan pass.old.frame).counts }
     requires source { topic < (setup_in W.plan pass.old.frame).plan.sources }
     requires parted { IsParted counts.now topic }
-    ensures ok { OnOk result (HasProduced pass.old pass.new (placed counts.now topic rec.now ∷ [])) }
+    ensures ok { OnOk result (HasProduced pass.old pass.new
+        (placed counts.now topic rec.now ∷ [])) }
     ensures err { OnErr result (HasProduced pass.old pass.new []) }
 {
     let part = part_of(&rec.key, counts[topic as usize]);

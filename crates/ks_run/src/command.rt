@@ -42,8 +42,10 @@ fn without_journal(settings: Settings) -> Settings
 
 // What is answered where the words say nothing.
 fn refuse_words<K: Sink>(alloc: Global, out: &mut K) -> Ended
-    ensures bad_words { result.status ≡ 1 → Appends (K.held out.old) (K.held out.new) bad_words_text }
-    ensures write_fault { result.status ≡ 7 → Rose (K.faults out.old) (K.faults out.new) × AppendsFront (K.held out.old) (K.held out.new) bad_words_text }
+    ensures bad_words { result.status ≡ 1 → Appends (K.held out.old) (K.held out.new)
+        bad_words_text }
+    ensures write_fault { result.status ≡ 7 → Rose (K.faults out.old) (K.faults out.new)
+        × AppendsFront (K.held out.old) (K.held out.new) bad_words_text }
     ensures written { (result.status ≡ 7 → ⊥) → K.faults out.new ≡ K.faults out.old }
     ensures memory { result.status ≡ 8 → out.new ≡ out.old }
     ensures forgotten { result.status ≡ 8 → result.journal ≡ [] }
@@ -85,22 +87,31 @@ fn run_load<R: Threads + Wait + Sync, K: Sink>(
     requires few { orders ≤ 150000 }
     ensures read_fault { result.status ≡ 6 → ⊥ }
     ensures words { result.status ≡ 1 → ⊥ }
-    ensures bad_job { result.status ≡ 2 → ((text : List ℕ) × IsRefused (Some (load_text orders)) text
+    ensures bad_job { result.status ≡ 2 → ((text : List ℕ)
+        × IsRefused (Some (load_text orders)) text
         × Appends (K.held out.old) (K.held out.new) text)
         × IsUndrained result.journal
         × IsEmptyIf (is_some settings.stop) result.journal }
-    ensures settled { result.status ≡ 0 → ((text : List ℕ) × IsSettledRun (rules_of murmur3_of) false (Some (load_text orders)) text result.journal
+    ensures settled { result.status ≡ 0 → ((text : List ℕ)
+        × IsSettledRun (rules_of murmur3_of) false (Some (load_text orders)) text result.journal
         × Appends (K.held out.old) (K.held out.new) text) }
-    ensures late { result.status ≡ 3 → ((text : List ℕ) × IsLateRun (rules_of murmur3_of) false (Some (load_text orders)) text result.journal
+    ensures late { result.status ≡ 3 → ((text : List ℕ)
+        × IsLateRun (rules_of murmur3_of) false (Some (load_text orders)) text result.journal
         × Appends (K.held out.old) (K.held out.new) text) }
-    ensures collision { result.status ≡ 5 → ((text : List ℕ) × IsCollidedRun (rules_of murmur3_of) false (Some (load_text orders)) text result.journal
+    ensures collision { result.status ≡ 5 → ((text : List ℕ)
+        × IsCollidedRun (rules_of murmur3_of) false (Some (load_text orders)) text result.journal
         × Appends (K.held out.old) (K.held out.new) text) }
     ensures write_fault { result.status ≡ 7 → Rose (K.faults out.old) (K.faults out.new)
-        × ((status : ℕ) × (text : List ℕ) × IsLoadJudged (rules_of murmur3_of) (placing_of settings) (is_some settings.stop) orders status text result.journal
+        × ((status : ℕ) × (text : List ℕ) × IsLoadJudged (rules_of murmur3_of) (placing_of settings)
+        (is_some settings.stop) orders status text result.journal
         × AppendsFront (K.held out.old) (K.held out.new) text) }
-    ensures journal { (result.status ≡ 8 → ⊥) → HasJournal (rules_of murmur3_of) (placing_of settings) (Some (load_text orders)) result.journal }
-    ensures complete { IsWithoutCollision (rules_of murmur3_of) (Some (load_text orders)) result.journal
-        → (Rose (K.faults out.old) (K.faults out.new) → ⊥) → (result.status ≡ 0) ⊎ (result.status ≡ 8) }
+    ensures journal { (result.status ≡ 8 → ⊥)
+        → HasJournal (rules_of murmur3_of) (placing_of settings) (Some (load_text orders))
+        result.journal }
+    ensures complete { IsWithoutCollision (rules_of murmur3_of) (Some (load_text orders))
+        result.journal
+        → (Rose (K.faults out.old) (K.faults out.new) → ⊥) → (result.status ≡ 0)
+        ⊎ (result.status ≡ 8) }
     ensures written { (result.status ≡ 7 → ⊥) → K.faults out.new ≡ K.faults out.old }
     ensures memory { result.status ≡ 8 → out.new ≡ out.old }
     ensures forgotten { result.status ≡ 8 → result.journal ≡ [] }
@@ -131,7 +142,8 @@ fn run_command<R: Threads + Wait + Sync, S: Source + Send, K: Sink>(
     ensures bad_words { result.status ≡ 1 → (command ≡ None)
         × Appends (K.held out.old) (K.held out.new) bad_words_text
         × (result.journal ≡ []) }
-    ensures good_words { (result.status ≡ 0) ⊎ (result.status ≡ 2) ⊎ (result.status ≡ 3) ⊎ (result.status ≡ 5) ⊎ (result.status ≡ 6) → command ≢ None }
+    ensures good_words { (result.status ≡ 0) ⊎ (result.status ≡ 2) ⊎ (result.status ≡ 3)
+        ⊎ (result.status ≡ 5) ⊎ (result.status ≡ 6) → command ≢ None }
     ensures read_fault { result.status ≡ 6 → IsRun command
         × Rose (S.faults input.old) (S.faults input.new)
         × TookFront (S.left input.old) (S.left input.new) result.journal
@@ -145,23 +157,31 @@ fn run_command<R: Threads + Wait + Sync, S: Source + Send, K: Sink>(
         × IsEmptyIf (is_read_ahead command) result.journal }
     ensures settled { result.status ≡ 0 → (S.faults input.new ≡ S.faults input.old)
         × (IsRun command → IsAtEnd (S.left input.new))
-        × ((text : List ℕ) × IsSettledRun (rules_of murmur3_of) (journal_of command) (job_bytes command (S.left input.old)) text result.journal
+        × ((text : List ℕ) × IsSettledRun (rules_of murmur3_of) (journal_of command)
+        (job_bytes command (S.left input.old)) text result.journal
         × Appends (K.held out.old) (K.held out.new) text) }
     ensures late { result.status ≡ 3 → (S.faults input.new ≡ S.faults input.old)
         × (IsRun command → IsAtEnd (S.left input.new))
-        × ((text : List ℕ) × IsLateRun (rules_of murmur3_of) (journal_of command) (job_bytes command (S.left input.old)) text result.journal
+        × ((text : List ℕ) × IsLateRun (rules_of murmur3_of) (journal_of command)
+        (job_bytes command (S.left input.old)) text result.journal
         × Appends (K.held out.old) (K.held out.new) text) }
     ensures collision { result.status ≡ 5 → (S.faults input.new ≡ S.faults input.old)
         × (IsRun command → IsAtEnd (S.left input.new))
-        × ((text : List ℕ) × IsCollidedRun (rules_of murmur3_of) (journal_of command) (job_bytes command (S.left input.old)) text result.journal
+        × ((text : List ℕ) × IsCollidedRun (rules_of murmur3_of) (journal_of command)
+        (job_bytes command (S.left input.old)) text result.journal
         × Appends (K.held out.old) (K.held out.new) text) }
     ensures write_fault { result.status ≡ 7 → Rose (K.faults out.old) (K.faults out.new)
         × ((status : ℕ) × (text : List ℕ)
-        × IsJudgedBy command (rules_of murmur3_of) (S.left input.old) (S.left input.new) (S.faults input.old) (S.faults input.new) status text result.journal
+        × IsJudgedBy command (rules_of murmur3_of) (S.left input.old) (S.left input.new)
+        (S.faults input.old) (S.faults input.new) status text result.journal
         × AppendsFront (K.held out.old) (K.held out.new) text) }
-    ensures journal { (result.status ≡ 8 → ⊥) → HasJournal (rules_of murmur3_of) (placing_by command) (job_bytes command (S.left input.old)) result.journal }
-    ensures complete { HasValidJob command (S.left input.old) (S.faults input.old) (S.faults input.new)
-        → IsWithoutCollision (rules_of murmur3_of) (job_bytes command (S.left input.old)) result.journal
+    ensures journal { (result.status ≡ 8 → ⊥)
+        → HasJournal (rules_of murmur3_of) (placing_by command)
+        (job_bytes command (S.left input.old)) result.journal }
+    ensures complete { HasValidJob command (S.left input.old) (S.faults input.old)
+        (S.faults input.new)
+        → IsWithoutCollision (rules_of murmur3_of) (job_bytes command (S.left input.old))
+        result.journal
         → (Rose (K.faults out.old) (K.faults out.new) → ⊥)
         → (result.status ≡ 0) ⊎ (result.status ≡ 8) }
 
@@ -197,7 +217,8 @@ pub fn top<R: Threads + Wait + Sync, S: Source + Send, K: Sink>(
     ensures bad_words { result.status ≡ 1 → (command_of (words_of words.now) ≡ None)
         × Appends (K.held out.old) (K.held out.new) bad_words_text
         × (result.journal ≡ []) }
-    ensures good_words { (result.status ≡ 0) ⊎ (result.status ≡ 2) ⊎ (result.status ≡ 3) ⊎ (result.status ≡ 5) ⊎ (result.status ≡ 6) → command_of (words_of words.now) ≢ None }
+    ensures good_words { (result.status ≡ 0) ⊎ (result.status ≡ 2) ⊎ (result.status ≡ 3)
+        ⊎ (result.status ≡ 5) ⊎ (result.status ≡ 6) → command_of (words_of words.now) ≢ None }
     ensures read_fault { result.status ≡ 6 → IsRun (command_of (words_of words.now))
         × Rose (S.faults input.old) (S.faults input.new)
         × TookFront (S.left input.old) (S.left input.new) result.journal
@@ -205,29 +226,41 @@ pub fn top<R: Threads + Wait + Sync, S: Source + Send, K: Sink>(
         × IsUndrained result.journal
         × IsEmptyIf (is_read_ahead (command_of (words_of words.now))) result.journal }
     ensures bad_job { result.status ≡ 2 → (S.faults input.new ≡ S.faults input.old)
-        × ((text : List ℕ) × IsRefused (job_bytes (command_of (words_of words.now)) (S.left input.old)) text
+        × ((text : List ℕ) × IsRefused (job_bytes (command_of (words_of words.now))
+        (S.left input.old)) text
         × Appends (K.held out.old) (K.held out.new) text)
         × IsUndrained result.journal
         × IsEmptyIf (is_read_ahead (command_of (words_of words.now))) result.journal }
     ensures settled { result.status ≡ 0 → (S.faults input.new ≡ S.faults input.old)
         × (IsRun (command_of (words_of words.now)) → IsAtEnd (S.left input.new))
-        × ((text : List ℕ) × IsSettledRun (rules_of murmur3_of) (journal_of (command_of (words_of words.now))) (job_bytes (command_of (words_of words.now)) (S.left input.old)) text result.journal
+        × ((text : List ℕ) × IsSettledRun (rules_of murmur3_of)
+        (journal_of (command_of (words_of words.now)))
+        (job_bytes (command_of (words_of words.now)) (S.left input.old)) text result.journal
         × Appends (K.held out.old) (K.held out.new) text) }
     ensures late { result.status ≡ 3 → (S.faults input.new ≡ S.faults input.old)
         × (IsRun (command_of (words_of words.now)) → IsAtEnd (S.left input.new))
-        × ((text : List ℕ) × IsLateRun (rules_of murmur3_of) (journal_of (command_of (words_of words.now))) (job_bytes (command_of (words_of words.now)) (S.left input.old)) text result.journal
+        × ((text : List ℕ) × IsLateRun (rules_of murmur3_of)
+        (journal_of (command_of (words_of words.now)))
+        (job_bytes (command_of (words_of words.now)) (S.left input.old)) text result.journal
         × Appends (K.held out.old) (K.held out.new) text) }
     ensures collision { result.status ≡ 5 → (S.faults input.new ≡ S.faults input.old)
         × (IsRun (command_of (words_of words.now)) → IsAtEnd (S.left input.new))
-        × ((text : List ℕ) × IsCollidedRun (rules_of murmur3_of) (journal_of (command_of (words_of words.now))) (job_bytes (command_of (words_of words.now)) (S.left input.old)) text result.journal
+        × ((text : List ℕ) × IsCollidedRun (rules_of murmur3_of)
+        (journal_of (command_of (words_of words.now)))
+        (job_bytes (command_of (words_of words.now)) (S.left input.old)) text result.journal
         × Appends (K.held out.old) (K.held out.new) text) }
     ensures write_fault { result.status ≡ 7 → Rose (K.faults out.old) (K.faults out.new)
         × ((status : ℕ) × (text : List ℕ)
-        × IsJudgedBy (command_of (words_of words.now)) (rules_of murmur3_of) (S.left input.old) (S.left input.new) (S.faults input.old) (S.faults input.new) status text result.journal
+        × IsJudgedBy (command_of (words_of words.now)) (rules_of murmur3_of) (S.left input.old)
+        (S.left input.new) (S.faults input.old) (S.faults input.new) status text result.journal
         × AppendsFront (K.held out.old) (K.held out.new) text) }
-    ensures journal { (result.status ≡ 8 → ⊥) → HasJournal (rules_of murmur3_of) (placing_by (command_of (words_of words.now))) (job_bytes (command_of (words_of words.now)) (S.left input.old)) result.journal }
-    ensures complete { HasValidJob (command_of (words_of words.now)) (S.left input.old) (S.faults input.old) (S.faults input.new)
-        → IsWithoutCollision (rules_of murmur3_of) (job_bytes (command_of (words_of words.now)) (S.left input.old)) result.journal
+    ensures journal { (result.status ≡ 8 → ⊥)
+        → HasJournal (rules_of murmur3_of) (placing_by (command_of (words_of words.now)))
+        (job_bytes (command_of (words_of words.now)) (S.left input.old)) result.journal }
+    ensures complete { HasValidJob (command_of (words_of words.now)) (S.left input.old)
+        (S.faults input.old) (S.faults input.new)
+        → IsWithoutCollision (rules_of murmur3_of)
+        (job_bytes (command_of (words_of words.now)) (S.left input.old)) result.journal
         → (Rose (K.faults out.old) (K.faults out.new) → ⊥)
         → (result.status ≡ 0) ⊎ (result.status ≡ 8) }
 

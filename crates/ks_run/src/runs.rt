@@ -75,27 +75,36 @@ pub fn run_job<H: Hash128 + Send + Sync, R: Threads + Wait + Sync, S: Source + S
         × IsEmptyIf (is_some settings.now.stop) result.journal }
     ensures settled { result.status ≡ 0 → (S.faults input.new ≡ S.faults input.old)
         × IsAtEnd (S.left input.new)
-        × ((text : List ℕ) × IsSettledRun (rules_of H.hash_of) settings.now.journal (S.left input.old) text result.journal
+        × ((text : List ℕ) × IsSettledRun (rules_of H.hash_of) settings.now.journal
+        (S.left input.old) text result.journal
         × Appends (K.held out.old) (K.held out.new) text) }
     ensures late { result.status ≡ 3 → (S.faults input.new ≡ S.faults input.old)
         × IsAtEnd (S.left input.new)
-        × ((text : List ℕ) × IsLateRun (rules_of H.hash_of) settings.now.journal (S.left input.old) text result.journal
+        × ((text : List ℕ) × IsLateRun (rules_of H.hash_of) settings.now.journal (S.left input.old)
+        text result.journal
         × Appends (K.held out.old) (K.held out.new) text) }
     ensures collision { result.status ≡ 5 → (S.faults input.new ≡ S.faults input.old)
         × IsAtEnd (S.left input.new)
-        × ((text : List ℕ) × IsCollidedRun (rules_of H.hash_of) settings.now.journal (S.left input.old) text result.journal
+        × ((text : List ℕ) × IsCollidedRun (rules_of H.hash_of) settings.now.journal
+        (S.left input.old) text result.journal
         × Appends (K.held out.old) (K.held out.new) text) }
     ensures write_fault { result.status ≡ 7 → Rose (K.faults out.old) (K.faults out.new)
         × ((status : ℕ) × (text : List ℕ)
-        × IsJudged (rules_of H.hash_of) (placing_of settings.now) settings.now.journal (is_some settings.now.stop) (S.left input.old) (S.left input.new) (S.faults input.old) (S.faults input.new) status text result.journal
+        × IsJudged (rules_of H.hash_of) (placing_of settings.now) settings.now.journal
+        (is_some settings.now.stop) (S.left input.old) (S.left input.new) (S.faults input.old)
+        (S.faults input.new) status text result.journal
         × AppendsFront (K.held out.old) (K.held out.new) text) }
 
     // The journal is legal and faithful, its assignments are good, and what it has produced is a front of the job's records.
-    ensures journal { (result.status ≡ 8 → ⊥) → HasJournal (rules_of H.hash_of) (placing_of settings.now) (S.left input.old) result.journal }
+    ensures journal { (result.status ≡ 8 → ⊥)
+        → HasJournal (rules_of H.hash_of) (placing_of settings.now) (S.left input.old)
+        result.journal }
 
     // A valid job whose records are within grace and whose rows don't collide is answered by its query.
-    ensures complete { IsInTime (S.left input.old) → IsWithoutCollision (rules_of H.hash_of) (S.left input.old) result.journal
-        → (Rose (S.faults input.old) (S.faults input.new) → ⊥) → (Rose (K.faults out.old) (K.faults out.new) → ⊥)
+    ensures complete { IsInTime (S.left input.old)
+        → IsWithoutCollision (rules_of H.hash_of) (S.left input.old) result.journal
+        → (Rose (S.faults input.old) (S.faults input.new) → ⊥)
+        → (Rose (K.faults out.old) (K.faults out.new) → ⊥)
         → (result.status ≡ 0) ⊎ (result.status ≡ 8) }
 
     // At every other status the sink did not fail.

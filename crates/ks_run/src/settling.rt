@@ -59,7 +59,8 @@ fn end_run<R: Threads + Sync, W: Work + Send>(
     verdict: Verdict,
     shown: bool,
 ) -> Result<Answer, AllocError>
-    ensures made { IfOk result (λ a. ((a.status, a.text.items) ≡ with_lines shown cluster.journal (told_as verdict)) × (a.journal ≡ cluster.journal)) }
+    ensures made { IfOk result (λ a. ((a.status, a.text.items)
+        ≡ with_lines shown cluster.journal (told_as verdict)) × (a.journal ≡ cluster.journal)) }
     ensures history { IsHistory (setup_of W.plan cluster) cluster.journal }
     ensures placed { ArePlaced (W.good cluster.work) (setup_of W.plan cluster) cluster.journal }
     ensures few { records_in (setup_of W.plan cluster) cluster.journal < 2 ^ 48 }
@@ -109,10 +110,12 @@ fn end_settled<H: Hash128 + Send + Sync, R: Threads + Sync, W: Work + Send + Syn
     mut cluster: Cluster<W>,
     shown: bool,
 ) -> Result<Answer, AllocError>
-    requires setup { setup_of W.plan cluster ≡ topology_setup (rules_of H.hash_of) (plan_in topology.now) }
+    requires setup { setup_of W.plan cluster ≡ topology_setup (rules_of H.hash_of)
+        (plan_in topology.now) }
     requires placing { AreWanted W.good cluster.work (draft_of topology.now) }
     requires partitions { HavePartitions (draft_of topology.now).topics }
-    ensures { IfOk result (λ a. IsEnded W.plan W.good (rules_of H.hash_of) shown (draft_of topology.now) cluster a.status a.text.items a.journal) }
+    ensures { IfOk result (λ a. IsEnded W.plan W.good (rules_of H.hash_of) shown
+        (draft_of topology.now) cluster a.status a.text.items a.journal) }
 {
     let _nodes = topology.nodes();
     drain::<H, R, W>(rt, alloc, topology, &mut cluster)?;
@@ -129,10 +132,12 @@ fn end_by<H: Hash128 + Send + Sync, R: Threads + Sync, W: Work + Send + Sync>(
     end: JobEnd,
     shown: bool,
 ) -> Result<Answer, AllocError>
-    requires setup { setup_of W.plan cluster ≡ topology_setup (rules_of H.hash_of) (plan_in topology.now) }
+    requires setup { setup_of W.plan cluster ≡ topology_setup (rules_of H.hash_of)
+        (plan_in topology.now) }
     requires placing { AreWanted W.good cluster.work (draft_of topology.now) }
     requires partitions { HavePartitions (draft_of topology.now).topics }
-    ensures { IfOk result (λ a. EndsBy W.plan W.good (rules_of H.hash_of) shown (draft_of topology.now) cluster end
+    ensures { IfOk result (λ a. EndsBy W.plan W.good (rules_of H.hash_of) shown
+        (draft_of topology.now) cluster end
         a.status a.text.items a.journal) }
 {
     match end {
@@ -156,7 +161,12 @@ fn begin<W: Work>(
     counts: &[u8],
 ) -> Result<Cluster<W>, AllocError>
     requires { IsSetup (setup_from (W.plan work) counts.now (tasks (plan_in topology.now))) }
-    ensures { IfOk result (λ c. c ≡ record { work = work; counts = counts.now; tasks = tasks (plan_in topology.now); journal = [] }) }
+    ensures { IfOk result (λ c. c ≡ record {
+      work = work;
+      counts = counts.now;
+      tasks = tasks (plan_in topology.now);
+      journal = [];
+    }) }
 {
     let kept = Vec::from_slice(alloc, counts)?;
     let names = Vec::from_slice(alloc, topology.tasks())?;
@@ -177,9 +187,14 @@ fn settle<H: Hash128 + Send + Sync, R: Threads + Wait + Sync, W: Work + Send + S
     requires gates { length crew.gates.items ≡ 16 }
     requires work { W.plan work ≡ work_of (rules_of H.hash_of) (plan_in topology.now) }
     requires placing { IsWantedBy W.good work (draft_of topology.now) (placing_of crew.settings) }
-    requires counts { intake.counts.items ≡ map (λ i. i.parts) (topic_infos (draft_of topology.now)) }
-    requires job { IsReadable (draft_of topology.now) (item_views intake.records.items) intake.rest }
-    ensures { IfOk result (λ a. RunsJob (rules_of H.hash_of) (placing_of crew.settings) crew.settings.journal (draft_of topology.now) (item_views intake.records.items) intake.rest.standing (S.left input.old) (S.left input.new) (S.faults input.old) (S.faults input.new) a.status a.text.items a.journal) }
+    requires counts { intake.counts.items ≡ map (λ i. i.parts)
+        (topic_infos (draft_of topology.now)) }
+    requires job { IsReadable (draft_of topology.now) (item_views intake.records.items)
+        intake.rest }
+    ensures { IfOk result (λ a. RunsJob (rules_of H.hash_of) (placing_of crew.settings)
+        crew.settings.journal (draft_of topology.now) (item_views intake.records.items)
+        intake.rest.standing (S.left input.old) (S.left input.new) (S.faults input.old)
+        (S.faults input.new) a.status a.text.items a.journal) }
 {
     // Its names and constants can be written, and it is well formed: the law on settled journals asks for both.
     topology_fits(topology);
@@ -206,7 +221,10 @@ pub fn settle_job<H: Hash128 + Send + Sync, R: Threads + Wait + Sync, S: Source>
     requires settings { HasRanges crew.settings }
     requires gates { length crew.gates.items ≡ 16 }
     requires job { IsReadable (draft_view job.draft) (item_views job.records.items) job.rest }
-    ensures { IfOk result (λ a. RunsJob (rules_of H.hash_of) (placing_of crew.settings) crew.settings.journal (draft_view job.draft) (item_views job.records.items) job.rest.standing (S.left input.old) (S.left input.new) (S.faults input.old) (S.faults input.new) a.status a.text.items a.journal) }
+    ensures { IfOk result (λ a. RunsJob (rules_of H.hash_of) (placing_of crew.settings)
+        crew.settings.journal (draft_view job.draft) (item_views job.records.items)
+        job.rest.standing (S.left input.old) (S.left input.new) (S.faults input.old)
+        (S.faults input.new) a.status a.text.items a.journal) }
 {
     let OpenJob {
         draft,

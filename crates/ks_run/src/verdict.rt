@@ -92,8 +92,10 @@ pub fn judge<H: Hash128, R: Threads + Sync, W: Work + Sync>(
     cluster: &Cluster<W>,
 ) -> Result<Verdict, AllocError>
     requires of { IsOf topology.now (setup_of W.plan cluster.now) }
-    requires counts { cluster.now.counts ≡ map (parts_of_topic (plan_in topology.now)) (topics_of (plan_in topology.now)) }
-    ensures { IfOk result (λ v. told_as v ≡ told (rules_of H.hash_of) (draft_of topology.now) (state_of W.plan cluster.now)) }
+    requires counts { cluster.now.counts ≡ map (parts_of_topic (plan_in topology.now))
+        (topics_of (plan_in topology.now)) }
+    ensures { IfOk result (λ v. told_as v ≡ told (rules_of H.hash_of) (draft_of topology.now)
+        (state_of W.plan cluster.now)) }
 {
     let Report {
         late,

@@ -80,7 +80,8 @@ fn read_own<H: Hash128, W: Work>(
     requires may { MayRead W.plan (rules_of H.hash_of) (draft_of topology.now) cluster.now }
     requires rests { Rests (draft_of topology.now) (setup_of W.plan cluster.now)
         cluster.now.journal topic attempt.old.task }
-    ensures { IfOk attempt.new.work (λ o. IsRead (draft_of topology.now) (setup_of W.plan cluster.now)
+    ensures { IfOk attempt.new.work (λ o. IsRead (draft_of topology.now)
+        (setup_of W.plan cluster.now)
         cluster.now.journal topic attempt.old.task attempt.new.task (option_map work_view o)) }
 {
     let inputs = topology.inputs(attempt.task.id().sub);

@@ -49,7 +49,8 @@ fn take_fetched<H: Hash128>(
         (task_view task.old).task.sub) ≡ true }
     ensures task { OnOk result (IsTaskOf (draft_of topology.now) task.new) }
     ensures view { OnOk result (task_view task.new
-        ≡ take_all (work_of (rules_of H.hash_of) (plan_in topology.now)) (task_view task.old) topic recs.now) }
+        ≡ take_all (work_of (rules_of H.hash_of) (plan_in topology.now)) (task_view task.old) topic
+        recs.now) }
 {
     for i in 0..recs.len() {
         let rec = &recs[i];

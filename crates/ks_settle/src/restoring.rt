@@ -26,7 +26,8 @@ fn feed_on<W: Work>(
     changelog: u16,
 ) -> Result<bool, AllocError>
     requires quiet { IsQuiet W.plan cluster.now }
-    requires own { has_topic changelog ((W.plan cluster.now.work).changelogs replica.old.id.sub) ≡ true }
+    requires own { has_topic changelog ((W.plan cluster.now.work).changelogs replica.old.id.sub)
+        ≡ true }
     requires of { IsReplicaOf (setup_of W.plan cluster.now) cluster.now.journal
         replica.old.id replica.old }
     ensures { IfOk result (λ moved. IsFedOn (setup_of W.plan cluster.now) cluster.now.journal
@@ -54,7 +55,8 @@ fn feed_to_end<W: Work>(
     changelog: u16,
 ) -> Result<(), AllocError>
     requires quiet { IsQuiet W.plan cluster.now }
-    requires own { has_topic changelog ((W.plan cluster.now.work).changelogs replica.old.id.sub) ≡ true }
+    requires own { has_topic changelog ((W.plan cluster.now.work).changelogs replica.old.id.sub)
+        ≡ true }
     requires of { IsReplicaOf (setup_of W.plan cluster.now) cluster.now.journal
         replica.old.id replica.old }
     ensures { OnOk result (IsFedTo (setup_of W.plan cluster.now) cluster.now.journal
@@ -102,7 +104,8 @@ fn restore<W: Work>(
     requires may { MayDrain (setup_of W.plan cluster.now) }
     requires of { HasTasksOf W.plan (draft_of topology.now) cluster.now }
     requires parts { HaveParts (plan_in topology.now) }
-    requires ready { IsReady (setup_of W.plan cluster.now) (state_of W.plan cluster.now) publisher.now }
+    requires ready { IsReady (setup_of W.plan cluster.now) (state_of W.plan cluster.now)
+        publisher.now }
     requires there { has_task task cluster.now.tasks ≡ true }
     ensures rests { IfOk result (λ t. Rests (draft_of topology.now) (setup_of W.plan cluster.now)
         cluster.now.journal 0 t) }
@@ -128,7 +131,8 @@ pub fn restore_tasks<W: Work>(
     requires may { MayDrain (setup_of W.plan cluster.now) }
     requires of { HasTasksOf W.plan (draft_of topology.now) cluster.now }
     requires parts { HaveParts (plan_in topology.now) }
-    requires ready { IsReady (setup_of W.plan cluster.now) (state_of W.plan cluster.now) publisher.now }
+    requires ready { IsReady (setup_of W.plan cluster.now) (state_of W.plan cluster.now)
+        publisher.now }
     ensures { IfOk result (λ v. AreRestored (draft_of topology.now) (setup_of W.plan cluster.now)
         cluster.now.journal cluster.now.tasks v.items) }
 {

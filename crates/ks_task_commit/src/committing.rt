@@ -86,7 +86,8 @@ pub fn commit_tasks<H: Hash128, R: Wait, W: Work, G: Gate>(
     state: &mut WorkerState<W, G>,
 ) -> Result<CommitEnd, Halt>
     requires may { MayAct W.plan H.hash_of shared.now.growing.id (draft_of topology.now) state.old }
-    ensures gate { state.new.session.client.gate ≡ counts_after state.old.session.client.gate result }
+    ensures gate { state.new.session.client.gate
+        ≡ counts_after state.old.session.client.gate result }
     ensures later { LaterState W.plan state.old state.new }
     ensures requests { Requests W.plan state.old.session.client.pass state.new.session.client.pass
         state.old.member.number }

@@ -17,8 +17,10 @@ use std::alloc::{AllocError, Global};
 // Adds a task's work to those of the tasks before it, where it is dirty.
 fn freeze_task(alloc: Global, works: &mut Vec<Frozen>, task: &Task) -> Result<(), AllocError>
     ensures { (d : DraftView) (hash : List ℕ → ℕ) (ts : List Task) → IsTaskOf d task.now
-        → AreWorksOf (work_of (rules_of hash) (plan_of d)) ts (works_of works.old.items) → OnOk result
-        (AreWorksOf (work_of (rules_of hash) (plan_of d)) (ts ++ task.now ∷ []) (works_of works.new.items)) }
+        → AreWorksOf (work_of (rules_of hash) (plan_of d)) ts (works_of works.old.items)
+        → OnOk result
+        (AreWorksOf (work_of (rules_of hash) (plan_of d)) (ts ++ task.now ∷ [])
+        (works_of works.new.items)) }
 {
     if task.is_clean() {
         return Ok(());
@@ -31,7 +33,8 @@ fn freeze_task(alloc: Global, works: &mut Vec<Frozen>, task: &Task) -> Result<()
 /// The works of the dirty ones among these tasks, in their order.
 pub(crate) fn freeze_dirty(alloc: Global, tasks: &[Task]) -> Result<Vec<Frozen>, AllocError>
     ensures { (d : DraftView) (hash : List ℕ → ℕ) → All (IsTaskOf d) tasks.now → IfOk result
-        (λ works. AreWorksOf (work_of (rules_of hash) (plan_of d)) tasks.now (works_of works.items)) }
+        (λ works. AreWorksOf (work_of (rules_of hash) (plan_of d)) tasks.now
+        (works_of works.items)) }
 {
     let mut works = Vec::new(alloc);
     for i in 0..tasks.len() {

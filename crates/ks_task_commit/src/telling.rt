@@ -16,7 +16,8 @@ fn tell_task(
     task: &mut Task,
     ends: &[(TaskId, PartId, u64)],
 ) -> Result<(), AllocError>
-    ensures { (d : DraftView) → IsTaskOf d task.old → OnOk result (IsToldTask d ends.now task.old task.new) }
+    ensures { (d : DraftView) → IsTaskOf d task.old
+        → OnOk result (IsToldTask d ends.now task.old task.new) }
 {
     if task.is_clean() {
         return Ok(());

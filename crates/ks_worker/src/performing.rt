@@ -49,12 +49,15 @@ impl<W: Work, G: Gate> Worker<W, G> {
         shared: &Shared<W>,
         pick: u32,
     ) -> Result<(), Halt>
-        requires may { MayAct W.plan H.hash_of shared.now.growing.id (draft_of topology.now) self.old.state }
-        ensures gate { self.new.state.session.client.gate ≡ counts_after self.old.state.session.client.gate result }
+        requires may { MayAct W.plan H.hash_of shared.now.growing.id (draft_of topology.now)
+            self.old.state }
+        ensures gate { self.new.state.session.client.gate
+            ≡ counts_after self.old.state.session.client.gate result }
         ensures later { LaterState W.plan self.old.state self.new.state }
         ensures placing { self.new.placing ≡ self.old.placing }
         ensures worker { OnOk result (IsWorkerState W.plan (draft_of topology.now) self.new.state) }
-        ensures does { OnOk result (Does W.plan (draft_of topology.now) (Working pick) self.old.state self.new.state) }
+        ensures does { OnOk result (Does W.plan (draft_of topology.now) (Working pick)
+            self.old.state self.new.state) }
     {
         let before = positions_of(topology, self.state.tasks.as_slice());
         let moved = work::<H, R, W, G>(rt, alloc, topology, shared, &mut self.state, pick)?;
@@ -76,12 +79,15 @@ impl<W: Work, G: Gate> Worker<W, G> {
         topology: &Topology,
         shared: &Shared<W>,
     ) -> Result<(), Halt>
-        requires may { MayAct W.plan H.hash_of shared.now.growing.id (draft_of topology.now) self.old.state }
-        ensures gate { self.new.state.session.client.gate ≡ counts_after self.old.state.session.client.gate result }
+        requires may { MayAct W.plan H.hash_of shared.now.growing.id (draft_of topology.now)
+            self.old.state }
+        ensures gate { self.new.state.session.client.gate
+            ≡ counts_after self.old.state.session.client.gate result }
         ensures later { LaterState W.plan self.old.state self.new.state }
         ensures placing { self.new.placing ≡ self.old.placing }
         ensures worker { OnOk result (IsWorkerState W.plan (draft_of topology.now) self.new.state) }
-        ensures does { OnOk result (Does W.plan (draft_of topology.now) Committing self.old.state self.new.state) }
+        ensures does { OnOk result (Does W.plan (draft_of topology.now) Committing self.old.state
+            self.new.state) }
     {
         commit_tasks::<H, R, W, G>(rt, alloc, topology, shared, &mut self.state)?;
         self.read = 0;
@@ -97,12 +103,15 @@ impl<W: Work, G: Gate> Worker<W, G> {
         shared: &Shared<W>,
         act: Act,
     ) -> Result<(), Halt>
-        requires may { MayAct W.plan H.hash_of shared.now.growing.id (draft_of topology.now) self.old.state }
-        ensures gate { self.new.state.session.client.gate ≡ counts_after self.old.state.session.client.gate result }
+        requires may { MayAct W.plan H.hash_of shared.now.growing.id (draft_of topology.now)
+            self.old.state }
+        ensures gate { self.new.state.session.client.gate
+            ≡ counts_after self.old.state.session.client.gate result }
         ensures later { LaterState W.plan self.old.state self.new.state }
         ensures placing { self.new.placing ≡ self.old.placing }
         ensures worker { OnOk result (IsWorkerState W.plan (draft_of topology.now) self.new.state) }
-        ensures does { OnOk result (Does W.plan (draft_of topology.now) act self.old.state self.new.state) }
+        ensures does { OnOk result (Does W.plan (draft_of topology.now) act self.old.state
+            self.new.state) }
     {
         let state = &mut self.state;
         match act {
@@ -150,14 +159,18 @@ impl<W: Work, G: Gate> Worker<W, G> {
         shared: &Shared<W>,
         act: Act,
     ) -> Result<(), AllocError>
-        requires may { MayAct W.plan H.hash_of shared.now.growing.id (draft_of topology.now) self.old.state }
-        ensures gate { IsCutOnce self.old.state.session.client.gate self.new.state.session.client.gate }
+        requires may { MayAct W.plan H.hash_of shared.now.growing.id (draft_of topology.now)
+            self.old.state }
+        ensures gate { IsCutOnce self.old.state.session.client.gate
+            self.new.state.session.client.gate }
         ensures later { LaterState W.plan self.old.state self.new.state }
         ensures placing { self.new.placing ≡ self.old.placing }
         ensures worker { OnOk result (IsWorkerState W.plan (draft_of topology.now) self.new.state) }
-        ensures does { OnOk result (self.new.state.session.client.gate ≡ self.old.state.session.client.gate
+        ensures does { OnOk result (self.new.state.session.client.gate
+            ≡ self.old.state.session.client.gate
             → Does W.plan (draft_of topology.now) act self.old.state self.new.state) }
-        ensures cut { OnOk result (self.new.state.session.client.gate ≢ self.old.state.session.client.gate
+        ensures cut { OnOk result (self.new.state.session.client.gate
+            ≢ self.old.state.session.client.gate
             → HasLostAll self.old.state self.new.state) }
     {
         match self.act::<H, R>(rt, alloc, topology, shared, act) {

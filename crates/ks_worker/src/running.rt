@@ -31,16 +31,19 @@ impl<W: Work, G: Gate> Worker<W, G> {
         topology: &Topology,
         shared: &Shared<W>,
     ) -> Result<bool, AllocError>
-        requires may { MayAct W.plan H.hash_of shared.now.growing.id (draft_of topology.now) self.old.state }
+        requires may { MayAct W.plan H.hash_of shared.now.growing.id (draft_of topology.now)
+            self.old.state }
         requires placing { PlacesBy W.good self.old.placing (draft_of topology.now)
             self.old.state.session.client.pass.frame }
         ensures placing { self.new.placing ≡ self.old.placing }
         ensures later { LaterState W.plan self.old.state self.new.state }
         ensures worker { OnOk result (IsWorkerState W.plan (draft_of topology.now) self.new.state) }
-        ensures once { IsCutOnce self.old.state.session.client.gate self.new.state.session.client.gate }
+        ensures once { IsCutOnce self.old.state.session.client.gate
+            self.new.state.session.client.gate }
         ensures goes_on { IfOk result (λ is_cut. is_cut ≡ false
             → self.new.state.session.client.gate ≡ self.old.state.session.client.gate) }
-        ensures is_cut { IfOk result (λ is_cut. is_cut ≡ true → self.new.state.session.client.gate.cuts
+        ensures is_cut { IfOk result (λ is_cut. is_cut ≡ true
+            → self.new.state.session.client.gate.cuts
             ≡ self.old.state.session.client.gate.cuts + 1) }
     {
         self.turn = self.turn.saturating_add(1);
@@ -73,9 +76,12 @@ impl<W: Work, G: Gate> Worker<W, G> {
         ensures placing { self.new.placing ≡ self.old.placing }
         ensures later { LaterState W.plan self.old.state self.new.state }
         ensures worker { OnOk result (IsWorkerState W.plan (draft_of topology.now) self.new.state) }
-        ensures counts { HasCounted self.old.state.session.client.gate self.new.state.session.client.gate 1 }
-        ensures asked { self.new.state.session.client.gate.asked ≡ self.old.state.session.client.gate.asked + 1 }
-        ensures stopped { IfOk result (λ stopped. stopped ≡ true → self.new.state.session.client.gate.stops
+        ensures counts { HasCounted self.old.state.session.client.gate
+            self.new.state.session.client.gate 1 }
+        ensures asked { self.new.state.session.client.gate.asked
+            ≡ self.old.state.session.client.gate.asked + 1 }
+        ensures stopped { IfOk result (λ stopped. stopped ≡ true
+            → self.new.state.session.client.gate.stops
             ≡ self.old.state.session.client.gate.stops + 1) }
         ensures shown { OnOk result (ShowsCalls self.old.state.member.number
             self.old.state.session.client.pass self.new.state.session.client.pass
@@ -105,10 +111,13 @@ impl<W: Work, G: Gate> Worker<W, G> {
         ensures placing { self.new.placing ≡ self.old.placing }
         ensures later { LaterState W.plan self.old.state self.new.state }
         ensures worker { OnOk result (IsWorkerState W.plan (draft_of topology.now) self.new.state) }
-        ensures counts { OnOk result (HasCounted self.old.state.session.client.gate self.new.state.session.client.gate 1) }
-        ensures ended { IfOk result (λ stopped. stopped ≡ true → self.new.state.session.client.gate.stops
+        ensures counts { OnOk result (HasCounted self.old.state.session.client.gate
+            self.new.state.session.client.gate 1) }
+        ensures ended { IfOk result (λ stopped. stopped ≡ true
+            → self.new.state.session.client.gate.stops
             ≡ self.old.state.session.client.gate.stops + 1) }
-        ensures took { OnOk result (self.old.state.session.client.gate.asked + self.old.state.session.client.gate.cuts + 1
+        ensures took { OnOk result (self.old.state.session.client.gate.asked
+            + self.old.state.session.client.gate.cuts + 1
             ≤ self.new.state.session.client.gate.asked + self.new.state.session.client.gate.cuts) }
         ensures shown { OnOk result (ShowsCalls self.old.state.member.number
             self.old.state.session.client.pass self.new.state.session.client.pass
@@ -138,8 +147,10 @@ impl<W: Work, G: Gate> Worker<W, G> {
         ensures placing { self.new.placing ≡ self.old.placing }
         ensures later { LaterState W.plan self.old.state self.new.state }
         ensures worker { OnOk result (IsWorkerState W.plan (draft_of topology.now) self.new.state) }
-        ensures counts { OnOk result (HasCounted self.old.state.session.client.gate self.new.state.session.client.gate turns) }
-        ensures ended { OnOk result (HasEndedBy turns self.old.state.session.client.gate self.new.state.session.client.gate) }
+        ensures counts { OnOk result (HasCounted self.old.state.session.client.gate
+            self.new.state.session.client.gate turns) }
+        ensures ended { OnOk result (HasEndedBy turns self.old.state.session.client.gate
+            self.new.state.session.client.gate) }
         ensures shown { OnOk result (ShowsCalls self.old.state.member.number
             self.old.state.session.client.pass self.new.state.session.client.pass
             self.old.state.session.client.gate self.new.state.session.client.gate) }

@@ -41,7 +41,12 @@ impl<W: Work, G: Gate> Worker<W, G> {
         requires instance { instance ≤ 3 }
         ensures pass { result.state.session.client.pass ≡ pass }
         ensures gate { result.state.session.client.gate
-            ≡ record { asked = G.asked gate; stops = G.stops gate; calls = G.calls gate; cuts = G.cuts gate } }
+            ≡ record {
+              asked = G.asked gate;
+              stops = G.stops gate;
+              calls = G.calls gate;
+              cuts = G.cuts gate;
+            } }
         ensures new { IsNew number instance result.state }
         ensures placing { result.placing ≡ placing }
     {

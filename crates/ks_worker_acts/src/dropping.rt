@@ -23,7 +23,8 @@ pub fn abort<W: Work, G: Gate>(state: &mut WorkerState<W, G>)
     ensures session { state.new.session ≡ state.old.session }
     ensures replicas { state.new.replicas ≡ state.old.replicas }
     ensures tasks { state.new.tasks.items ≡ filter is_clean_task state.old.tasks.items }
-    ensures worker { (d : DraftView) → IsWorkerState W.plan d state.old → IsWorkerState W.plan d state.new }
+    ensures worker { (d : DraftView) → IsWorkerState W.plan d state.old
+        → IsWorkerState W.plan d state.new }
 {
     state.tasks.retain(
         |task: &Task|

@@ -32,13 +32,15 @@ fn feed_place<H: Hash128, R: Wait, W: Work, G: Gate>(
 ) -> Result<(), Halt>
     requires may { MayAct W.plan H.hash_of shared.now.growing.id (draft_of topology.now) state.old }
     requires index { index < length state.old.replicas.items }
-    ensures gate { state.new.session.client.gate ≡ counts_after state.old.session.client.gate result }
+    ensures gate { state.new.session.client.gate
+        ≡ counts_after state.old.session.client.gate result }
     ensures later { LaterState W.plan state.old state.new }
     ensures same { KnowsTheSame state.old state.new }
     ensures tasks { state.new.tasks ≡ state.old.tasks }
     ensures worker { OnOk result (IsWorkerState W.plan (draft_of topology.now) state.new) }
     ensures fed { OnOk result (IsFedAt (setup_in W.plan state.old.session.client.pass.frame)
-        state.old.session.client.pass.seen index state.old.replicas.items state.new.replicas.items) }
+        state.old.session.client.pass.seen index state.old.replicas.items
+        state.new.replicas.items) }
 {
     let replica = &mut state.replicas[index];
     let changelogs = changelogs_in(topology, replica.id().sub);
@@ -62,7 +64,8 @@ fn feed_all<H: Hash128, R: Wait, W: Work, G: Gate>(
     state: &mut WorkerState<W, G>,
 ) -> Result<(), Halt>
     requires may { MayAct W.plan H.hash_of shared.now.growing.id (draft_of topology.now) state.old }
-    ensures gate { state.new.session.client.gate ≡ counts_after state.old.session.client.gate result }
+    ensures gate { state.new.session.client.gate
+        ≡ counts_after state.old.session.client.gate result }
     ensures later { LaterState W.plan state.old state.new }
     ensures same { KnowsTheSame state.old state.new }
     ensures tasks { state.new.tasks ≡ state.old.tasks }
@@ -111,7 +114,8 @@ pub fn pump<H: Hash128, R: Wait, W: Work, G: Gate>(
     waiting: u32,
 ) -> Result<(), Halt>
     requires may { MayAct W.plan H.hash_of shared.now.growing.id (draft_of topology.now) state.old }
-    ensures gate { state.new.session.client.gate ≡ counts_after state.old.session.client.gate result }
+    ensures gate { state.new.session.client.gate
+        ≡ counts_after state.old.session.client.gate result }
     ensures later { LaterState W.plan state.old state.new }
     ensures same { KnowsTheSame state.old state.new }
     ensures tasks { state.new.tasks ≡ state.old.tasks }

@@ -54,7 +54,8 @@ fn park_all<R: Wait, W: Work, G: Gate>(
 ) -> Result<(), Halt>
     requires may { MayCall W.plan shared.now.growing.id client.old.pass client.old.gate }
     requires instance { instance ≤ 3 }
-    requires standbys { All (IsStandby (setup_in W.plan client.old.pass.frame) client.old.pass.seen) replicas.items }
+    requires standbys { All (IsStandby (setup_in W.plan client.old.pass.frame) client.old.pass.seen)
+        replicas.items }
     ensures gate { client.new.gate ≡ counts_after client.old.gate result }
     ensures later { Later W.plan client.old.pass client.new.pass }
     ensures parked { OnOk result (HasGained client.old.pass client.new.pass
@@ -77,16 +78,20 @@ pub fn leave<R: Wait, W: Work, G: Gate>(
     shared: &Shared<W>,
     state: &mut WorkerState<W, G>,
 ) -> Result<(), Halt>
-    requires may { (hash : List ℕ → ℕ) × (d : DraftView) × MayAct W.plan hash shared.now.growing.id d state.old }
-    ensures gate { state.new.session.client.gate ≡ counts_after state.old.session.client.gate result }
+    requires may { (hash : List ℕ → ℕ) × (d : DraftView)
+        × MayAct W.plan hash shared.now.growing.id d state.old }
+    ensures gate { state.new.session.client.gate
+        ≡ counts_after state.old.session.client.gate result }
     ensures later { LaterState W.plan state.old state.new }
     ensures member { OnOk result (state.new.member ≡ outside state.old.member) }
     ensures tasks { OnOk result (state.new.tasks.items ≡ []) }
     ensures replicas { OnOk result (state.new.replicas.items ≡ []) }
     ensures worker { OnOk result ((d : DraftView) → IsWorkerState W.plan d state.new) }
-    ensures left { OnOk result (HasGained state.old.session.client.pass state.new.session.client.pass
+    ensures left { OnOk result (HasGained state.old.session.client.pass
+        state.new.session.client.pass
         (parks state.old.member.instance (replica_names state.old.replicas.items
-        ++ task_names (filter is_clean_task state.old.tasks.items)) ++ Expire state.old.member.number ∷ [])) }
+        ++ task_names (filter is_clean_task state.old.tasks.items))
+        ++ Expire state.old.member.number ∷ [])) }
 {
     let member = state.member;
     let tasks = mem::replace(&mut state.tasks, Vec::new(alloc));

@@ -30,13 +30,15 @@ fn read_place<H: Hash128, R: Wait, W: Work, G: Gate>(
 ) -> Result<bool, Halt>
     requires may { MayAct W.plan H.hash_of shared.now.growing.id (draft_of topology.now) state.old }
     requires place { IsInputAt (input_numbers (plan_in topology.now)) state.old.tasks.items place }
-    ensures gate { state.new.session.client.gate ≡ counts_after state.old.session.client.gate result }
+    ensures gate { state.new.session.client.gate
+        ≡ counts_after state.old.session.client.gate result }
     ensures later { LaterState W.plan state.old state.new }
     ensures same { KnowsTheSame state.old state.new }
     ensures replicas { state.new.replicas ≡ state.old.replicas }
     ensures worker { OnOk result (IsWorkerState W.plan (draft_of topology.now) state.new) }
     ensures looked { IfOk result (λ moved. HasLooked
-        (setup_in W.plan state.old.session.client.pass.frame) state.old.session.client.pass.seen moved
+        (setup_in W.plan state.old.session.client.pass.frame) state.old.session.client.pass.seen
+        moved
         (place ∷ []) state.old.tasks.items state.new.tasks.items) }
 {
     let member = state.member;
@@ -63,14 +65,17 @@ fn read_first<H: Hash128, R: Wait, W: Work, G: Gate>(
     places: &[InputPlace],
 ) -> Result<bool, Halt>
     requires may { MayAct W.plan H.hash_of shared.now.growing.id (draft_of topology.now) state.old }
-    requires places { All (IsInputAt (input_numbers (plan_in topology.now)) state.old.tasks.items) places.now }
-    ensures gate { state.new.session.client.gate ≡ counts_after state.old.session.client.gate result }
+    requires places { All (IsInputAt (input_numbers (plan_in topology.now)) state.old.tasks.items)
+        places.now }
+    ensures gate { state.new.session.client.gate
+        ≡ counts_after state.old.session.client.gate result }
     ensures later { LaterState W.plan state.old state.new }
     ensures same { KnowsTheSame state.old state.new }
     ensures replicas { state.new.replicas ≡ state.old.replicas }
     ensures worker { OnOk result (IsWorkerState W.plan (draft_of topology.now) state.new) }
     ensures looked { IfOk result (λ moved. HasLooked
-        (setup_in W.plan state.old.session.client.pass.frame) state.old.session.client.pass.seen moved
+        (setup_in W.plan state.old.session.client.pass.frame) state.old.session.client.pass.seen
+        moved
         places.now state.old.tasks.items state.new.tasks.items) }
 {
     for i in 0..places.len() {
@@ -93,15 +98,18 @@ fn read_round<H: Hash128, R: Wait, W: Work, G: Gate>(
     start: usize,
 ) -> Result<bool, Halt>
     requires may { MayAct W.plan H.hash_of shared.now.growing.id (draft_of topology.now) state.old }
-    requires places { All (IsInputAt (input_numbers (plan_in topology.now)) state.old.tasks.items) places.now }
+    requires places { All (IsInputAt (input_numbers (plan_in topology.now)) state.old.tasks.items)
+        places.now }
     requires start { start < length places.now }
-    ensures gate { state.new.session.client.gate ≡ counts_after state.old.session.client.gate result }
+    ensures gate { state.new.session.client.gate
+        ≡ counts_after state.old.session.client.gate result }
     ensures later { LaterState W.plan state.old state.new }
     ensures same { KnowsTheSame state.old state.new }
     ensures replicas { state.new.replicas ≡ state.old.replicas }
     ensures worker { OnOk result (IsWorkerState W.plan (draft_of topology.now) state.new) }
     ensures looked { IfOk result (λ moved. HasLooked
-        (setup_in W.plan state.old.session.client.pass.frame) state.old.session.client.pass.seen moved
+        (setup_in W.plan state.old.session.client.pass.frame) state.old.session.client.pass.seen
+        moved
         places.now state.old.tasks.items state.new.tasks.items) }
 {
     let (front, back) = places.split_at(start);
@@ -125,12 +133,14 @@ pub fn work<H: Hash128, R: Wait, W: Work, G: Gate>(
     pick: u32,
 ) -> Result<bool, Halt>
     requires may { MayAct W.plan H.hash_of shared.now.growing.id (draft_of topology.now) state.old }
-    ensures gate { state.new.session.client.gate ≡ counts_after state.old.session.client.gate result }
+    ensures gate { state.new.session.client.gate
+        ≡ counts_after state.old.session.client.gate result }
     ensures later { LaterState W.plan state.old state.new }
     ensures same { KnowsTheSame state.old state.new }
     ensures replicas { state.new.replicas ≡ state.old.replicas }
     ensures worker { OnOk result (IsWorkerState W.plan (draft_of topology.now) state.new) }
-    ensures names { OnOk result (task_names state.new.tasks.items ≡ task_names state.old.tasks.items) }
+    ensures names { OnOk result (task_names state.new.tasks.items
+        ≡ task_names state.old.tasks.items) }
     ensures read { OnOk result (HaveReadOn state.old.tasks.items state.new.tasks.items) }
     ensures moved { IfOk result (λ moved. moved ≡ true
         → HasMoved state.old.tasks.items state.new.tasks.items) }

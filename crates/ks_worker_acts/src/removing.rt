@@ -28,13 +28,16 @@ pub fn evict<R: Wait, W: Work, G: Gate>(
     state: &mut WorkerState<W, G>,
     w: u8,
 ) -> Result<(), Halt>
-    requires may { MayCall W.plan shared.now.growing.id state.old.session.client.pass state.old.session.client.gate }
-    ensures gate { state.new.session.client.gate ≡ counts_after state.old.session.client.gate result }
+    requires may { MayCall W.plan shared.now.growing.id state.old.session.client.pass
+        state.old.session.client.gate }
+    ensures gate { state.new.session.client.gate
+        ≡ counts_after state.old.session.client.gate result }
     ensures later { LaterState W.plan state.old state.new }
     ensures same { KnowsTheSame state.old state.new }
     ensures tasks { state.new.tasks ≡ state.old.tasks }
     ensures replicas { state.new.replicas ≡ state.old.replicas }
-    ensures worker { (d : DraftView) → IsWorkerState W.plan d state.old → IsWorkerState W.plan d state.new }
+    ensures worker { (d : DraftView) → IsWorkerState W.plan d state.old
+        → IsWorkerState W.plan d state.new }
     ensures expired { OnOk result (w ≤ 15 → HasGained state.old.session.client.pass
         state.new.session.client.pass (Expire w ∷ [])) }
 {

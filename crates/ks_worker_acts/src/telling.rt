@@ -91,13 +91,15 @@ pub fn probe<H: Hash128, R: Wait, W: Work, G: Gate>(
     state: &mut WorkerState<W, G>,
 ) -> Result<(), Halt>
     requires may { MayAct W.plan H.hash_of shared.now.growing.id (draft_of topology.now) state.old }
-    ensures gate { state.new.session.client.gate ≡ counts_after state.old.session.client.gate result }
+    ensures gate { state.new.session.client.gate
+        ≡ counts_after state.old.session.client.gate result }
     ensures later { LaterState W.plan state.old state.new }
     ensures same { KnowsTheSame state.old state.new }
     ensures tasks { state.new.tasks ≡ state.old.tasks }
     ensures replicas { state.new.replicas ≡ state.old.replicas }
     ensures worker { OnOk result (IsWorkerState W.plan (draft_of topology.now) state.new) }
-    ensures told { OnOk result (HasGained state.old.session.client.pass state.new.session.client.pass
+    ensures told { OnOk result (HasGained state.old.session.client.pass
+        state.new.session.client.pass
         (Hold state.old.member.number (positions_held (changelog_numbers (plan_in topology.now))
         state.old.tasks.items state.old.replicas.items)
         ∷ Probe state.old.member.number state.old.member.generation ∷ [])) }

@@ -40,17 +40,21 @@ fn send_and_decide<R: Wait, W: Work, G: Gate>(
     works: &[Frozen],
 ) -> Result<(), Halt>
     requires may { MayRequest shared.now.growing.id member.number session.old }
-    requires known { IsWorker W.plan session.old.client.pass member.number member.epoch member.generation
+    requires known { IsWorker W.plan session.old.client.pass member.number member.epoch
+        member.generation
         session.old.last (works_of works.now) }
     requires numbered { touched member.number session.old.client.pass.seen ≡ session.old.last
-        → IsNumbered (at (setup_in W.plan session.old.client.pass.frame) session.old.client.pass.seen)
+        → IsNumbered (at (setup_in W.plan session.old.client.pass.frame)
+        session.old.client.pass.seen)
         member.number member.epoch session.old.numbers.items }
     requires none { session.old.ends.items ≡ [] }
     requires some { works.now ≢ [] }
     requires apart { AreApart (works_of works.now) }
     requires works { EachOf (setup_in W.plan session.old.client.pass.frame)
-        (at (setup_in W.plan session.old.client.pass.frame) session.old.client.pass.seen) (works_of works.now) }
-    ensures requests { Requests W.plan session.old.client.pass session.new.client.pass member.number }
+        (at (setup_in W.plan session.old.client.pass.frame) session.old.client.pass.seen)
+        (works_of works.now) }
+    ensures requests { Requests W.plan session.old.client.pass session.new.client.pass
+        member.number }
     ensures ends { EndsSo W.plan session.old.client.pass session.new.client.pass
         member.number member.epoch member.generation session.old.last
         (memory session.new.last session.new.numbers.items session.new.ends.items)
@@ -77,7 +81,8 @@ fn write_markers<R: Wait, W: Work, G: Gate>(
     member: Member,
 ) -> Result<(), Halt>
     requires may { MayRequest shared.now.growing.id member.number session.old }
-    ensures requests { Requests W.plan session.old.client.pass session.new.client.pass member.number }
+    ensures requests { Requests W.plan session.old.client.pass session.new.client.pass
+        member.number }
     ensures none { OnOk result (((at (setup_in W.plan session.old.client.pass.frame)
         session.new.client.pass.seen).producer member.number).waiting ≡ []) }
     ensures done { NeverBarred result }
@@ -117,7 +122,8 @@ fn turn_back<R: Wait, W: Work, G: Gate>(
     member: Member,
 ) -> Result<Outcome, AllocError>
     requires may { MayRequest shared.now.growing.id member.number session.old }
-    ensures requests { Requests W.plan session.old.client.pass session.new.client.pass member.number }
+    ensures requests { Requests W.plan session.old.client.pass session.new.client.pass
+        member.number }
     ensures so { IfOk result (TurnsBackSo W.plan session.old.client.pass session.new.client.pass
         member.number member.epoch
         (memory session.old.last session.old.numbers.items session.old.ends.items)
@@ -140,8 +146,10 @@ fn abort<R: Wait, W: Work, G: Gate>(
     member: Member,
 ) -> Result<Outcome, AllocError>
     requires may { MayRequest shared.now.growing.id member.number session.old }
-    ensures requests { Requests W.plan session.old.client.pass session.new.client.pass member.number }
-    ensures so { IfOk result (AbortsSo W.plan session.old.client.pass session.new.client.pass member.number member.epoch
+    ensures requests { Requests W.plan session.old.client.pass session.new.client.pass
+        member.number }
+    ensures so { IfOk result (AbortsSo W.plan session.old.client.pass session.new.client.pass
+        member.number member.epoch
         (memory session.old.last session.old.numbers.items session.old.ends.items)
         (memory session.new.last session.new.numbers.items session.new.ends.items)) }
     ensures gate { session.new.client.gate ≡ with_cuts session.old.client.gate (cut_of result) }
@@ -169,7 +177,8 @@ fn finish<R: Wait, W: Work, G: Gate>(
     member: Member,
 ) -> Result<Outcome, AllocError>
     requires may { MayRequest shared.now.growing.id member.number session.old }
-    ensures requests { Requests W.plan session.old.client.pass session.new.client.pass member.number }
+    ensures requests { Requests W.plan session.old.client.pass session.new.client.pass
+        member.number }
     ensures same { memory session.new.last session.new.numbers.items session.new.ends.items
         ≡ memory session.old.last session.old.numbers.items session.old.ends.items }
     ensures so { IfOk result (FinishesSo ((at (setup_in W.plan session.old.client.pass.frame)
@@ -199,27 +208,34 @@ pub fn commit<R: Wait, W: Work, G: Gate>(
     member: Member,
     works: &[Frozen],
 ) -> Result<Outcome, AllocError>
-    requires may { MayCall W.plan shared.now.growing.id session.old.client.pass session.old.client.gate }
+    requires may { MayCall W.plan shared.now.growing.id session.old.client.pass
+        session.old.client.gate }
     requires worker { member.number ≤ 16 }
-    requires seen { MemberHasSeen (setup_in W.plan session.old.client.pass.frame) session.old.client.pass.seen
+    requires seen { MemberHasSeen (setup_in W.plan session.old.client.pass.frame)
+        session.old.client.pass.seen
         member session.old.last }
-    requires producer { IsProducer (setup_in W.plan session.old.client.pass.frame) session.old.client.pass.seen
+    requires producer { IsProducer (setup_in W.plan session.old.client.pass.frame)
+        session.old.client.pass.seen
         member session.old.last session.old.numbers.items }
-    requires active { AreActiveWorks (setup_in W.plan session.old.client.pass.frame) session.old.client.pass.seen
+    requires active { AreActiveWorks (setup_in W.plan session.old.client.pass.frame)
+        session.old.client.pass.seen
         member.number member.generation session.old.last (works_of works.now) }
     requires some { works.now ≢ [] }
     requires apart { AreApart (works_of works.now) }
     requires works { EachOf (setup_in W.plan session.old.client.pass.frame)
-        (at (setup_in W.plan session.old.client.pass.frame) session.old.client.pass.seen) (works_of works.now) }
+        (at (setup_in W.plan session.old.client.pass.frame) session.old.client.pass.seen)
+        (works_of works.now) }
     ensures later { Later W.plan session.old.client.pass session.new.client.pass }
-    ensures requests { Requests W.plan session.old.client.pass session.new.client.pass member.number }
+    ensures requests { Requests W.plan session.old.client.pass session.new.client.pass
+        member.number }
     ensures cases { IfOk result (HasCase W.plan session.old.client.pass session.new.client.pass
         member.number member.epoch member.generation session.old.last
         (λ t. pending_of t (pendings_of (works_of works.now)))) }
     ensures producer { IfOk result (LeavesProducer (setup_in W.plan session.old.client.pass.frame)
         session.new.client.pass.seen member session.new.last session.new.numbers.items) }
     ensures tasks { IfOk result (LeavesTasks (setup_in W.plan session.old.client.pass.frame)
-        session.old.client.pass.seen session.new.client.pass.seen member session.old.last session.new.last
+        session.old.client.pass.seen session.new.client.pass.seen member session.old.last
+        session.new.last
         (works_of works.now) session.new.ends.items) }
     ensures marked { IfOk result (LeavesNoMarker (setup_in W.plan session.old.client.pass.frame)
         session.new.client.pass.seen member.number) }

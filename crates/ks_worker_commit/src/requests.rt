@@ -42,7 +42,8 @@ fn note_end(
     offset: u64,
     recs: &[Rec],
 ) -> Result<(), AllocError>
-    ensures { OnOk result (ends.new.items ≡ with_end place.0 place.1 offset recs.now ends.old.items) }
+    ensures { OnOk result (ends.new.items ≡ with_end place.0 place.1 offset recs.now
+        ends.old.items) }
 {
     if recs.is_empty() {
         return Ok(());
@@ -85,7 +86,8 @@ pub fn add_part<R: Wait, W: Work, G: Gate>(
 ) -> Result<(), Halt>
     requires may { MayRequest shared.now.growing.id member.number session.old }
     requires part { IsPart (setup_in W.plan session.old.client.pass.frame) part }
-    ensures requests { Requests W.plan session.old.client.pass session.new.client.pass member.number }
+    ensures requests { Requests W.plan session.old.client.pass session.new.client.pass
+        member.number }
     ensures carries { Carries W.plan session.old.client.pass session.new.client.pass
         member.number member.epoch member.generation
         (memory session.old.last session.old.numbers.items session.old.ends.items)
@@ -122,7 +124,8 @@ pub fn append_output<R: Wait, W: Work, G: Gate>(
     requires may { MayRequest shared.now.growing.id member.number session.old }
     requires part { IsPart (setup_in W.plan session.old.client.pass.frame) out.now.0 }
     requires task { has_task task (setup_in W.plan session.old.client.pass.frame).tasks ≡ true }
-    ensures requests { Requests W.plan session.old.client.pass session.new.client.pass member.number }
+    ensures requests { Requests W.plan session.old.client.pass session.new.client.pass
+        member.number }
     ensures carries { Carries W.plan session.old.client.pass session.new.client.pass
         member.number member.epoch member.generation
         (memory session.old.last session.old.numbers.items session.old.ends.items)
@@ -160,18 +163,23 @@ pub fn send_offsets<R: Wait, W: Work, G: Gate>(
     work: &Frozen,
 ) -> Result<(), Halt>
     requires may { MayRequest shared.now.growing.id member.number session.old }
-    requires task { has_task work.now.task (setup_in W.plan session.old.client.pass.frame).tasks ≡ true }
-    requires offsets { are_offsets (setup_in W.plan session.old.client.pass.frame)
-        (at (setup_in W.plan session.old.client.pass.frame) session.old.client.pass.seen) work.now.task work.now.offsets
+    requires task { has_task work.now.task (setup_in W.plan session.old.client.pass.frame).tasks
         ≡ true }
-    ensures requests { Requests W.plan session.old.client.pass session.new.client.pass member.number }
+    requires offsets { are_offsets (setup_in W.plan session.old.client.pass.frame)
+        (at (setup_in W.plan session.old.client.pass.frame) session.old.client.pass.seen)
+        work.now.task work.now.offsets
+        ≡ true }
+    ensures requests { Requests W.plan session.old.client.pass session.new.client.pass
+        member.number }
     ensures carries { Carries W.plan session.old.client.pass session.new.client.pass
         member.number member.epoch member.generation
         (memory session.old.last session.old.numbers.items session.old.ends.items)
         (memory session.new.last session.new.numbers.items session.new.ends.items)
         (has_work work.now.task) (with_pending_offsets (pending_work (work_view work.now))) result }
-    ensures sent { OnOk result (touched member.number session.new.client.pass.seen ≡ session.new.last) }
-    ensures generation { OnOk result ((at (setup_in W.plan session.old.client.pass.frame) session.new.client.pass.seen).generation
+    ensures sent { OnOk result (touched member.number session.new.client.pass.seen
+        ≡ session.new.last) }
+    ensures generation { OnOk result ((at (setup_in W.plan session.old.client.pass.frame)
+        session.new.client.pass.seen).generation
         ≡ member.generation) }
     ensures gate { session.new.client.gate ≡ with_cuts session.old.client.gate (cuts_in result) }
 {
@@ -207,7 +215,8 @@ pub fn decide_commit<R: Wait, W: Work, G: Gate>(
     requires faithful { CommitsFaithfully (setup_in W.plan session.old.client.pass.frame)
         (at (setup_in W.plan session.old.client.pass.frame) session.old.client.pass.seen)
         (Decide member.number member.epoch true) }
-    ensures requests { Requests W.plan session.old.client.pass session.new.client.pass member.number }
+    ensures requests { Requests W.plan session.old.client.pass session.new.client.pass
+        member.number }
     ensures decides { Decides W.plan session.old.client.pass session.new.client.pass
         member.number member.epoch member.generation
         (memory session.old.last session.old.numbers.items session.old.ends.items)
@@ -230,8 +239,10 @@ pub fn decide_abort<R: Wait, W: Work, G: Gate>(
     member: Member,
 ) -> Result<(), Halt>
     requires may { MayRequest shared.now.growing.id member.number session.old }
-    ensures requests { Requests W.plan session.old.client.pass session.new.client.pass member.number }
-    ensures aborts { Aborts W.plan session.old.client.pass session.new.client.pass member.number member.epoch
+    ensures requests { Requests W.plan session.old.client.pass session.new.client.pass
+        member.number }
+    ensures aborts { Aborts W.plan session.old.client.pass session.new.client.pass member.number
+        member.epoch
         (memory session.old.last session.old.numbers.items session.old.ends.items)
         (memory session.new.last session.new.numbers.items session.new.ends.items) result }
     ensures gate { session.new.client.gate ≡ with_cuts session.old.client.gate (cuts_in result) }
@@ -252,11 +263,13 @@ pub fn write_marker<R: Wait, W: Work, G: Gate>(
     member: Member,
 ) -> Result<bool, Halt>
     requires may { MayRequest shared.now.growing.id member.number session.old }
-    ensures requests { Requests W.plan session.old.client.pass session.new.client.pass member.number }
+    ensures requests { Requests W.plan session.old.client.pass session.new.client.pass
+        member.number }
     ensures same { memory session.new.last session.new.numbers.items session.new.ends.items
         ≡ memory session.old.last session.old.numbers.items session.old.ends.items }
     ensures done { NeverBarred result }
-    ensures none { IfOk result (λ more. more ≡ false → ((at (setup_in W.plan session.old.client.pass.frame)
+    ensures none { IfOk result (λ more. more ≡ false
+        → ((at (setup_in W.plan session.old.client.pass.frame)
         session.new.client.pass.seen).producer member.number).waiting ≡ []) }
     ensures gate { session.new.client.gate ≡ with_cuts session.old.client.gate (cuts_in result) }
 {

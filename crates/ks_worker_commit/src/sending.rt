@@ -33,7 +33,8 @@ pub(crate) fn add_parts<R: Wait, W: Work, G: Gate>(
 ) -> Result<(), Halt>
     requires may { MayRequest shared.now.growing.id member.number session.old }
     requires parts { All (IsPart (setup_in W.plan session.old.client.pass.frame)) parts.now }
-    ensures requests { Requests W.plan session.old.client.pass session.new.client.pass member.number }
+    ensures requests { Requests W.plan session.old.client.pass session.new.client.pass
+        member.number }
     ensures carries { Carries W.plan session.old.client.pass session.new.client.pass
         member.number member.epoch member.generation
         (memory session.old.last session.old.numbers.items session.old.ends.items)
@@ -63,7 +64,8 @@ fn append_if_in<R: Wait, W: Work, G: Gate>(
     requires may { MayRequest shared.now.growing.id member.number session.old }
     requires part { IsPart (setup_in W.plan session.old.client.pass.frame) out.now.0 }
     requires task { has_task place.0 (setup_in W.plan session.old.client.pass.frame).tasks ≡ true }
-    ensures requests { Requests W.plan session.old.client.pass session.new.client.pass member.number }
+    ensures requests { Requests W.plan session.old.client.pass session.new.client.pass
+        member.number }
     ensures carries { Carries W.plan session.old.client.pass session.new.client.pass
         member.number member.epoch member.generation
         (memory session.old.last session.old.numbers.items session.old.ends.items)
@@ -88,9 +90,11 @@ fn append_outputs<R: Wait, W: Work, G: Gate>(
     outputs: &[(PartId, Seq<Rec>)],
 ) -> Result<(), Halt>
     requires may { MayRequest shared.now.growing.id member.number session.old }
-    requires parts { All (λ out. IsPart (setup_in W.plan session.old.client.pass.frame) out.0) outputs.now }
+    requires parts { All (λ out. IsPart (setup_in W.plan session.old.client.pass.frame) out.0)
+        outputs.now }
     requires task { has_task place.0 (setup_in W.plan session.old.client.pass.frame).tasks ≡ true }
-    ensures requests { Requests W.plan session.old.client.pass session.new.client.pass member.number }
+    ensures requests { Requests W.plan session.old.client.pass session.new.client.pass
+        member.number }
     ensures carries { Carries W.plan session.old.client.pass session.new.client.pass
         member.number member.epoch member.generation
         (memory session.old.last session.old.numbers.items session.old.ends.items)
@@ -118,9 +122,12 @@ fn append_work<R: Wait, W: Work, G: Gate>(
     work: &Frozen,
 ) -> Result<(), Halt>
     requires may { MayRequest shared.now.growing.id member.number session.old }
-    requires parts { All (λ out. IsPart (setup_in W.plan session.old.client.pass.frame) out.0) work.now.outputs }
-    requires task { has_task work.now.task (setup_in W.plan session.old.client.pass.frame).tasks ≡ true }
-    ensures requests { Requests W.plan session.old.client.pass session.new.client.pass member.number }
+    requires parts { All (λ out. IsPart (setup_in W.plan session.old.client.pass.frame) out.0)
+        work.now.outputs }
+    requires task { has_task work.now.task (setup_in W.plan session.old.client.pass.frame).tasks
+        ≡ true }
+    ensures requests { Requests W.plan session.old.client.pass session.new.client.pass
+        member.number }
     ensures carries { Carries W.plan session.old.client.pass session.new.client.pass
         member.number member.epoch member.generation
         (memory session.old.last session.old.numbers.items session.old.ends.items)
@@ -152,8 +159,10 @@ fn append_part<R: Wait, W: Work, G: Gate>(
 ) -> Result<(), Halt>
     requires may { MayRequest shared.now.growing.id member.number session.old }
     requires works { EachOf (setup_in W.plan session.old.client.pass.frame)
-        (at (setup_in W.plan session.old.client.pass.frame) session.old.client.pass.seen) (works_of works.now) }
-    ensures requests { Requests W.plan session.old.client.pass session.new.client.pass member.number }
+        (at (setup_in W.plan session.old.client.pass.frame) session.old.client.pass.seen)
+        (works_of works.now) }
+    ensures requests { Requests W.plan session.old.client.pass session.new.client.pass
+        member.number }
     ensures carries { Carries W.plan session.old.client.pass session.new.client.pass
         member.number member.epoch member.generation
         (memory session.old.last session.old.numbers.items session.old.ends.items)
@@ -182,8 +191,10 @@ pub(crate) fn append_parts<R: Wait, W: Work, G: Gate>(
 ) -> Result<(), Halt>
     requires may { MayRequest shared.now.growing.id member.number session.old }
     requires works { EachOf (setup_in W.plan session.old.client.pass.frame)
-        (at (setup_in W.plan session.old.client.pass.frame) session.old.client.pass.seen) (works_of works.now) }
-    ensures requests { Requests W.plan session.old.client.pass session.new.client.pass member.number }
+        (at (setup_in W.plan session.old.client.pass.frame) session.old.client.pass.seen)
+        (works_of works.now) }
+    ensures requests { Requests W.plan session.old.client.pass session.new.client.pass
+        member.number }
     ensures carries { Carries W.plan session.old.client.pass session.new.client.pass
         member.number member.epoch member.generation
         (memory session.old.last session.old.numbers.items session.old.ends.items)
@@ -211,16 +222,20 @@ pub(crate) fn send_works<R: Wait, W: Work, G: Gate>(
 ) -> Result<(), Halt>
     requires may { MayRequest shared.now.growing.id member.number session.old }
     requires works { EachOf (setup_in W.plan session.old.client.pass.frame)
-        (at (setup_in W.plan session.old.client.pass.frame) session.old.client.pass.seen) (works_of works.now) }
-    ensures requests { Requests W.plan session.old.client.pass session.new.client.pass member.number }
+        (at (setup_in W.plan session.old.client.pass.frame) session.old.client.pass.seen)
+        (works_of works.now) }
+    ensures requests { Requests W.plan session.old.client.pass session.new.client.pass
+        member.number }
     ensures carries { Carries W.plan session.old.client.pass session.new.client.pass
         member.number member.epoch member.generation
         (memory session.old.last session.old.numbers.items session.old.ends.items)
         (memory session.new.last session.new.numbers.items session.new.ends.items)
         (have_works (works_of works.now)) (send_all (works_of works.now)) result }
-    ensures sent { OnOk result (works.now ≢ [] → touched member.number session.new.client.pass.seen ≡ session.new.last) }
+    ensures sent { OnOk result (works.now ≢ [] → touched member.number session.new.client.pass.seen
+        ≡ session.new.last) }
     ensures generation { OnOk result (works.now ≢ []
-        → (at (setup_in W.plan session.old.client.pass.frame) session.new.client.pass.seen).generation ≡ member.generation) }
+        → (at (setup_in W.plan session.old.client.pass.frame)
+        session.new.client.pass.seen).generation ≡ member.generation) }
     ensures gate { session.new.client.gate ≡ with_cuts session.old.client.gate (cuts_in result) }
 {
     for i in 0..works.len() {
@@ -245,16 +260,20 @@ pub(crate) fn send<R: Wait, W: Work, G: Gate>(
     requires may { MayRequest shared.now.growing.id member.number session.old }
     requires parts { All (IsPart (setup_in W.plan session.old.client.pass.frame)) parts.now }
     requires works { EachOf (setup_in W.plan session.old.client.pass.frame)
-        (at (setup_in W.plan session.old.client.pass.frame) session.old.client.pass.seen) (works_of works.now) }
-    ensures requests { Requests W.plan session.old.client.pass session.new.client.pass member.number }
+        (at (setup_in W.plan session.old.client.pass.frame) session.old.client.pass.seen)
+        (works_of works.now) }
+    ensures requests { Requests W.plan session.old.client.pass session.new.client.pass
+        member.number }
     ensures carries { Carries W.plan session.old.client.pass session.new.client.pass
         member.number member.epoch member.generation
         (memory session.old.last session.old.numbers.items session.old.ends.items)
         (memory session.new.last session.new.numbers.items session.new.ends.items)
         (have_works (works_of works.now)) (sends_of parts.now (works_of works.now)) result }
-    ensures sent { OnOk result (works.now ≢ [] → touched member.number session.new.client.pass.seen ≡ session.new.last) }
+    ensures sent { OnOk result (works.now ≢ [] → touched member.number session.new.client.pass.seen
+        ≡ session.new.last) }
     ensures generation { OnOk result (works.now ≢ []
-        → (at (setup_in W.plan session.old.client.pass.frame) session.new.client.pass.seen).generation ≡ member.generation) }
+        → (at (setup_in W.plan session.old.client.pass.frame)
+        session.new.client.pass.seen).generation ≡ member.generation) }
     ensures gate { session.new.client.gate ≡ with_cuts session.old.client.gate (cuts_in result) }
 {
     match add_parts(rt, alloc, shared, session, member, parts) {

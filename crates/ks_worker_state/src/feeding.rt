@@ -26,7 +26,8 @@ pub fn feed_from<R: Wait, W: Work, G: Gate>(
     topic: u16,
 ) -> Result<bool, Halt>
     requires may { MayCall W.plan shared.now.growing.id client.old.pass client.old.gate }
-    requires standby { IsStandby (setup_in W.plan client.old.pass.frame) client.old.pass.seen replica.old }
+    requires standby { IsStandby (setup_in W.plan client.old.pass.frame) client.old.pass.seen
+        replica.old }
     requires topic { has_topic topic (changelogs_of replica.old) ≡ true }
     ensures gate { client.new.gate ≡ counts_after client.old.gate result }
     ensures later { Later W.plan client.old.pass client.new.pass }
@@ -53,7 +54,8 @@ pub fn feed_once<R: Wait, W: Work, G: Gate>(
     changelogs: &[u16],
 ) -> Result<bool, Halt>
     requires may { MayCall W.plan shared.now.growing.id client.old.pass client.old.gate }
-    requires standby { IsStandby (setup_in W.plan client.old.pass.frame) client.old.pass.seen replica.old }
+    requires standby { IsStandby (setup_in W.plan client.old.pass.frame) client.old.pass.seen
+        replica.old }
     requires changelogs { changelogs.now ≡ changelogs_of replica.old }
     ensures gate { client.new.gate ≡ counts_after client.old.gate result }
     ensures later { Later W.plan client.old.pass client.new.pass }
@@ -78,7 +80,8 @@ pub fn feed_to_the_end<R: Wait, W: Work, G: Gate>(
     changelogs: &[u16],
 ) -> Result<(), Halt>
     requires may { MayCall W.plan shared.now.growing.id client.old.pass client.old.gate }
-    requires standby { IsStandby (setup_in W.plan client.old.pass.frame) client.old.pass.seen replica.old }
+    requires standby { IsStandby (setup_in W.plan client.old.pass.frame) client.old.pass.seen
+        replica.old }
     requires changelogs { changelogs.now ≡ changelogs_of replica.old }
     ensures gate { client.new.gate ≡ counts_after client.old.gate result }
     ensures later { Later W.plan client.old.pass client.new.pass }

@@ -38,7 +38,8 @@ fn take_fetched<H: Hash128>(
         (task_view task.old).task.sub) ≡ true }
     ensures task { OnOk result (IsTaskOf (draft_of topology.now) task.new) }
     ensures view { OnOk result (task_view task.new
-        ≡ take_all (work_of (rules_of H.hash_of) (plan_in topology.now)) (task_view task.old) topic recs.now) }
+        ≡ take_all (work_of (rules_of H.hash_of) (plan_in topology.now)) (task_view task.old) topic
+        recs.now) }
 {
     for i in 0..recs.len() {
         let rec = &recs[i];
@@ -58,12 +59,14 @@ pub fn read_once<H: Hash128, R: Wait, W: Work, G: Gate>(
     task: &mut Task,
     topic: u16,
 ) -> Result<bool, Halt>
-    requires may { MayCall W.plan shared.now.growing.id session.old.client.pass session.old.client.gate }
+    requires may { MayCall W.plan shared.now.growing.id session.old.client.pass
+        session.old.client.gate }
     requires topology { RunsTopology H.hash_of (draft_of topology.now)
         (setup_in W.plan session.old.client.pass.frame) }
     requires seen { MemberHasSeen (setup_in W.plan session.old.client.pass.frame)
         session.old.client.pass.seen member.now session.old.last }
-    requires task { IsHeldTask (draft_of topology.now) (setup_in W.plan session.old.client.pass.frame)
+    requires task { IsHeldTask (draft_of topology.now)
+        (setup_in W.plan session.old.client.pass.frame)
         session.old.client.pass.seen member.now session.old.last task.old }
     requires input { has_topic topic (input_numbers (plan_in topology.now)
         (task_view task.old).task.sub) ≡ true }
@@ -71,7 +74,8 @@ pub fn read_once<H: Hash128, R: Wait, W: Work, G: Gate>(
     ensures last { session.new.last ≡ session.old.last }
     ensures numbers { session.new.numbers ≡ session.old.numbers }
     ensures later { Later W.plan session.old.client.pass session.new.client.pass }
-    ensures task { OnOk result (IsHeldTask (draft_of topology.now) (setup_in W.plan session.old.client.pass.frame)
+    ensures task { OnOk result (IsHeldTask (draft_of topology.now)
+        (setup_in W.plan session.old.client.pass.frame)
         session.new.client.pass.seen member.now session.old.last task.new) }
     ensures read { IfOk result (λ moved. IsReadOnce (setup_in W.plan session.old.client.pass.frame)
         session.old.client.pass.seen topic moved task.old task.new) }

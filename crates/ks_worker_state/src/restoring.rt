@@ -127,7 +127,8 @@ fn restore_with<H: Hash128, R: Wait, W: Work, G: Gate>(
     requires may { MayCall W.plan shared.now.growing.id client.old.pass client.old.gate }
     requires topology { RunsTopology H.hash_of (draft_of topology.now)
         (setup_in W.plan client.old.pass.frame) }
-    requires standby { IsStandby (setup_in W.plan client.old.pass.frame) client.old.pass.seen replica }
+    requires standby { IsStandby (setup_in W.plan client.old.pass.frame) client.old.pass.seen
+        replica }
     requires offsets { map (λ o. o.0) offsets.now
         ≡ input_numbers (plan_in topology.now) replica.id.sub }
     ensures gate { client.new.gate ≡ counts_after client.old.gate result }
@@ -162,19 +163,22 @@ pub fn restore<H: Hash128, R: Wait, W: Work, G: Gate>(
     member: Member,
     replica: Replica,
 ) -> Result<Result<Task, Replica>, Halt>
-    requires may { MayCall W.plan shared.now.growing.id session.old.client.pass session.old.client.gate }
+    requires may { MayCall W.plan shared.now.growing.id session.old.client.pass
+        session.old.client.gate }
     requires topology { RunsTopology H.hash_of (draft_of topology.now)
         (setup_in W.plan session.old.client.pass.frame) }
     requires worker { member.number ≤ 16 }
     requires seen { MemberHasSeen (setup_in W.plan session.old.client.pass.frame)
         session.old.client.pass.seen member session.old.last }
-    requires standby { IsStandby (setup_in W.plan session.old.client.pass.frame) session.old.client.pass.seen replica }
+    requires standby { IsStandby (setup_in W.plan session.old.client.pass.frame)
+        session.old.client.pass.seen replica }
     ensures gate { session.new.client.gate ≡ counts_after session.old.client.gate result }
     ensures last { session.new.last ≡ session.old.last }
     ensures numbers { session.new.numbers ≡ session.old.numbers }
     ensures later { Later W.plan session.old.client.pass session.new.client.pass }
     ensures task { IfOk result (λ r. IfOk r (λ t. IsHeldTask (draft_of topology.now)
-        (setup_in W.plan session.old.client.pass.frame) session.new.client.pass.seen member session.old.last t)) }
+        (setup_in W.plan session.old.client.pass.frame) session.new.client.pass.seen member
+        session.old.last t)) }
     ensures named { IfOk result (λ r. IfOk r (λ t. (task_view t).task ≡ replica.id)) }
     ensures standby { IfOk result (λ r. IfErr r (λ b. IsStandby
         (setup_in W.plan session.old.client.pass.frame) session.new.client.pass.seen b)) }

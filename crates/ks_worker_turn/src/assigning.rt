@@ -56,7 +56,8 @@ fn offer_assignment<R: Wait, W: Work, G: Gate>(
     requires may { MayCall W.plan shared.now.growing.id client.old.pass client.old.gate }
     requires number { number ≤ 16 }
     requires active { are_places (setup_in W.plan client.old.pass.frame) assignment.active ≡ true }
-    requires standby { are_places (setup_in W.plan client.old.pass.frame) assignment.standby ≡ true }
+    requires standby { are_places (setup_in W.plan client.old.pass.frame) assignment.standby
+        ≡ true }
     requires warmup { are_places (setup_in W.plan client.old.pass.frame) assignment.warmup ≡ true }
     requires good { IsGoodAt (good_in W.good client.old.pass.frame)
         (setup_in W.plan client.old.pass.frame) client.old.pass.seen generation assignment }

@@ -41,7 +41,8 @@ fn place_tasks<H: Hash128, R: Wait, W: Work, G: Gate>(
     requires status { told ≡ status (setup_in W.plan state.old.session.client.pass.frame)
         (state_seen W.plan state.old.session.client.pass) }
     requires rested { state.old.member.generation < told.generation → state.old.tasks.items ≡ [] }
-    ensures gate { state.new.session.client.gate ≡ counts_after state.old.session.client.gate result }
+    ensures gate { state.new.session.client.gate
+        ≡ counts_after state.old.session.client.gate result }
     ensures later { LaterState W.plan state.old state.new }
     ensures worker { OnOk result (IsWorkerState W.plan (draft_of topology.now) state.new) }
     ensures generation { OnOk result ((state.new.member.generation ≡ state.old.member.generation)
@@ -73,7 +74,8 @@ pub fn begin_turn<H: Hash128, R: Wait, W: Work, G: Gate>(
     requires may { MayAct W.plan H.hash_of shared.now.growing.id (draft_of topology.now) state.old }
     requires placing { PlacesBy W.good placing.now (draft_of topology.now)
         state.old.session.client.pass.frame }
-    ensures gate { state.new.session.client.gate ≡ counts_after state.old.session.client.gate result }
+    ensures gate { state.new.session.client.gate
+        ≡ counts_after state.old.session.client.gate result }
     ensures later { LaterState W.plan state.old state.new }
     ensures worker { OnOk result (IsWorkerState W.plan (draft_of topology.now) state.new) }
     ensures generation { OnOk result ((state.new.member.generation ≡ state.old.member.generation)

@@ -34,7 +34,8 @@ fn rest_task(replicas: &mut Vec<Replica>, task: Task) -> Result<(), AllocError>
 // All tasks rest.
 fn rest_tasks(tasks: &mut Vec<Task>, replicas: &mut Vec<Replica>) -> Result<(), AllocError>
     ensures tasks { OnOk result (tasks.new.items ≡ []) }
-    ensures replicas { OnOk result (KeepsStandbys tasks.old.items replicas.old.items replicas.new.items) }
+    ensures replicas { OnOk result (KeepsStandbys tasks.old.items replicas.old.items
+        replicas.new.items) }
 {
     while let Some(task) = tasks.pop() {
         rest_task(replicas, task)?;
@@ -90,10 +91,12 @@ pub fn heed_status<R: Wait, W: Work, G: Gate>(
 ) -> Result<Status, Halt>
     requires may { MayCall W.plan shared.now.growing.id state.old.session.client.pass
         state.old.session.client.gate }
-    ensures gate { state.new.session.client.gate ≡ counts_after state.old.session.client.gate result }
+    ensures gate { state.new.session.client.gate
+        ≡ counts_after state.old.session.client.gate result }
     ensures later { LaterState W.plan state.old state.new }
     ensures worker { OnOk result (KeepsWorker W.plan state.old state.new) }
-    ensures status { IfOk result (λ s. s ≡ status (setup_in W.plan state.old.session.client.pass.frame)
+    ensures status { IfOk result (λ s. s ≡ status
+        (setup_in W.plan state.old.session.client.pass.frame)
         (state_seen W.plan state.new.session.client.pass)) }
     ensures member { IfOk result (λ s. state.new.member
         ≡ record state.old.member { is_member = has_number state.old.member.number s.members }) }

@@ -24,7 +24,8 @@ fn begin_epoch<R: Wait, W: Work, G: Gate>(
         state.old.session.client.gate }
     requires number { state.old.member.number ≤ 15 }
     requires outside { state.old.member.is_member ≡ false }
-    ensures gate { state.new.session.client.gate ≡ counts_after state.old.session.client.gate result }
+    ensures gate { state.new.session.client.gate
+        ≡ counts_after state.old.session.client.gate result }
     ensures later { LaterState W.plan state.old state.new }
     ensures worker { OnOk result (KeepsWorker W.plan state.old state.new) }
     ensures outside { state.new.member.is_member ≡ state.old.member.is_member }
@@ -91,7 +92,8 @@ pub fn join_group<R: Wait, W: Work, G: Gate>(
     requires may { MayCall W.plan shared.now.growing.id state.old.session.client.pass
         state.old.session.client.gate }
     requires number { state.old.member.number ≤ 15 }
-    ensures gate { state.new.session.client.gate ≡ counts_after state.old.session.client.gate result }
+    ensures gate { state.new.session.client.gate
+        ≡ counts_after state.old.session.client.gate result }
     ensures later { LaterState W.plan state.old state.new }
     ensures worker { OnOk result (KeepsWorker W.plan state.old state.new) }
     ensures member { OnOk result (state.new.member.is_member ≡ true) }

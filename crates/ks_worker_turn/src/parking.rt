@@ -27,7 +27,8 @@ fn park_replica<H: Hash128, R: Wait, W: Work, G: Gate>(
     task: TaskId,
 ) -> Result<(), Halt>
     requires { MayAct W.plan H.hash_of shared.now.growing.id (draft_of topology.now) state.old }
-    ensures gate { state.new.session.client.gate ≡ counts_after state.old.session.client.gate result }
+    ensures gate { state.new.session.client.gate
+        ≡ counts_after state.old.session.client.gate result }
     ensures later { LaterState W.plan state.old state.new }
     ensures worker { OnOk result (IsWorkerState W.plan (draft_of topology.now) state.new) }
     ensures member { state.new.member ≡ state.old.member }
@@ -53,7 +54,8 @@ fn park_unplaced<H: Hash128, R: Wait, W: Work, G: Gate>(
     task: TaskId,
 ) -> Result<(), Halt>
     requires { MayAct W.plan H.hash_of shared.now.growing.id (draft_of topology.now) state.old }
-    ensures gate { state.new.session.client.gate ≡ counts_after state.old.session.client.gate result }
+    ensures gate { state.new.session.client.gate
+        ≡ counts_after state.old.session.client.gate result }
     ensures later { LaterState W.plan state.old state.new }
     ensures worker { OnOk result (IsWorkerState W.plan (draft_of topology.now) state.new) }
     ensures member { state.new.member ≡ state.old.member }
@@ -77,7 +79,8 @@ pub fn park_others<H: Hash128, R: Wait, W: Work, G: Gate>(
     assignment: &Assignment,
 ) -> Result<(), Halt>
     requires { MayAct W.plan H.hash_of shared.now.growing.id (draft_of topology.now) state.old }
-    ensures gate { state.new.session.client.gate ≡ counts_after state.old.session.client.gate result }
+    ensures gate { state.new.session.client.gate
+        ≡ counts_after state.old.session.client.gate result }
     ensures later { LaterState W.plan state.old state.new }
     ensures worker { OnOk result (IsWorkerState W.plan (draft_of topology.now) state.new) }
     ensures member { state.new.member ≡ state.old.member }

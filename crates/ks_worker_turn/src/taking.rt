@@ -62,13 +62,16 @@ fn replica_of<H: Hash128, R: Wait, W: Work, G: Gate>(
     task: TaskId,
 ) -> Result<Replica, Halt>
     requires may { MayAct W.plan H.hash_of shared.now.growing.id (draft_of topology.now) state.old }
-    requires task { has_task task (setup_in W.plan state.old.session.client.pass.frame).tasks ≡ true }
-    ensures gate { state.new.session.client.gate ≡ counts_after state.old.session.client.gate result }
+    requires task { has_task task (setup_in W.plan state.old.session.client.pass.frame).tasks
+        ≡ true }
+    ensures gate { state.new.session.client.gate
+        ≡ counts_after state.old.session.client.gate result }
     ensures later { LaterState W.plan state.old state.new }
     ensures worker { OnOk result (IsWorkerState W.plan (draft_of topology.now) state.new) }
     ensures member { state.new.member ≡ state.old.member }
     ensures tasks { state.new.tasks.items ≡ state.old.tasks.items }
-    ensures standby { IfOk result (λ r. IsStandby (setup_in W.plan state.old.session.client.pass.frame)
+    ensures standby { IfOk result (λ r. IsStandby
+        (setup_in W.plan state.old.session.client.pass.frame)
         state.new.session.client.pass.seen r) }
     ensures named { IfOk result (λ r. r.id ≡ task) }
 {
@@ -100,7 +103,8 @@ fn activate<H: Hash128, R: Wait, W: Work, G: Gate>(
         state.old.session.client.pass.seen replica }
     requires none { has_task replica.id (task_names state.old.tasks.items) ≡ false }
     requires member { state.old.member.is_member ≡ true }
-    ensures gate { state.new.session.client.gate ≡ counts_after state.old.session.client.gate result }
+    ensures gate { state.new.session.client.gate
+        ≡ counts_after state.old.session.client.gate result }
     ensures later { LaterState W.plan state.old state.new }
     ensures worker { OnOk result (IsWorkerState W.plan (draft_of topology.now) state.new) }
     ensures member { state.new.member ≡ state.old.member }
@@ -131,9 +135,11 @@ fn take_place<H: Hash128, R: Wait, W: Work, G: Gate>(
     is_active: bool,
 ) -> Result<(), Halt>
     requires may { MayAct W.plan H.hash_of shared.now.growing.id (draft_of topology.now) state.old }
-    requires task { has_task task (setup_in W.plan state.old.session.client.pass.frame).tasks ≡ true }
+    requires task { has_task task (setup_in W.plan state.old.session.client.pass.frame).tasks
+        ≡ true }
     requires member { is_active ≡ true → state.old.member.is_member ≡ true }
-    ensures gate { state.new.session.client.gate ≡ counts_after state.old.session.client.gate result }
+    ensures gate { state.new.session.client.gate
+        ≡ counts_after state.old.session.client.gate result }
     ensures later { LaterState W.plan state.old state.new }
     ensures worker { OnOk result (IsWorkerState W.plan (draft_of topology.now) state.new) }
     ensures member { state.new.member ≡ state.old.member }
@@ -169,8 +175,10 @@ fn take_assigned<H: Hash128, R: Wait, W: Work, G: Gate>(
     task: TaskId,
 ) -> Result<(), Halt>
     requires may { MayAct W.plan H.hash_of shared.now.growing.id (draft_of topology.now) state.old }
-    requires task { has_task task (setup_in W.plan state.old.session.client.pass.frame).tasks ≡ true }
-    ensures gate { state.new.session.client.gate ≡ counts_after state.old.session.client.gate result }
+    requires task { has_task task (setup_in W.plan state.old.session.client.pass.frame).tasks
+        ≡ true }
+    ensures gate { state.new.session.client.gate
+        ≡ counts_after state.old.session.client.gate result }
     ensures later { LaterState W.plan state.old state.new }
     ensures worker { OnOk result (IsWorkerState W.plan (draft_of topology.now) state.new) }
     ensures member { state.new.member ≡ state.old.member }
@@ -193,7 +201,8 @@ fn take_all<H: Hash128, R: Wait, W: Work, G: Gate>(
     assignment: &Assignment,
 ) -> Result<(), Halt>
     requires may { MayAct W.plan H.hash_of shared.now.growing.id (draft_of topology.now) state.old }
-    ensures gate { state.new.session.client.gate ≡ counts_after state.old.session.client.gate result }
+    ensures gate { state.new.session.client.gate
+        ≡ counts_after state.old.session.client.gate result }
     ensures later { LaterState W.plan state.old state.new }
     ensures worker { OnOk result (IsWorkerState W.plan (draft_of topology.now) state.new) }
     ensures member { state.new.member ≡ state.old.member }
@@ -216,7 +225,8 @@ fn take_missing<H: Hash128, R: Wait, W: Work, G: Gate>(
     assignment: &Assignment,
 ) -> Result<(), Halt>
     requires may { MayAct W.plan H.hash_of shared.now.growing.id (draft_of topology.now) state.old }
-    ensures gate { state.new.session.client.gate ≡ counts_after state.old.session.client.gate result }
+    ensures gate { state.new.session.client.gate
+        ≡ counts_after state.old.session.client.gate result }
     ensures later { LaterState W.plan state.old state.new }
     ensures worker { OnOk result (IsWorkerState W.plan (draft_of topology.now) state.new) }
     ensures member { state.new.member ≡ state.old.member }
@@ -241,7 +251,8 @@ fn enter_generation<H: Hash128, R: Wait, W: Work, G: Gate>(
     requires may { MayAct W.plan H.hash_of shared.now.growing.id (draft_of topology.now) state.old }
     requires past { generation ≤ (state_seen W.plan state.old.session.client.pass).generation }
     requires rested { state.old.member.generation < generation → state.old.tasks.items ≡ [] }
-    ensures gate { state.new.session.client.gate ≡ counts_after state.old.session.client.gate result }
+    ensures gate { state.new.session.client.gate
+        ≡ counts_after state.old.session.client.gate result }
     ensures later { LaterState W.plan state.old state.new }
     ensures worker { OnOk result (IsWorkerState W.plan (draft_of topology.now) state.new) }
     ensures member { OnOk result (state.new.member
@@ -273,7 +284,8 @@ pub fn take_places<H: Hash128, R: Wait, W: Work, G: Gate>(
     requires may { MayAct W.plan H.hash_of shared.now.growing.id (draft_of topology.now) state.old }
     requires past { generation ≤ (state_seen W.plan state.old.session.client.pass).generation }
     requires rested { state.old.member.generation < generation → state.old.tasks.items ≡ [] }
-    ensures gate { state.new.session.client.gate ≡ counts_after state.old.session.client.gate result }
+    ensures gate { state.new.session.client.gate
+        ≡ counts_after state.old.session.client.gate result }
     ensures later { LaterState W.plan state.old state.new }
     ensures worker { OnOk result (IsWorkerState W.plan (draft_of topology.now) state.new) }
     ensures member { OnOk result (state.new.member

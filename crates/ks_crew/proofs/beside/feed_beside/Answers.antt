@@ -28,6 +28,6 @@ pub returns-clause-turned : goal.returns-clause-turned
 returns-clause-turned g c =
     let keys : HaveKeys (λ m. m.worker.state.session.client.pass) c.as_mut_slice-slice.result.now c.slice-1.given.0 = search rules in
     let turned : TurnOrStarve g.W.Work.plan (draft_of c.args.topology.now) c.args.team.now.turns c.as_mut_slice-slice.result.now c.slice-1.given.0 =
-        turned_into g.W.Work.plan (draft_of c.args.topology.now) c.args.team.now.turns c.as_mut_slice-slice.result.now c.join_mut-end.ensures.0.met.1.1 (search rules) in
+    turned_into g.W.Work.plan (draft_of c.args.topology.now) c.args.team.now.turns c.as_mut_slice-slice.result.now c.join_mut-end.ensures.0.met.1.1 (search rules) in
     always_ok c.join_mut-end.result.1 (slice_back (TurnOrStarve g.W.Work.plan (draft_of c.args.topology.now) c.args.team.now.turns) (λ m. m.worker.state.session.client.pass) c.args.team.now.members.items c.as_mut_slice-slice.result.now _
     c.args.team.now.members.len c.as_mut_slice-slice.ensures.value c.args.team.now.members.ok.0 keys turned)
