@@ -9,7 +9,7 @@ use Rattle.ks_worker_state.specs.declared.state.WorkerState.{WorkerState}
 use Rattle.ks_worker_state.specs.State.{IsWorkerState}
 use Rattle.ks_worker.specs.Running.{HasCounted, HasEndedBy, ShowsCalls}
 use Rattle.ks_crew.specs.declared.working.CrewMember.{CrewMember}
-use Rattle.ks_crew.specs.Working.{HasTurned, TurnOrStarve, HaveTurned, is_one_starved}
+use Rattle.ks_crew.specs.Working.{HasTurned, AllTurnedUnlessStarved, HaveTurned, is_one_starved}
 
 neither : (b c : Bool) → (b || c) ≡ false → (b ≡ false) × (c ≡ false)
 neither false c e = (refl, e)
@@ -28,15 +28,15 @@ module _ {W G : Type 0} (plan : W → TaskPlan) (d : DraftView) (turns : ℕ) wh
   has_turned old new (Err e) starved is worker counts ended shown fed = absurd cc
 
   -- where none is starved, each took its turns
-  pub have_turned : (old new : List (CrewMember W G)) → length new ≡ length old → TurnOrStarve plan d turns old new → is_one_starved new ≡ false → HaveTurned plan d turns old new
+  pub have_turned : (old new : List (CrewMember W G)) → length new ≡ length old → AllTurnedUnlessStarved plan d turns old new → is_one_starved new ≡ false → HaveTurned plan d turns old new
   have_turned old new long each none = let nobody = none_starved new none in record {
     nobody = nobody;
     turned = λ k m l. (each.each k m l).turned (nobody k m (omega (arith, long, l)));
   }
 
   -- the same, told of a list that is another's
-  pub turned_into : (old : List (CrewMember W G)) {new now : List (CrewMember W G)} → TurnOrStarve plan d turns old new → new ≡ now → TurnOrStarve plan d turns old now
-  turned_into old told same = subst (λ l. TurnOrStarve plan d turns old l) same told
+  pub turned_into : (old : List (CrewMember W G)) {new now : List (CrewMember W G)} → AllTurnedUnlessStarved plan d turns old new → new ≡ now → AllTurnedUnlessStarved plan d turns old now
+  turned_into old told same = subst (λ l. AllTurnedUnlessStarved plan d turns old l) same told
 
 pub always_ok : {A E : Type 0} {P : Type 0} (r : Result A E) → P → OnOk r P
 always_ok (Ok a) p = p

@@ -20,26 +20,30 @@ pub record MayWork {W G : Type 0} (plan : W → TaskPlan) (good : W → Placemen
   pub may : All (λ m. MayRun plan good hash lock d m.worker.placing team.turns m.worker.state) team.members.items
   pub feed : MayFeed plan lock feeder
 
--- a worker took its turns: it is one still, its gate stopped it or it took all of them, and its acts on the group show
+-- a worker took its turns: it is one still, its gate stopped it or it took all of them, and its acts
+-- on the group show
 pub record HasTurned {W G : Type 0} (plan : W → TaskPlan) (d : DraftView) (turns : ℕ) (old new : WorkerState W G) : Type 0 where
   pub worker : IsWorkerState plan d new
   pub counts : HasCounted old.session.client.gate new.session.client.gate turns
   pub ended : HasEndedBy turns old.session.client.gate new.session.client.gate
-  pub shown : ShowsCalls old.member.number old.session.client.pass new.session.client.pass old.session.client.gate new.session.client.gate
+  pub shown : ShowsCalls old.member.number old.session.client.pass new.session.client.pass
+      old.session.client.gate new.session.client.gate
 
--- a member took its turns, or it is starved
-pub record TurnsOrStarves {W G : Type 0} (plan : W → TaskPlan) (d : DraftView) (turns : ℕ) (old new : CrewMember W G) : Type 0 where
+-- a member that isn't marked as starved took its turns
+pub record TurnedUnlessStarved {W G : Type 0} (plan : W → TaskPlan) (d : DraftView) (turns : ℕ) (old new : CrewMember W G) : Type 0 where
   pub turned : new.is_starved ≡ false → HasTurned plan d turns old.worker.state new.worker.state
 
--- each of them did
-pub record TurnOrStarve {W G : Type 0} (plan : W → TaskPlan) (d : DraftView) (turns : ℕ) (old new : List (CrewMember W G)) : Type 0 where
-  pub each : (k : ℕ) (m : CrewMember W G) → k < length old → TurnsOrStarves plan d turns (slice_index_or old k m) (slice_index_or new k m)
+-- and so did each of these members
+pub record AllTurnedUnlessStarved {W G : Type 0} (plan : W → TaskPlan) (d : DraftView) (turns : ℕ) (old new : List (CrewMember W G)) : Type 0 where
+  pub each : (k : ℕ) (m : CrewMember W G) → k < length old →
+      TurnedUnlessStarved plan d turns (slice_index_or old k m) (slice_index_or new k m)
 
--- whether one of them ran out of memory
+-- whether one of them is marked as starved
 abbrev pub is_one_starved : {W G : Type 0} → List (CrewMember W G) → Bool
 is_one_starved ms = list_any (λ m. m.is_starved) ms
 
--- each member took its turns, and none of them ran out of memory
+-- no member is marked as starved, and each took its turns
 pub record HaveTurned {W G : Type 0} (plan : W → TaskPlan) (d : DraftView) (turns : ℕ) (old new : List (CrewMember W G)) : Type 0 where
   pub nobody : All (λ m. m.is_starved ≡ false) new
-  pub turned : (k : ℕ) (m : CrewMember W G) → k < length old → HasTurned plan d turns (slice_index_or old k m).worker.state (slice_index_or new k m).worker.state
+  pub turned : (k : ℕ) (m : CrewMember W G) → k < length old →
+      HasTurned plan d turns (slice_index_or old k m).worker.state (slice_index_or new k m).worker.state

@@ -5,7 +5,7 @@ ghost use Rattle.ks_topo.specs.Topologies.{draft_of};
 ghost use Rattle.ks_worker.specs.Beginning.{MayRun};
 ghost use Rattle.ks_feed.specs.Feeding.{MayFeed, FaultsBy, HasFed};
 ghost use Rattle.ks_crew.specs.Members.{HaveKeys};
-ghost use Rattle.ks_crew.specs.Working.{MayWork, TurnOrStarve, HaveTurned, is_one_starved};
+ghost use Rattle.ks_crew.specs.Working.{MayWork, AllTurnedUnlessStarved, HaveTurned, is_one_starved};
 
 use crate::working::{CrewMember, Team, work_together};
 use ks_cluster::Work;
@@ -60,7 +60,8 @@ fn feed_first<
         team.old feeder.old }
     ensures keys { HaveKeys (λ m. m.worker.state.session.client.pass)
         team.old.members.items team.new.members.items }
-    ensures turned { OnOk result (TurnOrStarve W.plan (draft_of topology.now) team.old.turns
+    ensures turned { OnOk result (AllTurnedUnlessStarved W.plan (draft_of topology.now)
+        team.old.turns
         team.old.members.items team.new.members.items) }
     ensures fed { IfOk result (λ e. HasFed feeder.old feeder.new (S.left input.old)
         (S.left input.new) e) }
@@ -94,7 +95,8 @@ fn feed_beside<
         team.old feeder.old }
     ensures keys { HaveKeys (λ m. m.worker.state.session.client.pass)
         team.old.members.items team.new.members.items }
-    ensures turned { OnOk result (TurnOrStarve W.plan (draft_of topology.now) team.old.turns
+    ensures turned { OnOk result (AllTurnedUnlessStarved W.plan (draft_of topology.now)
+        team.old.turns
         team.old.members.items team.new.members.items) }
     ensures fed { IfOk result (λ e. HasFed feeder.old feeder.new (S.left input.old)
         (S.left input.new) e) }
@@ -114,7 +116,7 @@ fn feed_beside<
                 m.worker.placing turns m.worker.state) slice.now }
             ensures { HaveKeys (λ m. m.worker.state.session.client.pass) slice.entry.now
                 slice.exit.now
-                × TurnOrStarve W.plan (draft_of topology.entry.now) turns slice.entry.now
+                × AllTurnedUnlessStarved W.plan (draft_of topology.entry.now) turns slice.entry.now
                 slice.exit.now }
         { work_together::<H, R, W, G>(rt, alloc, topology, shared, slice, turns, flag) },
         &mut || -> Result<JobEnd, AllocError>
@@ -148,7 +150,8 @@ fn feed_team<
         team.old feeder.old }
     ensures keys { HaveKeys (λ m. m.worker.state.session.client.pass)
         team.old.members.items team.new.members.items }
-    ensures turned { OnOk result (TurnOrStarve W.plan (draft_of topology.now) team.old.turns
+    ensures turned { OnOk result (AllTurnedUnlessStarved W.plan (draft_of topology.now)
+        team.old.turns
         team.old.members.items team.new.members.items) }
     ensures fed { IfOk result (λ e. HasFed feeder.old feeder.new (S.left input.old)
         (S.left input.new) e) }
@@ -161,7 +164,7 @@ fn feed_team<
     }
 }
 
-// Whether one of them ran out of memory.
+// Whether one of them is marked as starved.
 fn is_one_starved<W: Work, G: Gate>(members: &[CrewMember<W, G>]) -> bool
     ensures { result ≡ is_one_starved members.now }
 {

@@ -4,7 +4,7 @@ ghost use Rattle.std.specs.List.{All};
 ghost use Rattle.ks_topo.specs.Topologies.{draft_of};
 ghost use Rattle.ks_worker.specs.Beginning.{MayRun};
 ghost use Rattle.ks_crew.specs.Members.{pass_key, HaveKeys};
-ghost use Rattle.ks_crew.specs.Working.{TurnsOrStarves, TurnOrStarve};
+ghost use Rattle.ks_crew.specs.Working.{TurnedUnlessStarved, AllTurnedUnlessStarved};
 
 use ks_cluster::Work;
 use ks_edge::Gate;
@@ -49,7 +49,8 @@ fn take_turns<H: Hash128, R: Wait, W: Work, G: Gate>(
         member.old.worker.placing turns member.old.worker.state }
     ensures key { pass_key member.new.worker.state.session.client.pass
         ≡ pass_key member.old.worker.state.session.client.pass }
-    ensures turned { TurnsOrStarves W.plan (draft_of topology.now) turns member.old member.new }
+    ensures turned { TurnedUnlessStarved W.plan (draft_of topology.now) turns member.old
+        member.new }
 {
     let answer = member
         .worker
@@ -78,7 +79,8 @@ pub fn work_together<
         (draft_of topology.now)
         m.worker.placing turns m.worker.state) members.old }
     ensures keys { HaveKeys (λ m. m.worker.state.session.client.pass) members.old members.new }
-    ensures turned { TurnOrStarve W.plan (draft_of topology.now) turns members.old members.new }
+    ensures turned { AllTurnedUnlessStarved W.plan (draft_of topology.now) turns members.old
+        members.new }
 {
     share_topology();
     let count = members.len();
@@ -87,7 +89,7 @@ pub fn work_together<
             member.now.worker.placing turns member.now.worker.state }
         ensures { (pass_key member.exit.now.worker.state.session.client.pass
             ≡ pass_key member.entry.now.worker.state.session.client.pass)
-            × TurnsOrStarves W.plan (draft_of topology.entry.now) turns member.entry.now
+            × TurnedUnlessStarved W.plan (draft_of topology.entry.now) turns member.entry.now
             member.exit.now }
     { take_turns::<H, R, W, G>(rt, alloc, topology, shared, member, turns, feeding) };
     thread::for_each_mut(rt, members, count, &each);

@@ -3,7 +3,7 @@ use Rattle.std.specs.List.{All}
 use Rattle.ks_topo.specs.Topologies.{draft_of}
 use Rattle.ks_worker.specs.Beginning.{MayRun}
 use Rattle.ks_crew.specs.Members.{HaveKeys}
-use Rattle.ks_crew.specs.Working.{TurnOrStarve}
+use Rattle.ks_crew.specs.Working.{AllTurnedUnlessStarved}
 use Rattle.ks_crew.proofs.Passes.{slice_back}
 use Rattle.ks_crew.proofs.Turned.{always_ok, turned_into}
 use Rattle.ks_crew.proofs.beside.feed_beside.Goals as goal
@@ -27,7 +27,7 @@ returns-clause-keys g c =
 pub returns-clause-turned : goal.returns-clause-turned
 returns-clause-turned g c =
     let keys : HaveKeys (λ m. m.worker.state.session.client.pass) c.as_mut_slice-slice.result.now c.slice-1.given.0 = search rules in
-    let turned : TurnOrStarve g.W.Work.plan (draft_of c.args.topology.now) c.args.team.now.turns c.as_mut_slice-slice.result.now c.slice-1.given.0 =
+    let turned : AllTurnedUnlessStarved g.W.Work.plan (draft_of c.args.topology.now) c.args.team.now.turns c.as_mut_slice-slice.result.now c.slice-1.given.0 =
     turned_into g.W.Work.plan (draft_of c.args.topology.now) c.args.team.now.turns c.as_mut_slice-slice.result.now c.join_mut-end.ensures.0.met.1.1 (search rules) in
-    always_ok c.join_mut-end.result.1 (slice_back (TurnOrStarve g.W.Work.plan (draft_of c.args.topology.now) c.args.team.now.turns) (λ m. m.worker.state.session.client.pass) c.args.team.now.members.items c.as_mut_slice-slice.result.now _
+    always_ok c.join_mut-end.result.1 (slice_back (AllTurnedUnlessStarved g.W.Work.plan (draft_of c.args.topology.now) c.args.team.now.turns) (λ m. m.worker.state.session.client.pass) c.args.team.now.members.items c.as_mut_slice-slice.result.now _
     c.args.team.now.members.len c.as_mut_slice-slice.ensures.value c.args.team.now.members.ok.0 keys turned)

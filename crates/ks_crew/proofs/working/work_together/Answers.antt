@@ -2,7 +2,7 @@ use Rattle.std.proofs.Common.{rules}
 use Rattle.std.specs.Prelude.{slice_index_or}
 use Rattle.ks_topo.specs.Topologies.{draft_of}
 use Rattle.ks_crew.specs.Members.{pass_key}
-use Rattle.ks_crew.specs.Working.{TurnsOrStarves}
+use Rattle.ks_crew.specs.Working.{TurnedUnlessStarved}
 use Rattle.ks_crew.proofs.Passes.{same_at, same_keys}
 use Rattle.ks_crew.proofs.working.work_together.Goals as goal
 
@@ -15,6 +15,6 @@ pub returns-clause-turned : goal.returns-clause-turned
 returns-clause-turned g c = record {
   each = λ k m lt.
       let h = (c.for_each_mut.ensures k m lt).1 in
-      let turned : TurnsOrStarves g.W.Work.plan (draft_of c.args.topology.now) c.args.turns (slice_index_or c.args.members.now k m) (slice_index_or c.for_each_mut.new.s k m) = search rules in
+      let turned : TurnedUnlessStarved g.W.Work.plan (draft_of c.args.topology.now) c.args.turns (slice_index_or c.args.members.now k m) (slice_index_or c.for_each_mut.new.s k m) = search rules in
       turned;
 }
