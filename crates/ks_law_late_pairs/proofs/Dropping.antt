@@ -17,7 +17,7 @@ use Rattle.ks_def_tasks.specs.Windowed.{greater}
 use Rattle.ks_def_tasks.specs.Step.{Arrival, item_into, items_from}
 use Rattle.ks_def_tasks.specs.Tasks.{machine, step}
 use Rattle.ks_law_quiescence.specs.Windows.{late_starts, late_of_group, late_of_item, late_at, counting}
-use Rattle.ks_law_late_pairs.specs.Dropped.{closed_windows, dropped_of_group, dropped_of_item, dropped_at, dropped_by_step, TakenRecords, dropped_from, times_in, LatePairsAreDropped}
+use Rattle.ks_law_late_pairs.specs.Drops.{closed_windows, drops_of_group, drops_of_item, drops_at, drops_of_step, TakenRecords, drops_from, times_in, LatePairsAreDrops}
 
 module _ (k : WindowKey) where
   abbrev is_it : WindowKey → ℕ
@@ -36,15 +36,15 @@ module _ (k : WindowKey) where
           none false m = omega arith
       one false closed late e = ap (λ m. is_it (g, s) + m) e ∙ sym (sum_by-cons is_it (g, s) (map {B = WindowKey} (λ s. (g, s)) closed))
 
-  group_dropped : (w : Window) (seen : Option ℕ) (time : ℕ) (h : Option Key) → late_of_group k w seen time h ≡ times_in k (dropped_of_group w seen time h)
+  group_dropped : (w : Window) (seen : Option ℕ) (time : ℕ) (h : Option Key) → late_of_group k w seen time h ≡ times_in k (drops_of_group w seen time h)
   group_dropped w seen time None = refl
   group_dropped w seen time (Some g) = starts_dropped w (greater seen time) g (windows w time)
 
-  item_dropped : (w : Window) (seen : Option ℕ) (item : Option StreamItem) → late_of_item k w seen item ≡ times_in k (dropped_of_item w seen item)
+  item_dropped : (w : Window) (seen : Option ℕ) (item : Option StreamItem) → late_of_item k w seen item ≡ times_in k (drops_of_item w seen item)
   item_dropped w seen None = refl
   item_dropped w seen (Some x) = group_dropped w seen x.time x.key
 
-  node_dropped : (n : ℕ) (st : Store) (a : Arrival) (items : ℕ → Option StreamItem) (c : Kind) → late_at k n st a items c ≡ times_in k (dropped_at n st a items c)
+  node_dropped : (n : ℕ) (st : Store) (a : Arrival) (items : ℕ → Option StreamItem) (c : Kind) → late_at k n st a items c ≡ times_in k (drops_at n st a items c)
   node_dropped n st a items (Windowed f by w through) = item_dropped w (st.times n) (item_into a items n f through)
   node_dropped n st a items (StreamSource t) = refl
   node_dropped n st a items (TableSource t) = refl
@@ -59,14 +59,14 @@ module _ (k : WindowKey) where
   node_dropped n st a items (ForeignKeyJoin l r fk kind set) = refl
 
   module _ (rules : Rules) (p : Plan) (n : ℕ) where
-    records_dropped : (stores : TaskId → Store) (ts : TakenRecords) → late_all (counting rules p n k) stores ts ≡ times_in k (dropped_from rules p n stores ts)
+    records_dropped : (stores : TaskId → Store) (ts : TakenRecords) → late_all (counting rules p n k) stores ts ≡ times_in k (drops_from rules p n stores ts)
     records_dropped stores [] = refl
     records_dropped stores (t ∷ ts) =
         let u = (machine rules p).reader t.place in
         let a : Arrival = record { topic = t.place.topic; item = t.item } in
         let next : TaskId → Store = λ v. cond (same_task v u) (step rules p u (stores u) t.place t.item).store (stores v) in
         ap₂ (λ c d. c + d) (node_dropped n (stores u) a (items_from a (λ m. None) 0 p.kinds) (kind_at p n)) (records_dropped next ts)
-        ∙ sym (sum_by-append is_it (dropped_by_step p n (stores u) t.place t.item) (dropped_from rules p n next ts))
+        ∙ sym (sum_by-append is_it (drops_of_step p n (stores u) t.place t.item) (drops_from rules p n next ts))
 
-pub late_pairs_are_dropped : LatePairsAreDropped
+pub late_pairs_are_dropped : LatePairsAreDrops
 late_pairs_are_dropped rules p n k ts = records_dropped k rules p n (machine rules p).start ts

@@ -1,4 +1,4 @@
--- All that was late: the windows that were dropped, over all nodes.
+-- All that was late: the drops, over all nodes.
 use Rattle.std.proofs.Common.{◌≡◌, ℕ, suc, get_or, ◌+◌, Bool, true, false, cond, List, length, length-append, append-nil, append_assoc, [], ◌∷◌, ◌++◌, Option, Some, None, fold, refl, sym, ap, ap₂, subst, ◌∙◌, arith}
 use Rattle.std.specs.List.{sum_by}
 use Rattle.std.proofs.Math.Path.{fun_ext}
@@ -21,7 +21,7 @@ use Rattle.ks_def_tasks.specs.Windowed.{Counted, count_window, count_group, coun
 use Rattle.ks_def_tasks.specs.Step.{Arrival, item_into, items_from, counted_at, late_over}
 use Rattle.ks_def_tasks.specs.Tasks.{machine, step, inputs_of}
 use Rattle.ks_def_tasks.proofs.Names.{names}
-use Rattle.ks_law_late_pairs.specs.Dropped.{closed_windows, dropped_of_group, dropped_of_item, dropped_at, dropped_by_step, TakenRecords, dropped_from, LateIsDropped, LateCountIsDropped}
+use Rattle.ks_law_late_pairs.specs.Drops.{closed_windows, drops_of_group, drops_of_item, drops_at, drops_of_step, TakenRecords, drops_from, LateIsAllDrops, LateCountIsAllDrops}
 
 -- ---- one node of one step
 starts_late : (w : Window) (now : ℕ) (g : Key) (c : Counted) (ss : List ℕ) → (fold (count_window w now g) c ss).late ≡ c.late + length (closed_windows w now g ss)
@@ -35,17 +35,17 @@ starts_late w now g c (s ∷ ss) = starts_late w now g (count_window w now g c s
 from_nothing : (n : ℕ) → 0 + n ≡ n
 from_nothing n = omega arith
 
-group_late : (w : Window) (seen : Option ℕ) (counts : FinMap by_window Agg) (time : ℕ) (h : Option Key) → (count_group w seen counts time h).late ≡ length (dropped_of_group w seen time h)
+group_late : (w : Window) (seen : Option ℕ) (counts : FinMap by_window Agg) (time : ℕ) (h : Option Key) → (count_group w seen counts time h).late ≡ length (drops_of_group w seen time h)
 group_late w seen counts time None = refl
 group_late w seen counts time (Some g) =
     let now = greater seen time in
     starts_late w now g (record { time = Some now; counts = counts; late = 0; changes = time_changes seen now }) (windows w time) ∙ from_nothing _
 
-item_late : (w : Window) (seen : Option ℕ) (counts : FinMap by_window Agg) (item : Option StreamItem) → (count_item w seen counts item).late ≡ length (dropped_of_item w seen item)
+item_late : (w : Window) (seen : Option ℕ) (counts : FinMap by_window Agg) (item : Option StreamItem) → (count_item w seen counts item).late ≡ length (drops_of_item w seen item)
 item_late w seen counts None = refl
 item_late w seen counts (Some x) = group_late w seen counts x.time x.key
 
-node_late : (n : ℕ) (st : Store) (a : Arrival) (items : ℕ → Option StreamItem) (c : Kind) → (counted_at a items st n c).late ≡ length (dropped_at n st a items c)
+node_late : (n : ℕ) (st : Store) (a : Arrival) (items : ℕ → Option StreamItem) (c : Kind) → (counted_at a items st n c).late ≡ length (drops_at n st a items c)
 node_late n st a items (Windowed f by w through) = item_late w (st.times n) (st.counts n) (item_into a items n f through)
 node_late n st a items (StreamSource t) = refl
 node_late n st a items (TableSource t) = refl
@@ -97,26 +97,26 @@ module _ (p : Plan) (f : ℕ → Kind → Counted) where
 
 -- ---- a run
 module _ (rules : Rules) (p : Plan) where
-  step_late : (st : Store) (q : Place) (x : Item) (u : TaskId) → (step rules p u st q x).late ≡ sum_by (λ n. length (dropped_by_step p n st q x)) (up_to (length p.kinds))
+  step_late : (st : Store) (q : Place) (x : Item) (u : TaskId) → (step rules p u st q x).late ≡ sum_by (λ n. length (drops_of_step p n st q x)) (up_to (length p.kinds))
   step_late st q x u =
       let a : Arrival = record { topic = q.topic; item = x } in
       let items = items_from a (λ m. None) 0 p.kinds in
       sym (from_nothing _) ∙ nodes_late p (counted_at a items st) [] p.kinds refl
       ∙ ap (λ f. sum_by f (up_to (length p.kinds))) (fun_ext (λ n. node_late n st a items (kind_at p n)))
 
-  records_late : (stores : TaskId → Store) (ts : TakenRecords) → late_all (machine rules p) stores ts ≡ sum_by (λ n. length (dropped_from rules p n stores ts)) (up_to (length p.kinds))
+  records_late : (stores : TaskId → Store) (ts : TakenRecords) → late_all (machine rules p) stores ts ≡ sum_by (λ n. length (drops_from rules p n stores ts)) (up_to (length p.kinds))
   records_late stores [] = sym (sum_of_none (up_to (length p.kinds)))
   records_late stores (t ∷ ts) =
       let u = (machine rules p).reader t.place in
       let next : TaskId → Store = λ v. cond (same_task v u) (step rules p u (stores u) t.place t.item).store (stores v) in
       ap₂ (λ c d. c + d) (step_late (stores u) t.place t.item u) (records_late next ts)
-      ∙ sym (sum_of_both (λ n. length (dropped_by_step p n (stores u) t.place t.item)) (λ n. length (dropped_from rules p n next ts)) (λ n. length (dropped_from rules p n stores (t ∷ ts))) (up_to (length p.kinds))
-      (λ n. length-append (dropped_by_step p n (stores u) t.place t.item) (dropped_from rules p n next ts)))
+      ∙ sym (sum_of_both (λ n. length (drops_of_step p n (stores u) t.place t.item)) (λ n. length (drops_from rules p n next ts)) (λ n. length (drops_from rules p n stores (t ∷ ts))) (up_to (length p.kinds))
+      (λ n. length-append (drops_of_step p n (stores u) t.place t.item) (drops_from rules p n next ts)))
 
-pub late_is_dropped : LateIsDropped
+pub late_is_dropped : LateIsAllDrops
 late_is_dropped rules p ts = records_late rules p (machine rules p).start ts
 
-pub late_count_is_dropped : LateCountIsDropped
+pub late_count_is_dropped : LateCountIsAllDrops
 late_count_is_dropped rules p records schedule =
     let follows = Follows-run (machine rules p) (names rules p) (inputs_of rules p records) schedule in
     follows.late ∙ late_is_dropped rules p _

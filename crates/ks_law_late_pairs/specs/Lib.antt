@@ -1,1 +1,1 @@
-pub mod Dropped
+pub mod Drops

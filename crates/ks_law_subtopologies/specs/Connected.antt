@@ -1,7 +1,8 @@
--- Which nodes are in one subtopology: those connected by edges with no repartition topic between.
+-- Which nodes are in one subtopology: those connected by edges with no internal topic between.
 -- Kafka Streams developer guide, "Stream partitions and tasks": a sub-topology is a set of
 -- processors that are transitively connected as parent and child or by state stores; different
--- ones exchange data through topics.
+-- ones exchange data through topics. A store belongs to one node here, and a node that reads
+-- another's store, a join by key, has an edge to that node. The numbers are this runtime's own.
 use Rattle.std.specs.Prelude.{◌≡◌, ℕ, suc, ◌<◌, ◌≤◌, length, None, false, ◌⊎◌}
 use Rattle.ks_plan.specs.Drafts.{DraftView}
 use Rattle.ks_plan.specs.Plan.{Plan, Kind, plan_of}

@@ -1,4 +1,4 @@
-//! Which nodes are in one subtopology. Laws alone: each public function has an empty body, and its contract is the law.
+//! Which nodes are in one subtopology, and the numbers of topics. Laws alone: each public function has an empty body, and its contract is the law.
 #![tactic(auto)]
 
 ghost use Rattle.ks_law_subtopologies.specs.Connected.{WellFormedInputsComeFirst, SameSubtopologyIsConnected, ConnectedIsSameSubtopology};
@@ -11,7 +11,7 @@ pub fn inputs_come_first()
     ensures { WellFormedInputsComeFirst }
 {}
 
-/// In every such plan two nodes are in one subtopology exactly when they are connected by edges with no repartition topic between.
+/// In every such plan two nodes are in one subtopology exactly when they are connected by edges with no internal topic between.
 pub fn a_subtopology_is_what_is_connected()
     ensures connected { SameSubtopologyIsConnected }
     ensures same { ConnectedIsSameSubtopology }

@@ -1,5 +1,5 @@
 use Rattle.ks_law_late_pairs.proofs.Totals.{late_is_dropped, late_count_is_dropped}
-use Rattle.ks_law_late_pairs.proofs.the_late_count_is_what_was_dropped.Goals as goal
+use Rattle.ks_law_late_pairs.proofs.the_late_count_is_all_drops.Goals as goal
 
 pub returns-clause-total : goal.returns-clause-total
 returns-clause-total c = late_is_dropped
