@@ -1,5 +1,4 @@
 use Rattle.ks_topo.specs.Topologies.{draft_of}
-use Rattle.ks_crew.specs.Members.{HaveKeys}
 use Rattle.ks_crew.specs.Working.{AllTurnedUnlessStarved}
 use Rattle.ks_crew.proofs.Passes.{slice_back}
 use Rattle.ks_crew.proofs.beside.feed_first.Goals as goal
