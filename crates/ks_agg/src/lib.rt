@@ -101,7 +101,8 @@ fn share_under(
     field: Option<&Name>,
     row: Option<&Row>,
 ) -> Result<Option<(Key, i64)>, AllocError>
-    ensures { IfOk result (λ o. o ≡ share_under by.now (option_copied field.entry) (option_copied row.entry)) }
+    ensures { IfOk result (λ o. o ≡ share_under by.now (option_copied field.entry)
+        (option_copied row.entry)) }
 {
     let Some(row) = row else {
         return Ok(None);
@@ -146,7 +147,8 @@ pub fn table_parts(
     field: Option<&Name>,
     change: &Change,
 ) -> Result<Vec<(Key, Delta)>, AllocError>
-    ensures { IfOk result (λ v. v.items ≡ table_parts by.now (option_copied field.entry) change.now.old change.now.new) }
+    ensures { IfOk result (λ v. v.items ≡ table_parts by.now (option_copied field.entry)
+        change.now.old change.now.new) }
 {
     let before = share_under(alloc, by, field, change.old.as_ref())?;
     let now = share_under(alloc, by, field, change.new.as_ref())?;

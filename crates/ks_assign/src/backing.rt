@@ -47,7 +47,8 @@ pub fn standbys(
 ) -> Result<Vec<(TaskId, u8)>, AllocError>
     requires { AreClients clients.now }
     ensures ok { IfOk result (λ v. by_client clients.now v.items
-        ≡ all_others clients.now (min wanted (length clients.now - 1)) (by_client clients.now active.now)) }
+        ≡ all_others clients.now (min wanted (length clients.now - 1))
+        (by_client clients.now active.now)) }
     ensures homes { IfOk result (λ v. all_home clients.now v.items ≡ true) }
 {
     let count = standby_count(clients, wanted);
@@ -68,7 +69,8 @@ fn add_wanted(
 ) -> Result<(), AllocError>
     requires clients { AreClients clients.now }
     requires home { p.1 ≤ 256 }
-    ensures ok { OnOk result (by_client clients.now out.new.items ≡ by_client clients.now out.old.items
+    ensures ok { OnOk result (by_client clients.now out.new.items
+        ≡ by_client clients.now out.old.items
         ++ wanted clients.now loads.now (by_client clients.now standby.now) p) }
     ensures homes { OnOk result (all_home clients.now out.old.items ≡ true
         → all_home clients.now out.new.items ≡ true) }

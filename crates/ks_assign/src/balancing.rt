@@ -60,7 +60,8 @@ fn find_move(
 /// Moves tasks until none has a better place. Each move leaves fewer pairs of tasks at one client.
 pub fn balance(clients: &[Client], held: &[Held], most: u64, active: &mut [(TaskId, u8)])
     requires { AreClients clients.now }
-    ensures balanced { is_balanced clients.now held.now most (by_client clients.now active.new) ≡ true }
+    ensures balanced { is_balanced clients.now held.now most (by_client clients.now active.new)
+        ≡ true }
     ensures plan { (tasks : List TaskId) → IsPlan tasks clients.now held.now most active.old
         → IsPlan tasks clients.now held.now most active.new }
 {

@@ -119,7 +119,8 @@ pub fn standby_count(clients: &[Client], wanted: u8) -> usize
 
 /// Point 4: each task has so many standbys, at distinct clients other than the active one's.
 pub fn has_standbys(tasks: &[TaskId], clients: &[Client], wanted: u8, a: &Assignment) -> bool
-    ensures { result ≡ has_standbys tasks.now clients.now wanted (by_client clients.now a.now.active)
+    ensures { result ≡ has_standbys tasks.now clients.now wanted
+        (by_client clients.now a.now.active)
         (by_client clients.now a.now.standby) }
 {
     let count = standby_count(clients, wanted);

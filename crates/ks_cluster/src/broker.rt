@@ -100,7 +100,8 @@ impl Broker {
         recs: Vec<Rec>,
     ) -> Result<Result<u64, Refused>, AllocError>
         requires { w ≤ 16 }
-        ensures ok { IfOk result (λ r. Moves self.old self.new (Append w epoch number task part recs.items) (number_or r)) }
+        ensures ok { IfOk result (λ r. Moves self.old self.new
+            (Append w epoch number task part recs.items) (number_or r)) }
         ensures err { OnErr result (self.new ≡ self.old) }
     {
         if let Err(refused) = self.txns.has(w, epoch, part) {
@@ -150,7 +151,8 @@ impl Broker {
         new: Pending,
     ) -> Result<Result<(), Refused>, AllocError>
         requires { w ≤ 16 }
-        ensures ok { IfOk result (λ r. Moves self.old self.new (SendOffsets w epoch generation new.task new.offsets new.order new.late) (done_or r)) }
+        ensures ok { IfOk result (λ r. Moves self.old self.new
+            (SendOffsets w epoch generation new.task new.offsets new.order new.late) (done_or r)) }
         ensures err { OnErr result (self.new ≡ self.old) }
     {
         if let Some(refused) = self.begin_refusal(w, epoch, generation, new.task) {
@@ -206,7 +208,8 @@ impl Broker {
         generation: u64,
         a: &Assignment,
     ) -> Result<Result<bool, Refused>, AllocError>
-        ensures ok { IfOk result (λ r. (w : ℕ) → Moves self.old self.new (Assign w generation a.now) (truth_or r)) }
+        ensures ok { IfOk result (λ r. (w : ℕ)
+            → Moves self.old self.new (Assign w generation a.now) (truth_or r)) }
         ensures err { OnErr result (self.new ≡ self.old) }
     {
         let outcome = self.group.assign(alloc, generation, a)?;
@@ -216,7 +219,8 @@ impl Broker {
     /// Whether there is something to remove of a worker.
     fn can_expire(&self, w: u8) -> bool
         requires { w ≤ 16 }
-        ensures { result ≡ (has_number w self.now.group.members || is_undecided (producer_at self.now.txns w)) }
+        ensures { result ≡ (has_number w self.now.group.members || is_undecided
+            (producer_at self.now.txns w)) }
     {
         self.group.has_member(w) || self.txns.undecided(w)
     }
@@ -254,7 +258,8 @@ impl Broker {
 
     /// The request is that of any worker.
     pub fn probe(&mut self, generation: u64) -> Result<Result<u64, Refused>, AllocError>
-        ensures ok { IfOk result (λ r. (w : ℕ) → Moves self.old self.new (Probe w generation) (number_or r)) }
+        ensures ok { IfOk result (λ r. (w : ℕ)
+            → Moves self.old self.new (Probe w generation) (number_or r)) }
         ensures err { OnErr result (self.new ≡ self.old) }
     {
         if self.group.generation() == u64::MAX {

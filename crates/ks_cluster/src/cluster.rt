@@ -59,7 +59,8 @@ impl<W: Work> Cluster<W> {
         tasks: Vec<TaskId>,
     ) -> Result<Cluster<W>, AllocError>
         requires { IsSetup (setup_from (W.plan work) parts.items tasks.items) }
-        ensures { IfOk result (λ c. c ≡ record { work = work; counts = parts.items; tasks = tasks.items; journal = [] }) }
+        ensures { IfOk result (λ c. c ≡ record
+            { work = work; counts = parts.items; tasks = tasks.items; journal = [] }) }
     {
         let broker = Broker::new(alloc, &work, tasks.as_slice())?;
         Ok(Cluster {
@@ -72,8 +73,10 @@ impl<W: Work> Cluster<W> {
 
     /// Puts a copy of a record into a partition of an input topic, and answers its offset.
     pub fn produce(&mut self, alloc: Global, part: PartId, rec: &Rec) -> Result<u64, AllocError>
-        requires { Meets (setup_of W.plan self.old) (state_of W.plan self.old) (Produce part rec.now) }
-        ensures ok { IfOk result (λ n. AddsEntry W.plan self.old self.new (Produce part rec.now) (Number n)) }
+        requires { Meets (setup_of W.plan self.old) (state_of W.plan self.old)
+            (Produce part rec.now) }
+        ensures ok { IfOk result (λ n. AddsEntry W.plan self.old self.new (Produce part rec.now)
+            (Number n)) }
         ensures err { OnErr result (self.new ≡ self.old) }
     {
         let own = copy(rec)?;
@@ -112,7 +115,8 @@ impl<W: Work> Cluster<W> {
         part: PartId,
     ) -> Result<Result<(), Refused>, AllocError>
         requires { Meets (setup_of W.plan self.old) (state_of W.plan self.old) (Add w epoch part) }
-        ensures ok { IfOk result (λ r. AddsEntry W.plan self.old self.new (Add w epoch part) (done_or r)) }
+        ensures ok { IfOk result (λ r. AddsEntry W.plan self.old self.new (Add w epoch part)
+            (done_or r)) }
         ensures err { OnErr result (self.new ≡ self.old) }
     {
         self.journal.reserve(1)?;
@@ -136,8 +140,10 @@ impl<W: Work> Cluster<W> {
         part: PartId,
         recs: &[Rec],
     ) -> Result<Result<u64, Refused>, AllocError>
-        requires { Meets (setup_of W.plan self.old) (state_of W.plan self.old) (Append w epoch number task part recs.now) }
-        ensures ok { IfOk result (λ r. AddsEntry W.plan self.old self.new (Append w epoch number task part recs.now) (number_or r)) }
+        requires { Meets (setup_of W.plan self.old) (state_of W.plan self.old)
+            (Append w epoch number task part recs.now) }
+        ensures ok { IfOk result (λ r. AddsEntry W.plan self.old self.new
+            (Append w epoch number task part recs.now) (number_or r)) }
         ensures err { OnErr result (self.new ≡ self.old) }
     {
         let own = copies(alloc, recs)?;
@@ -174,8 +180,10 @@ impl<W: Work> Cluster<W> {
         order: &[(u16, u64)],
         late: u64,
     ) -> Result<Result<(), Refused>, AllocError>
-        requires { Meets (setup_of W.plan self.old) (state_of W.plan self.old) (SendOffsets w epoch generation task offsets.now order.now late) }
-        ensures ok { IfOk result (λ r. AddsEntry W.plan self.old self.new (SendOffsets w epoch generation task offsets.now order.now late) (done_or r)) }
+        requires { Meets (setup_of W.plan self.old) (state_of W.plan self.old)
+            (SendOffsets w epoch generation task offsets.now order.now late) }
+        ensures ok { IfOk result (λ r. AddsEntry W.plan self.old self.new
+            (SendOffsets w epoch generation task offsets.now order.now late) (done_or r)) }
         ensures err { OnErr result (self.new ≡ self.old) }
     {
         let new = new_pending(alloc, task, offsets, order, late)?;
@@ -206,9 +214,12 @@ impl<W: Work> Cluster<W> {
         epoch: u64,
         commit: bool,
     ) -> Result<Result<(), Refused>, AllocError>
-        requires meets { Meets (setup_of W.plan self.old) (state_of W.plan self.old) (Decide w epoch commit) }
-        requires faithful { CommitsFaithfully (setup_of W.plan self.old) (state_of W.plan self.old) (Decide w epoch commit) }
-        ensures ok { IfOk result (λ r. AddsEntry W.plan self.old self.new (Decide w epoch commit) (done_or r)) }
+        requires meets { Meets (setup_of W.plan self.old) (state_of W.plan self.old)
+            (Decide w epoch commit) }
+        requires faithful { CommitsFaithfully (setup_of W.plan self.old) (state_of W.plan self.old)
+            (Decide w epoch commit) }
+        ensures ok { IfOk result (λ r. AddsEntry W.plan self.old self.new (Decide w epoch commit)
+            (done_or r)) }
         ensures err { OnErr result (self.new ≡ self.old) }
     {
         self.journal.reserve(1)?;
@@ -260,10 +271,14 @@ impl<W: Work> Cluster<W> {
         generation: u64,
         a: &Assignment,
     ) -> Result<Result<bool, Refused>, AllocError>
-        requires meets { Meets (setup_of W.plan self.old) (state_of W.plan self.old) (Assign w generation a.now) }
-        requires good { (state_of W.plan self.old).generation ≡ generation → (state_of W.plan self.old).assignment ≡ None
-            → IsGoodAt (W.good self.old.work) (setup_of W.plan self.old) self.old.journal generation a.now }
-        ensures ok { IfOk result (λ r. AddsEntry W.plan self.old self.new (Assign w generation a.now) (truth_or r)) }
+        requires meets { Meets (setup_of W.plan self.old) (state_of W.plan self.old)
+            (Assign w generation a.now) }
+        requires good { (state_of W.plan self.old).generation ≡ generation
+            → (state_of W.plan self.old).assignment ≡ None
+            → IsGoodAt (W.good self.old.work) (setup_of W.plan self.old) self.old.journal generation
+            a.now }
+        ensures ok { IfOk result (λ r. AddsEntry W.plan self.old self.new
+            (Assign w generation a.now) (truth_or r)) }
         ensures err { OnErr result (self.new ≡ self.old) }
     {
         let kept = copy_assignment(alloc, a)?;
@@ -324,8 +339,10 @@ impl<W: Work> Cluster<W> {
         w: u8,
         generation: u64,
     ) -> Result<Result<u64, Refused>, AllocError>
-        requires { Meets (setup_of W.plan self.old) (state_of W.plan self.old) (Probe w generation) }
-        ensures ok { IfOk result (λ r. AddsEntry W.plan self.old self.new (Probe w generation) (number_or r)) }
+        requires { Meets (setup_of W.plan self.old) (state_of W.plan self.old)
+            (Probe w generation) }
+        ensures ok { IfOk result (λ r. AddsEntry W.plan self.old self.new (Probe w generation)
+            (number_or r)) }
         ensures err { OnErr result (self.new ≡ self.old) }
     {
         self.journal.reserve(1)?;
@@ -339,7 +356,8 @@ impl<W: Work> Cluster<W> {
 
     /// Parks a task at an instance.
     pub fn park(&mut self, alloc: Global, instance: u8, task: TaskId) -> Result<(), AllocError>
-        requires { Meets (setup_of W.plan self.old) (state_of W.plan self.old) (Park instance task) }
+        requires { Meets (setup_of W.plan self.old) (state_of W.plan self.old)
+            (Park instance task) }
         ensures ok { OnOk result (AddsEntry W.plan self.old self.new (Park instance task) Done) }
         ensures err { OnErr result (self.new ≡ self.old) }
     {
@@ -354,8 +372,10 @@ impl<W: Work> Cluster<W> {
 
     /// Takes a parked task from an instance: false where it isn't parked there.
     pub fn unpark(&mut self, alloc: Global, instance: u8, task: TaskId) -> Result<bool, AllocError>
-        requires { Meets (setup_of W.plan self.old) (state_of W.plan self.old) (Unpark instance task) }
-        ensures ok { IfOk result (λ b. AddsEntry W.plan self.old self.new (Unpark instance task) (Truth b)) }
+        requires { Meets (setup_of W.plan self.old) (state_of W.plan self.old)
+            (Unpark instance task) }
+        ensures ok { IfOk result (λ b. AddsEntry W.plan self.old self.new (Unpark instance task)
+            (Truth b)) }
         ensures err { OnErr result (self.new ≡ self.old) }
     {
         self.journal.reserve(1)?;
@@ -377,8 +397,10 @@ impl<W: Work> Cluster<W> {
         max: u32,
     ) -> Result<(Vec<(u64, Rec)>, u64), AllocError>
         requires { MayFetch (setup_of W.plan self.now) (state_of W.plan self.now) part from max }
-        ensures records { IfOk result (λ r. r.0.items ≡ (fetched (state_of W.plan self.now) part from max).0) }
-        ensures next { IfOk result (λ r. r.1 ≡ (fetched (state_of W.plan self.now) part from max).1) }
+        ensures records { IfOk result (λ r. r.0.items
+            ≡ (fetched (state_of W.plan self.now) part from max).0) }
+        ensures next { IfOk result (λ r. r.1 ≡ (fetched (state_of W.plan self.now) part from
+            max).1) }
     {
         let slots = self.broker.log.part(part);
         let read = slots.read_committed(alloc, from, max)?;
@@ -396,8 +418,11 @@ impl<W: Work> Cluster<W> {
     ) -> Result<Result<Vec<(u16, u64)>, Refused>, AllocError>
         requires worker { w ≤ 16 }
         requires task { has_task task (setup_of W.plan self.now).tasks ≡ true }
-        ensures offsets { IfOk result (λ r. IfOk r (λ v. v.items ≡ committed_offsets (setup_of W.plan self.now) (state_of W.plan self.now) task)) }
-        ensures refused { IfOk result (λ r. Refuses (committed_refusal (state_of W.plan self.now) w generation task) r) }
+        ensures offsets { IfOk result (λ r. IfOk r
+            (λ v. v.items ≡ committed_offsets (setup_of W.plan self.now) (state_of W.plan self.now)
+            task)) }
+        ensures refused { IfOk result (λ r. Refuses
+            (committed_refusal (state_of W.plan self.now) w generation task) r) }
     {
         let outcome = self.broker.group.committed(alloc, w, generation, task)?;
         Ok(outcome)
@@ -416,7 +441,8 @@ impl<W: Work> Cluster<W> {
     /// a changelog (by topic and partition). Want of memory, the one error, comes also where the cluster has more than 65,536
     /// topics. Kafka Streams: what an assignor is told of the members' task lags and the end offsets (KIP-441).
     pub fn status(&self, alloc: Global) -> Result<Status, AllocError>
-        ensures { IfOk result (λ r. r ≡ status (setup_of W.plan self.now) (state_of W.plan self.now)) }
+        ensures { IfOk result (λ r. r ≡ status (setup_of W.plan self.now)
+            (state_of W.plan self.now)) }
     {
         let group = &self.broker.group;
         let tasks = group.tasks();
@@ -439,7 +465,8 @@ impl<W: Work> Cluster<W> {
     pub fn journal(&self) -> &[Entry]
         ensures entries { result.now ≡ self.now.journal }
         ensures history { IsHistory (setup_of W.plan self.now) self.now.journal }
-        ensures placed { ArePlaced (W.good self.now.work) (setup_of W.plan self.now) self.now.journal }
+        ensures placed { ArePlaced (W.good self.now.work) (setup_of W.plan self.now)
+            self.now.journal }
         ensures few { records_in (setup_of W.plan self.now) self.now.journal < 2 ^ 48 }
     {
         self.journal.as_slice()

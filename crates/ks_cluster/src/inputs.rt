@@ -15,7 +15,8 @@ pub fn task_inputs<W: Work>(
     tasks: &[TaskId],
 ) -> Result<Vec<TaskInputs>, AllocError>
     ensures tasks { IfOk result (λ made. map (λ t. t.task) made.items ≡ tasks.now) }
-    ensures rows { IfOk result (λ made. map (λ t. (t.task, none_committed t.inputs.items)) made.items ≡ first_rows (W.plan work.now) tasks.now) }
+    ensures rows { IfOk result (λ made. map (λ t. (t.task, none_committed t.inputs.items))
+        made.items ≡ first_rows (W.plan work.now) tasks.now) }
 {
     let mut made = Vec::new(alloc);
     for task in tasks {

@@ -105,7 +105,8 @@ fn push_changelog<W: Work>(
     log: &Log,
     place: (u16, u8),
 ) -> Result<(), AllocError>
-    ensures { OnOk result (made.new.items ≡ made.old.items ++ ends_if (setup_from (W.plan work.now) [] tasks.now) log.now place.0 place.1) }
+    ensures { OnOk result (made.new.items ≡ made.old.items
+        ++ ends_if (setup_from (W.plan work.now) [] tasks.now) log.now place.0 place.1) }
 {
     if is_kept(work, tasks, place.0) {
         push_ends(made, log, place.0, place.1)?;
@@ -121,7 +122,8 @@ pub fn changelog_ends<W: Work>(
     counts: &[u8],
     log: &Log,
 ) -> Result<Vec<(PartId, u64)>, AllocError>
-    ensures { IfOk result (λ made. made.items ≡ changelogs_on (setup_from (W.plan work.now) [] tasks.now) log.now 0 counts.now) }
+    ensures { IfOk result (λ made. made.items
+        ≡ changelogs_on (setup_from (W.plan work.now) [] tasks.now) log.now 0 counts.now) }
 {
     let mut made = Vec::new(alloc);
     for (i, count) in counts.iter().enumerate() {

@@ -11,7 +11,8 @@ use std::alloc::AllocError;
 // Whether a producer has an undecided transaction or a waiting marker.
 fn is_pending(txns: &Txns, w: u8) -> bool
     requires { w ≤ 16 }
-    ensures { result ≡ (is_undecided (producer_at txns.now w) || is_some_waiting (producer_at txns.now w).waiting) }
+    ensures { result ≡ (is_undecided (producer_at txns.now w) || is_some_waiting
+        (producer_at txns.now w).waiting) }
 {
     if txns.undecided(w) {
         return true;

@@ -23,7 +23,8 @@ pub struct Collision {
 
 /// The bytes of the row that a record's value tells. `Err` only where memory ran out.
 pub fn row_bytes(alloc: Global, shown: Shown, rec: &Rec) -> Result<Option<Blob>, AllocError>
-    ensures bytes { IfOk result (λ o. o ≡ option_map spelling (row_by (kind_as shown) rec.now.value)) }
+    ensures bytes { IfOk result (λ o. o ≡ option_map spelling
+        (row_by (kind_as shown) rec.now.value)) }
     ensures spelled { OnOk result (IfSome (row_by (kind_as shown) rec.now.value) FitsRow) }
 {
     let Some(value) = &rec.value else {
@@ -81,7 +82,8 @@ pub fn earlier<H: Hash128>(
     recs: &[(u64, Rec)],
     rec: &Rec,
 ) -> Result<Option<u64>, AllocError>
-    ensures { IfOk result (λ o. o ≡ earlier_in (row_hash H.hash_of) (kind_as shown) rec.now recs.now) }
+    ensures { IfOk result (λ o. o ≡ earlier_in (row_hash H.hash_of) (kind_as shown) rec.now
+        recs.now) }
 {
     let mut rest = recs;
     while let [first, more @ ..] = rest {

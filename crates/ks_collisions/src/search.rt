@@ -83,7 +83,8 @@ pub fn first_collision<H: Hash128>(
     shown: Shown,
     recs: &[(u64, Rec)],
 ) -> Result<Option<Collision>, AllocError>
-    ensures { IfOk result (λ o. option_map pair_of o ≡ first_in (row_hash H.hash_of) (kind_as shown) recs.now) }
+    ensures { IfOk result (λ o. option_map pair_of o
+        ≡ first_in (row_hash H.hash_of) (kind_as shown) recs.now) }
 {
     let mut rows = OrderedStore::new(alloc);
     for i in 0..recs.len() {

@@ -21,8 +21,10 @@ pub fn add<W: Work>(
     epoch: u64,
     part: PartId,
 ) -> Result<(), AllocError>
-    requires meets { Meets (setup_of W.plan cluster.old) (state_of W.plan cluster.old) (Add w epoch part) }
-    requires free { refusal (setup_of W.plan cluster.old) (state_of W.plan cluster.old) (Add w epoch part) ≡ None }
+    requires meets { Meets (setup_of W.plan cluster.old) (state_of W.plan cluster.old)
+        (Add w epoch part) }
+    requires free { refusal (setup_of W.plan cluster.old) (state_of W.plan cluster.old)
+        (Add w epoch part) ≡ None }
     ensures ok { OnOk result (AddsEntry W.plan cluster.old cluster.new (Add w epoch part) Done) }
     ensures err { OnErr result (cluster.new ≡ cluster.old) }
 {
@@ -43,9 +45,12 @@ pub fn append<W: Work>(
     part: PartId,
     recs: &[Rec],
 ) -> Result<u64, AllocError>
-    requires meets { Meets (setup_of W.plan cluster.old) (state_of W.plan cluster.old) (Append w epoch number task part recs.now) }
-    requires free { refusal (setup_of W.plan cluster.old) (state_of W.plan cluster.old) (Append w epoch number task part recs.now) ≡ None }
-    ensures ok { IfOk result (λ n. AddsEntry W.plan cluster.old cluster.new (Append w epoch number task part recs.now) (Number n)) }
+    requires meets { Meets (setup_of W.plan cluster.old) (state_of W.plan cluster.old)
+        (Append w epoch number task part recs.now) }
+    requires free { refusal (setup_of W.plan cluster.old) (state_of W.plan cluster.old)
+        (Append w epoch number task part recs.now) ≡ None }
+    ensures ok { IfOk result (λ n. AddsEntry W.plan cluster.old cluster.new
+        (Append w epoch number task part recs.now) (Number n)) }
     ensures err { OnErr result (cluster.new ≡ cluster.old) }
 {
     match cluster.append(alloc, w, epoch, number, task, part, recs)? {
@@ -66,9 +71,12 @@ pub fn send_offsets<W: Work>(
     order: &[(u16, u64)],
     late: u64,
 ) -> Result<(), AllocError>
-    requires meets { Meets (setup_of W.plan cluster.old) (state_of W.plan cluster.old) (SendOffsets w epoch generation task offsets.now order.now late) }
-    requires free { refusal (setup_of W.plan cluster.old) (state_of W.plan cluster.old) (SendOffsets w epoch generation task offsets.now order.now late) ≡ None }
-    ensures ok { OnOk result (AddsEntry W.plan cluster.old cluster.new (SendOffsets w epoch generation task offsets.now order.now late) Done) }
+    requires meets { Meets (setup_of W.plan cluster.old) (state_of W.plan cluster.old)
+        (SendOffsets w epoch generation task offsets.now order.now late) }
+    requires free { refusal (setup_of W.plan cluster.old) (state_of W.plan cluster.old)
+        (SendOffsets w epoch generation task offsets.now order.now late) ≡ None }
+    ensures ok { OnOk result (AddsEntry W.plan cluster.old cluster.new
+        (SendOffsets w epoch generation task offsets.now order.now late) Done) }
     ensures err { OnErr result (cluster.new ≡ cluster.old) }
 {
     match cluster.send_offsets(alloc, w, epoch, generation, task, offsets, order, late)? {
@@ -84,9 +92,12 @@ pub fn decide<W: Work>(
     w: u8,
     epoch: u64,
 ) -> Result<(), AllocError>
-    requires meets { Meets (setup_of W.plan cluster.old) (state_of W.plan cluster.old) (Decide w epoch true) }
-    requires faithful { CommitsFaithfully (setup_of W.plan cluster.old) (state_of W.plan cluster.old) (Decide w epoch true) }
-    requires free { refusal (setup_of W.plan cluster.old) (state_of W.plan cluster.old) (Decide w epoch true) ≡ None }
+    requires meets { Meets (setup_of W.plan cluster.old) (state_of W.plan cluster.old)
+        (Decide w epoch true) }
+    requires faithful { CommitsFaithfully (setup_of W.plan cluster.old)
+        (state_of W.plan cluster.old) (Decide w epoch true) }
+    requires free { refusal (setup_of W.plan cluster.old) (state_of W.plan cluster.old)
+        (Decide w epoch true) ≡ None }
     ensures ok { OnOk result (AddsEntry W.plan cluster.old cluster.new (Decide w epoch true) Done) }
     ensures err { OnErr result (cluster.new ≡ cluster.old) }
 {
@@ -104,10 +115,14 @@ pub fn assign<W: Work>(
     generation: u64,
     a: &Assignment,
 ) -> Result<bool, AllocError>
-    requires meets { Meets (setup_of W.plan cluster.old) (state_of W.plan cluster.old) (Assign w generation a.now) }
-    requires free { refusal (setup_of W.plan cluster.old) (state_of W.plan cluster.old) (Assign w generation a.now) ≡ None }
-    requires good { IsGoodAt (W.good cluster.old.work) (setup_of W.plan cluster.old) cluster.old.journal generation a.now }
-    ensures ok { IfOk result (λ b. AddsEntry W.plan cluster.old cluster.new (Assign w generation a.now) (Truth b)) }
+    requires meets { Meets (setup_of W.plan cluster.old) (state_of W.plan cluster.old)
+        (Assign w generation a.now) }
+    requires free { refusal (setup_of W.plan cluster.old) (state_of W.plan cluster.old)
+        (Assign w generation a.now) ≡ None }
+    requires good { IsGoodAt (W.good cluster.old.work) (setup_of W.plan cluster.old)
+        cluster.old.journal generation a.now }
+    ensures ok { IfOk result (λ b. AddsEntry W.plan cluster.old cluster.new
+        (Assign w generation a.now) (Truth b)) }
     ensures err { OnErr result (cluster.new ≡ cluster.old) }
 {
     match cluster.assign(alloc, w, generation, a)? {
@@ -127,7 +142,8 @@ pub fn committed<W: Work>(
     requires worker { w ≤ 16 }
     requires task { has_task task (setup_of W.plan cluster.now).tasks ≡ true }
     requires free { committed_refusal (state_of W.plan cluster.now) w generation task ≡ None }
-    ensures { IfOk result (λ v. v.items ≡ committed_offsets (setup_of W.plan cluster.now) (state_of W.plan cluster.now) task) }
+    ensures { IfOk result (λ v. v.items ≡ committed_offsets (setup_of W.plan cluster.now)
+        (state_of W.plan cluster.now) task) }
 {
     match cluster.committed(alloc, w, generation, task)? {
         Ok(offsets) => Ok(offsets),

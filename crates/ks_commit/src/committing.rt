@@ -64,7 +64,8 @@ fn all_ends<W: Work>(
     all: &[Seq<PartId>],
 ) -> Result<Vec<Seq<(u16, u64)>>, AllocError>
     requires { EachPlaced (setup_of W.plan cluster.now) all.now }
-    ensures { IfOk result (λ ends. ends.items ≡ ends_of_each (state_of W.plan cluster.now) all.now) }
+    ensures { IfOk result (λ ends. ends.items
+        ≡ ends_of_each (state_of W.plan cluster.now) all.now) }
 {
     let mut made = Vec::with_capacity(alloc, all.len())?;
     for own in all {
@@ -86,12 +87,16 @@ pub fn commit<W: Work>(
     works: Vec<Frozen>,
 ) -> Result<Vec<Seq<(u16, u64)>>, AllocError>
     requires network { IsNetwork (W.plan cluster.old.work) }
-    requires ready { IsReady (setup_of W.plan cluster.old) (state_of W.plan cluster.old) publisher.old }
+    requires ready { IsReady (setup_of W.plan cluster.old) (state_of W.plan cluster.old)
+        publisher.old }
     requires some { works.items ≢ [] }
     requires apart { AreApart (works_of works.items) }
-    requires works { EachMay (setup_of W.plan cluster.old) (state_of W.plan cluster.old) (works_of works.items) }
-    ensures committed { IfOk result (λ ends. Committed W.plan cluster.old cluster.new publisher.old.worker (works_of works.items) ends.items) }
-    ensures ready { OnOk result (IsReady (setup_of W.plan cluster.new) (state_of W.plan cluster.new) publisher.new) }
+    requires works { EachMay (setup_of W.plan cluster.old) (state_of W.plan cluster.old)
+        (works_of works.items) }
+    ensures committed { IfOk result (λ ends. Committed W.plan cluster.old cluster.new
+        publisher.old.worker (works_of works.items) ends.items) }
+    ensures ready { OnOk result (IsReady (setup_of W.plan cluster.new) (state_of W.plan cluster.new)
+        publisher.new) }
     ensures same { OnOk result (IsSame publisher.old publisher.new) }
     ensures err { OnErr result (Longer publisher.old.worker 1 cluster.old cluster.new) }
 {

@@ -53,8 +53,10 @@ impl Publisher {
         requires tasks { tasks.now ≡ cluster.old.tasks }
         requires once { are_once cluster.old.tasks ≡ true }
         requires good { IsGoodForAll (W.good cluster.old.work)
-            (insert_number worker (state_of W.plan cluster.old).members) (everything worker cluster.old.tasks) }
-        ensures ready { IfOk result (λ p. IsReady (setup_of W.plan cluster.new) (state_of W.plan cluster.new) p) }
+            (insert_number worker (state_of W.plan cluster.old).members)
+            (everything worker cluster.old.tasks) }
+        ensures ready { IfOk result (λ p. IsReady (setup_of W.plan cluster.new)
+            (state_of W.plan cluster.new) p) }
         ensures worker { IfOk result (λ p. p.worker ≡ worker) }
         ensures started { IfOk result (λ p. Started W.plan cluster.old cluster.new worker) }
         ensures err { OnErr result (Longer worker 0 cluster.old cluster.new) }
@@ -79,9 +81,11 @@ impl Publisher {
         cluster: &Cluster<W>,
         task: TaskId,
     ) -> Result<Vec<(u16, u64)>, AllocError>
-        requires ready { IsReady (setup_of W.plan cluster.now) (state_of W.plan cluster.now) self.now }
+        requires ready { IsReady (setup_of W.plan cluster.now) (state_of W.plan cluster.now)
+            self.now }
         requires task { has_task task cluster.now.tasks ≡ true }
-        ensures { IfOk result (λ v. v.items ≡ committed_offsets (setup_of W.plan cluster.now) (state_of W.plan cluster.now) task) }
+        ensures { IfOk result (λ v. v.items ≡ committed_offsets (setup_of W.plan cluster.now)
+            (state_of W.plan cluster.now) task) }
     {
         committed(alloc, cluster, self.worker, self.generation, task)
     }

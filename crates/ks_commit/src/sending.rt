@@ -25,11 +25,14 @@ fn put<W: Work>(
     part: PartId,
     recs: &[Rec],
 ) -> Result<(), AllocError>
-    requires sending { IsSending (setup_of W.plan cluster.old) (state_of W.plan cluster.old) publisher.old }
+    requires sending { IsSending (setup_of W.plan cluster.old) (state_of W.plan cluster.old)
+        publisher.old }
     requires part { IsPart (setup_of W.plan cluster.old) part }
     requires task { has_task task (setup_of W.plan cluster.old).tasks ≡ true }
-    ensures sends { OnOk result (Sends W.plan cluster.old cluster.new publisher.old.worker (part ∷ []) ((task, part, recs.now) ∷ []) []) }
-    ensures sending { OnOk result (IsSending (setup_of W.plan cluster.new) (state_of W.plan cluster.new) publisher.new) }
+    ensures sends { OnOk result (Sends W.plan cluster.old cluster.new publisher.old.worker
+        (part ∷ []) ((task, part, recs.now) ∷ []) []) }
+    ensures sending { OnOk result (IsSending (setup_of W.plan cluster.new)
+        (state_of W.plan cluster.new) publisher.new) }
     ensures same { OnOk result (IsSame publisher.old publisher.new) }
     ensures err { OnErr result (Longer publisher.old.worker 0 cluster.old cluster.new) }
 {
@@ -54,11 +57,14 @@ fn put_all<W: Work>(
     task: TaskId,
     outputs: Vec<(PartId, Seq<Rec>)>,
 ) -> Result<(), AllocError>
-    requires sending { IsSending (setup_of W.plan cluster.old) (state_of W.plan cluster.old) publisher.old }
+    requires sending { IsSending (setup_of W.plan cluster.old) (state_of W.plan cluster.old)
+        publisher.old }
     requires parts { All (λ out. IsPart (setup_of W.plan cluster.old) out.0) outputs.items }
     requires task { has_task task (setup_of W.plan cluster.old).tasks ≡ true }
-    ensures sends { OnOk result (Sends W.plan cluster.old cluster.new publisher.old.worker (adds_in outputs.items) (puts_in task outputs.items) []) }
-    ensures sending { OnOk result (IsSending (setup_of W.plan cluster.new) (state_of W.plan cluster.new) publisher.new) }
+    ensures sends { OnOk result (Sends W.plan cluster.old cluster.new publisher.old.worker
+        (adds_in outputs.items) (puts_in task outputs.items) []) }
+    ensures sending { OnOk result (IsSending (setup_of W.plan cluster.new)
+        (state_of W.plan cluster.new) publisher.new) }
     ensures same { OnOk result (IsSame publisher.old publisher.new) }
     ensures err { OnErr result (Longer publisher.old.worker 0 cluster.old cluster.new) }
 {
@@ -75,10 +81,15 @@ fn send<W: Work>(
     publisher: &mut Publisher,
     work: Frozen,
 ) -> Result<(), AllocError>
-    requires sending { IsSending (setup_of W.plan cluster.old) (state_of W.plan cluster.old) publisher.old }
-    requires work { IsOfCluster (setup_of W.plan cluster.old) (state_of W.plan cluster.old) (work_view work) }
-    ensures sends { OnOk result (Sends W.plan cluster.old cluster.new publisher.old.worker (adds_in work.outputs) (puts_in work.task work.outputs) (pending_work (work_view work) ∷ [])) }
-    ensures sending { OnOk result (IsSending (setup_of W.plan cluster.new) (state_of W.plan cluster.new) publisher.new) }
+    requires sending { IsSending (setup_of W.plan cluster.old) (state_of W.plan cluster.old)
+        publisher.old }
+    requires work { IsOfCluster (setup_of W.plan cluster.old) (state_of W.plan cluster.old)
+        (work_view work) }
+    ensures sends { OnOk result (Sends W.plan cluster.old cluster.new publisher.old.worker
+        (adds_in work.outputs) (puts_in work.task work.outputs)
+        (pending_work (work_view work) ∷ [])) }
+    ensures sending { OnOk result (IsSending (setup_of W.plan cluster.new)
+        (state_of W.plan cluster.new) publisher.new) }
     ensures same { OnOk result (IsSame publisher.old publisher.new) }
     ensures err { OnErr result (Longer publisher.old.worker 0 cluster.old cluster.new) }
 {
@@ -111,10 +122,15 @@ pub fn send_all<W: Work>(
     publisher: &mut Publisher,
     works: Vec<Frozen>,
 ) -> Result<(), AllocError>
-    requires sending { IsSending (setup_of W.plan cluster.old) (state_of W.plan cluster.old) publisher.old }
-    requires works { EachOf (setup_of W.plan cluster.old) (state_of W.plan cluster.old) (works_of works.items) }
-    ensures sends { OnOk result (Sends W.plan cluster.old cluster.new publisher.old.worker (adds_of (works_of works.items)) (puts_of (works_of works.items)) (pendings_of (works_of works.items))) }
-    ensures sending { OnOk result (IsSending (setup_of W.plan cluster.new) (state_of W.plan cluster.new) publisher.new) }
+    requires sending { IsSending (setup_of W.plan cluster.old) (state_of W.plan cluster.old)
+        publisher.old }
+    requires works { EachOf (setup_of W.plan cluster.old) (state_of W.plan cluster.old)
+        (works_of works.items) }
+    ensures sends { OnOk result (Sends W.plan cluster.old cluster.new publisher.old.worker
+        (adds_of (works_of works.items)) (puts_of (works_of works.items))
+        (pendings_of (works_of works.items))) }
+    ensures sending { OnOk result (IsSending (setup_of W.plan cluster.new)
+        (state_of W.plan cluster.new) publisher.new) }
     ensures same { OnOk result (IsSame publisher.old publisher.new) }
     ensures err { OnErr result (Longer publisher.old.worker 0 cluster.old cluster.new) }
 {

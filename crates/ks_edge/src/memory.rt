@@ -44,7 +44,13 @@ impl Model for MemSource {
 impl MemSource {
     /// A source of these bytes, which fails at the calls whose numbers, from 0, are listed in `failing`.
     pub fn new(bytes: Vec<u8>, cuts: Vec<usize>, failing: Vec<u64>) -> Self
-        ensures { result ≡ record { left = bytes.items; sizes = cuts.items; failing = failing.items; calls = 0; faults = 0 } }
+        ensures { result ≡ record {
+          left = bytes.items;
+          sizes = cuts.items;
+          failing = failing.items;
+          calls = 0;
+          faults = 0;
+        } }
     {
         MemSource {
             bytes,
@@ -154,7 +160,13 @@ impl Model for MemSink {
 impl MemSink {
     /// An empty sink, which fails at the calls whose numbers, from 0, are listed in `failing`, and takes each other piece whole.
     pub fn new(alloc: Global, failing: Vec<u64>) -> Self
-        ensures { result ≡ record { held = []; width = None; failing = failing.items; calls = 0; faults = 0 } }
+        ensures { result ≡ record {
+          held = [];
+          width = None;
+          failing = failing.items;
+          calls = 0;
+          faults = 0;
+        } }
     {
         MemSink {
             bytes: Vec::new(alloc),
@@ -168,7 +180,13 @@ impl MemSink {
     /// An empty sink that takes at most `width` bytes a call, and fails at the calls whose numbers, from 0, are listed in `failing`.
     pub fn narrow(alloc: Global, width: u32, failing: Vec<u64>) -> Self
         requires { 1 ≤ width }
-        ensures { result ≡ record { held = []; width = Some width; failing = failing.items; calls = 0; faults = 0 } }
+        ensures { result ≡ record {
+          held = [];
+          width = Some width;
+          failing = failing.items;
+          calls = 0;
+          faults = 0;
+        } }
     {
         MemSink {
             bytes: Vec::new(alloc),
@@ -216,7 +234,8 @@ impl Sink for MemSink {
         ensures cause { HasCause self.old.faults self.new.faults result }
         ensures unlisted { OnOk result (is_listed self.old.failing self.old.calls ≡ false) }
         ensures count { IfOk result (λ count. count ≡ length (within self.old.width piece.now)) }
-        ensures after { self.new ≡ (if is_ok result then after_put self.old piece.now else after_failed_put self.old) }
+        ensures after { self.new ≡ (if is_ok result then after_put self.old piece.now else
+            after_failed_put self.old) }
     {
         let call = self.calls;
         self.calls = call.saturating_add(1);

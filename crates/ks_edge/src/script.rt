@@ -40,7 +40,15 @@ impl Model for ScriptGate {
 impl ScriptGate {
     /// A gate with this script, as after a reset.
     pub fn new(acts: Vec<Act>, cuts: Vec<(u64, u32)>) -> Self
-        ensures { result ≡ record { acts = acts.items; cuts = cuts.items; turn = 0; asked = 0; stops = 0; calls = 0; made = 0 } }
+        ensures { result ≡ record {
+          acts = acts.items;
+          cuts = cuts.items;
+          turn = 0;
+          asked = 0;
+          stops = 0;
+          calls = 0;
+          made = 0;
+        } }
     {
         ScriptGate {
             acts,

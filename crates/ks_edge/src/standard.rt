@@ -32,9 +32,11 @@ impl<R: Read> Source for StdSource<R> {
 
     fn take(&mut self, buf: &mut [u8]) -> Result<usize, Failed>
         ensures bound { ReadsAtMost result buf.new }
-        ensures bytes { ReadConsumes (R.remaining self.old.reader) (R.remaining self.new.reader) result buf.new }
+        ensures bytes { ReadConsumes (R.remaining self.old.reader) (R.remaining self.new.reader)
+            result buf.new }
         ensures cause { HasCause self.old.faults self.new.faults result }
-        ensures counts { self.new.faults ≡ (if is_ok result then self.old.faults else counted self.old.faults) }
+        ensures counts { self.new.faults ≡ (if is_ok result then self.old.faults else counted
+            self.old.faults) }
     {
         match self.reader.read(buf) {
             Ok(count) => Ok(count),
@@ -73,10 +75,12 @@ impl<W: Write> Sink for StdSink<W> {
     /// `Failed` where the writer fails, and where it takes no byte of a piece that isn't empty.
     fn put(&mut self, piece: &[u8]) -> Result<usize, Failed>
         ensures bound { WritesAtMost result piece.now }
-        ensures bytes { WriteAppends (W.contents self.old.writer) (W.contents self.new.writer) result piece.now }
+        ensures bytes { WriteAppends (W.contents self.old.writer) (W.contents self.new.writer)
+            result piece.now }
         ensures progress { 0 < length piece.now → IfOk result (λ count. 0 < count) }
         ensures cause { HasCause self.old.faults self.new.faults result }
-        ensures counts { self.new.faults ≡ (if is_ok result then self.old.faults else counted self.old.faults) }
+        ensures counts { self.new.faults ≡ (if is_ok result then self.old.faults else counted
+            self.old.faults) }
     {
         match self.writer.write(piece) {
             Ok(0) if !piece.is_empty() => {

@@ -10,7 +10,8 @@ use ks_row::{Field, Row};
 use std::alloc::AllocError;
 
 fn look<'a>(expr: &'a Expr, left: Option<&'a Row>, right: Option<&'a Row>) -> Option<Value<'a>>
-    ensures { found result ≡ value_of (term_of expr.now) (option_copied left.entry) (option_copied right.entry) }
+    ensures { found result ≡ value_of (term_of expr.now) (option_copied left.entry)
+        (option_copied right.entry) }
 {
     match expr {
         Expr::Field(name) => side_value(name, left),
@@ -31,7 +32,8 @@ pub fn eval(
     left: Option<&Row>,
     right: Option<&Row>,
 ) -> Result<Option<Field>, AllocError>
-    ensures { IfOk result (λ f. f ≡ value_of (term_of expr.now) (option_copied left.entry) (option_copied right.entry)) }
+    ensures { IfOk result (λ f. f ≡ value_of (term_of expr.now) (option_copied left.entry)
+        (option_copied right.entry)) }
 {
     match look(expr, left, right) {
         Some(value) => Ok(Some(value.to_field()?)),

@@ -57,7 +57,8 @@ pub fn project(
     left: Option<&Row>,
     right: Option<&Row>,
 ) -> Result<Option<Row>, AllocError>
-    ensures { IfOk result (λ r. r ≡ projected (set_of proj.now) (option_copied left.entry) (option_copied right.entry)) }
+    ensures { IfOk result (λ r. r ≡ projected (set_of proj.now) (option_copied left.entry)
+        (option_copied right.entry)) }
 {
     let mut fields = Vec::new(alloc);
     for (name, expr) in proj.fields.as_slice() {

@@ -45,19 +45,22 @@ impl<'a> Value<'a> {
 
     /// The sum, wrapping round; none where one is a text.
     pub fn plus(self, other: Value<'a>) -> Option<Value<'a>>
-        ensures { found result ≡ of_numbers (int_wrapping_add w64) (Some (field_seen self.entry)) (Some (field_seen other.entry)) }
+        ensures { found result ≡ of_numbers (int_wrapping_add w64) (Some (field_seen self.entry))
+            (Some (field_seen other.entry)) }
     {
         Some(Value::Int(self.number()?.wrapping_add(other.number()?)))
     }
 
     pub fn minus(self, other: Value<'a>) -> Option<Value<'a>>
-        ensures { found result ≡ of_numbers (int_wrapping_sub w64) (Some (field_seen self.entry)) (Some (field_seen other.entry)) }
+        ensures { found result ≡ of_numbers (int_wrapping_sub w64) (Some (field_seen self.entry))
+            (Some (field_seen other.entry)) }
     {
         Some(Value::Int(self.number()?.wrapping_sub(other.number()?)))
     }
 
     pub fn times(self, other: Value<'a>) -> Option<Value<'a>>
-        ensures { found result ≡ of_numbers (int_wrapping_mul w64) (Some (field_seen self.entry)) (Some (field_seen other.entry)) }
+        ensures { found result ≡ of_numbers (int_wrapping_mul w64) (Some (field_seen self.entry))
+            (Some (field_seen other.entry)) }
     {
         Some(Value::Int(self.number()?.wrapping_mul(other.number()?)))
     }

@@ -85,7 +85,9 @@ pub fn subscriptions<H: Hash128>(
     fk: &Name,
     change: &Change,
 ) -> Result<(Vec<(Key, Subscription)>, bool), AllocError>
-    ensures asked { IfOk result (λ r. r.0.items ≡ told change.now.key (subscriptions (row_hash H.hash_of) fk.now change.now.old change.now.new)) }
+    ensures asked { IfOk result (λ r. r.0.items
+        ≡ told change.now.key (subscriptions (row_hash H.hash_of) fk.now change.now.old
+        change.now.new)) }
     ensures direct { IfOk result (λ r. r.1 ≡ is_direct fk.now change.now.old change.now.new) }
 {
     let before = foreign_key(alloc, fk, change.old.as_ref())?;
@@ -111,7 +113,8 @@ fn is_answer<H: Hash128>(
     left: Option<&Row>,
     response: &Response,
 ) -> Result<bool, AllocError>
-    ensures { IfOk result (λ b. b ≡ is_present (row_hash H.hash_of) (option_copied left.entry) response.now) }
+    ensures { IfOk result (λ b. b ≡ is_present (row_hash H.hash_of) (option_copied left.entry)
+        response.now) }
 {
     match (left, response.hash) {
         (None, None) => Ok(true),
@@ -128,7 +131,8 @@ pub fn respond<H: Hash128>(
     left: Option<&Row>,
     response: &Response,
 ) -> Result<Answer, AllocError>
-    ensures { IfOk result (λ a. set_by a ≡ responded (row_hash H.hash_of) kind (set_of set.now) (option_copied left.entry) response.now) }
+    ensures { IfOk result (λ a. set_by a ≡ responded (row_hash H.hash_of) kind (set_of set.now)
+        (option_copied left.entry) response.now) }
 {
     if is_answer::<H>(alloc, left, response)? {
         Ok(Answer::Set(join_rows(alloc, kind, set, left, response.right.as_ref())?))

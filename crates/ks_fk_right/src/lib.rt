@@ -44,7 +44,8 @@ pub fn answer(
     subscription: &Subscription,
     right: Option<&Row>,
 ) -> Result<Option<Response>, AllocError>
-    ensures { IfOk result (λ r. r ≡ answer_to (subscription_of subscription.now) (option_copied right.entry)) }
+    ensures { IfOk result (λ r. r ≡ answer_to (subscription_of subscription.now)
+        (option_copied right.entry)) }
 {
     match subscription.instruction() {
         0 => Ok(None),
@@ -110,8 +111,11 @@ pub fn on_subscription<S: KvStore>(
     subscription: &Subscription,
     right: Option<&Row>,
 ) -> Result<Option<Response>, AllocError>
-    ensures kept { OnOk result (S.contents store.new ≡ write by_bytes (S.contents store.old) (subscription_key foreign.now subscription.now.left) (option_map hash_bytes (subscribed (subscription_of subscription.now)))) }
-    ensures answer { IfOk result (λ r. r ≡ answer_to (subscription_of subscription.now) (option_copied right.entry)) }
+    ensures kept { OnOk result (S.contents store.new
+        ≡ write by_bytes (S.contents store.old) (subscription_key foreign.now subscription.now.left)
+        (option_map hash_bytes (subscribed (subscription_of subscription.now)))) }
+    ensures answer { IfOk result (λ r. r ≡ answer_to (subscription_of subscription.now)
+        (option_copied right.entry)) }
     ensures err { OnErr result (S.contents store.new ≡ S.contents store.old) }
 {
     let response = answer(subscription, right)?;
@@ -152,7 +156,8 @@ pub fn on_right<S: KvStore>(
     store: &S,
     change: &Change,
 ) -> Result<Vec<(Key, Response)>, AllocError>
-    ensures { IfOk result (λ v. v.items ≡ answer_all change.now.new (kept_under change.now.key (S.contents store.now))) }
+    ensures { IfOk result (λ v. v.items ≡ answer_all change.now.new
+        (kept_under change.now.key (S.contents store.now))) }
 {
     let front = front_of(alloc, &change.key)?;
     let pairs = store.prefix(&front)?;

@@ -104,7 +104,8 @@ impl TaskOffsets {
 
 /// A row for each task, of which nothing is committed.
 fn new_rows(alloc: Global, tasks: &[TaskInputs]) -> Result<Vec<TaskOffsets>, AllocError>
-    ensures { IfOk result (λ rows. rows.items ≡ map (λ t. (t.task, none_committed t.inputs.items)) tasks.now) }
+    ensures { IfOk result (λ rows. rows.items
+        ≡ map (λ t. (t.task, none_committed t.inputs.items)) tasks.now) }
 {
     let mut rows = Vec::new(alloc);
     for one in tasks {
@@ -146,7 +147,8 @@ impl Model for Offsets {
 impl Offsets {
     /// A row for each task, of which nothing is committed. Want of memory is the one error.
     pub fn new(alloc: Global, tasks: &[TaskInputs]) -> Result<Offsets, AllocError>
-        ensures { IfOk result (λ o. o ≡ map (λ t. (t.task, none_committed t.inputs.items)) tasks.now) }
+        ensures { IfOk result (λ o. o ≡ map (λ t. (t.task, none_committed t.inputs.items))
+            tasks.now) }
     {
         let rows = new_rows(alloc, tasks)?;
         let places = places_of(alloc, rows.as_slice())?;

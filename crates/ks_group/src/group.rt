@@ -336,8 +336,10 @@ impl Group {
         generation: u64,
         task: TaskId,
     ) -> Result<Result<Vec<(u16, u64)>, Refused>, AllocError>
-        ensures offsets { IfOk result (λ r. IfOk r (λ v. v.items ≡ offsets_of task self.now.offsets)) }
-        ensures refused { IfOk result (λ r. Refuses (committed_fault self.now w generation task) r) }
+        ensures offsets { IfOk result (λ r. IfOk r
+            (λ v. v.items ≡ offsets_of task self.now.offsets)) }
+        ensures refused { IfOk result (λ r. Refuses (committed_fault self.now w generation task)
+            r) }
     {
         if let Some(refused) = self.settled_refusal(w, generation, task, None) {
             return Ok(Err(refused));
@@ -361,7 +363,8 @@ impl Group {
     pub fn join(&mut self, alloc: Global, w: u8) -> Result<u64, AllocError>
         requires { self.old.generation < 2 ^ 64 - 1 }
         ensures generation { IfOk result (λ n. n ≡ self.old.generation + 1) }
-        ensures ok { OnOk result (self.new ≡ record (next_generation self.old) { members = insert_number w self.old.members }) }
+        ensures ok { OnOk result (self.new ≡ record (next_generation self.old)
+            { members = insert_number w self.old.members }) }
         ensures err { OnErr result (self.new ≡ self.old) }
     {
         let members = with_member(alloc, self.members.as_slice(), w)?;
@@ -387,7 +390,8 @@ impl Group {
     /// is the one error; after it the group is as before. KIP-441.
     pub fn hold(&mut self, alloc: Global, w: u8, held: &[(TaskId, u64)]) -> Result<(), AllocError>
         requires { w ≤ 16 }
-        ensures ok { OnOk result (self.new ≡ record self.old { held = held_with w held.now self.old.held }) }
+        ensures ok { OnOk result (self.new ≡ record self.old
+            { held = held_with w held.now self.old.held }) }
         ensures err { OnErr result (self.new ≡ self.old) }
     {
         let held = with_held(alloc, self.held.as_slice(), w, held)?;

@@ -36,7 +36,12 @@ pub fn new_pending(
     order: &[(u16, u64)],
     late: u64,
 ) -> Result<Pending, AllocError>
-    ensures { IfOk result (λ p. p ≡ record { task = task; offsets = offsets.now; order = order.now; late = late }) }
+    ensures { IfOk result (λ p. p ≡ record {
+      task = task;
+      offsets = offsets.now;
+      order = order.now;
+      late = late;
+    }) }
 {
     Ok(Pending {
         task,

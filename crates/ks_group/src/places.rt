@@ -19,7 +19,8 @@ pub fn task_number(task: TaskId) -> usize
 fn widen(places: &mut Vec<usize>, number: usize, none: usize) -> Result<(), AllocError>
     requires { number < 2 ^ 16 }
     ensures long { OnOk result (number < length places.new.items) }
-    ensures same { OnOk result ((i : ℕ) → get_or places.new.items i none ≡ get_or places.old.items i none) }
+    ensures same { OnOk result ((i : ℕ) → get_or places.new.items i none
+        ≡ get_or places.old.items i none) }
 {
     if number >= places.len() {
         places.resize(number + 1, none)?;
@@ -29,7 +30,8 @@ fn widen(places: &mut Vec<usize>, number: usize, none: usize) -> Result<(), Allo
 
 /// A task stands at this place, whatever the table said of it before.
 fn put(places: &mut Vec<usize>, task: TaskId, at: usize, none: usize) -> Result<(), AllocError>
-    ensures { OnOk result ((t : Task) → t.part < 256 → get_or places.new.items (task_number t) none ≡ (if same_task t task then at else get_or places.old.items (task_number t) none)) }
+    ensures { OnOk result ((t : Task) → t.part < 256 → get_or places.new.items (task_number t) none
+        ≡ (if same_task t task then at else get_or places.old.items (task_number t) none)) }
 {
     let number = task_number(task);
     widen(places, number, none)?;

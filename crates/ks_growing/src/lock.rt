@@ -73,7 +73,8 @@ impl<T: Journaled> Growing<T> {
         ensures first { IfOk result (λ r. r.0.first ≡ value) }
         ensures passes { IfOk result (λ r. r.0.passes ≡ passes) }
         ensures count { IfOk result (λ r. length r.1.items ≡ passes) }
-        ensures fresh { IfOk result (λ r. Each (IsFresh r.0.id (T.journal value) (T.frame value)) r.1.items) }
+        ensures fresh { IfOk result (λ r. Each (IsFresh r.0.id (T.journal value) (T.frame value))
+            r.1.items) }
         ensures err { IfErr result (λ e. e.value ≡ value) }
     {
         let key = (Snapshot::of(&value), u64::from(passes));

@@ -55,7 +55,8 @@ pub(crate) fn meet_seats<T: Journaled>(
     ensures other { SameSeat other.old other.new × (other.new.me ≡ other.old.me) }
     ensures begins { IsPrefix (seat_seen seat.old) (seat_seen seat.new) }
     ensures other_begins { IsPrefix (seat_seen other.old) (seat_seen seat.new) }
-    ensures either { (seat_seen seat.new ≡ seat_seen seat.old) ⊎ (seat_seen seat.new ≡ seat_seen other.old) }
+    ensures either { (seat_seen seat.new ≡ seat_seen seat.old)
+        ⊎ (seat_seen seat.new ≡ seat_seen other.old) }
     ensures reserved { seat.old.me.0.number ≡ 0
         → filter T.reserved (seat_seen seat.new) ≡ filter T.reserved (seat_seen seat.old) }
 {

@@ -19,7 +19,11 @@ pub(crate) fn enter_seat<T: Journaled, R: Wait>(
     requires free { IsFree seat.old.me }
     ensures same { (seat.new.table_id ≡ seat.old.table_id) × (seat.new.id ≡ seat.old.id) }
     ensures begins { IsPrefix seat.old.me.0.seen (T.journal result) }
-    ensures view { seat.new.me ≡ (view_with_value (T.journal result) seat.old.me.0, (0, None) ∷ []) }
+    ensures view { seat.new.me ≡ (
+      view_with_value (T.journal result) seat.old.me.0,
+      (0, None)
+          ∷ [],
+    ) }
     ensures frame { seat.old.me.0.frame ≡ Some (T.frame result) }
     ensures reserved { seat.old.me.0.number ≡ 0
         → filter T.reserved (T.journal result) ≡ filter T.reserved seat.old.me.0.seen }

@@ -64,7 +64,8 @@ fn first_word(bytes: &[u8]) -> u64
 
 #[tactic(auto, unfolding(crate::specs::Murmur3::with_block))]
 fn mix_block(h1: u64, h2: u64, k1: u64, k2: u64) -> (u64, u64)
-    ensures { record { h1 = result.0; h2 = result.1 } ≡ with_block (record { h1 = h1; h2 = h2 }) k1 k2 }
+    ensures { record { h1 = result.0; h2 = result.1 }
+        ≡ with_block (record { h1 = h1; h2 = h2 }) k1 k2 }
 {
     let h1 = mix_half1(h1, h2, k1);
     let h2 = mix_half2(h1, h2, k2);
@@ -72,7 +73,8 @@ fn mix_block(h1: u64, h2: u64, k1: u64, k2: u64) -> (u64, u64)
 }
 
 fn mix_blocks(bytes: &[u8]) -> (u64, u64)
-    ensures { record { h1 = result.0; h2 = result.1 } ≡ after_blocks (length bytes.now / 16) (record { h1 = 0; h2 = 0 }) bytes.now }
+    ensures { record { h1 = result.0; h2 = result.1 }
+        ≡ after_blocks (length bytes.now / 16) (record { h1 = 0; h2 = 0 }) bytes.now }
 {
     let count = bytes.len() / 16;
     let mut h1 = 0;
@@ -110,7 +112,8 @@ fn padded_word(bytes: &[u8]) -> u64
 
 #[tactic(auto, unfolding(crate::specs::Murmur3::with_tail))]
 fn mix_tail(h1: u64, h2: u64, tail: &[u8]) -> (u64, u64)
-    ensures { record { h1 = result.0; h2 = result.1 } ≡ with_tail (record { h1 = h1; h2 = h2 }) tail.now }
+    ensures { record { h1 = result.0; h2 = result.1 }
+        ≡ with_tail (record { h1 = h1; h2 = h2 }) tail.now }
 {
     if tail.len() > 8 {
         (

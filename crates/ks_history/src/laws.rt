@@ -11,14 +11,20 @@ ghost use Rattle.ks_history.specs.Touched.{TouchedByTheLast, UntouchedStays};
 
 /// A journal goes on by one entry.
 pub fn one_more()
-    ensures state { (setup : Setup) (journal : List Entry) (entry : Entry) → at setup (journal ++ entry ∷ []) ≡ after setup (at setup journal) entry.request }
-    ensures history { (setup : Setup) (journal : List Entry) (entry : Entry) → IsHistory setup journal → IsStep setup (at setup journal) entry → IsFaithfulEntry setup (at setup journal) entry → IsHistory setup (journal ++ entry ∷ []) }
-    ensures records { (setup : Setup) (journal : List Entry) (entry : Entry) → records_in setup (journal ++ entry ∷ []) ≡ records_in setup journal + records_by entry.request (refusal setup (at setup journal) entry.request) }
+    ensures state { (setup : Setup) (journal : List Entry) (entry : Entry)
+        → at setup (journal ++ entry ∷ []) ≡ after setup (at setup journal) entry.request }
+    ensures history { (setup : Setup) (journal : List Entry) (entry : Entry)
+        → IsHistory setup journal → IsStep setup (at setup journal) entry
+        → IsFaithfulEntry setup (at setup journal) entry → IsHistory setup (journal ++ entry ∷ []) }
+    ensures records { (setup : Setup) (journal : List Entry) (entry : Entry)
+        → records_in setup (journal ++ entry ∷ []) ≡ records_in setup journal
+        + records_by entry.request (refusal setup (at setup journal) entry.request) }
 {}
 
 /// A prefix of a history is a history: what is one now was one at each earlier moment.
 pub fn earlier()
-    ensures { (setup : Setup) (front whole : List Entry) → IsPrefix front whole → IsHistory setup whole → IsHistory setup front }
+    ensures { (setup : Setup) (front whole : List Entry) → IsPrefix front whole
+        → IsHistory setup whole → IsHistory setup front }
 {}
 
 /// The stable offset is at most the end.
@@ -28,8 +34,10 @@ pub fn stable_in()
 
 /// An epoch and the generation are at most the journal's length, since an entry raises each by at most 1.
 pub fn few()
-    ensures epochs { (setup : Setup) (journal : List Entry) (w : ℕ) → ((at setup journal).producer w).epoch ≤ length journal }
-    ensures generation { (setup : Setup) (journal : List Entry) → (at setup journal).generation ≤ length journal }
+    ensures epochs { (setup : Setup) (journal : List Entry) (w : ℕ)
+        → ((at setup journal).producer w).epoch ≤ length journal }
+    ensures generation { (setup : Setup) (journal : List Entry) → (at setup journal).generation
+        ≤ length journal }
 {}
 
 /// How far a journal touches a worker's transaction: up to the last entry by which the worker began, filled or decided one; entries that

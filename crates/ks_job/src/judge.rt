@@ -92,7 +92,8 @@ fn judge_topology(
 ) -> Result<(Place, Option<JobItem>), ReadError>
     requires some { 0 < size }
     requires room { place.start + size ≤ 67108864 }
-    ensures { Gives (λ x. (spot x.0, option_map item_view x.1)) result (topology_line (spot place) size (view value.now)) }
+    ensures { Gives (λ x. (spot x.0, option_map item_view x.1)) result
+        (topology_line (spot place) size (view value.now)) }
 {
     let draft = read_topology(alloc, value)?;
     let names = copy_names(alloc, draft.topics.as_slice())?;
@@ -124,7 +125,13 @@ fn judge_record(
     requires some { 0 < size }
     requires numbered { line ≤ start + 1 }
     requires room { start + size ≤ 67108864 }
-    ensures { Gives (λ x. (spot x.0, option_map item_view x.1)) result (record_line (record { line = line; start = start; topics = Some topics; records = records }) size topics (view value.now)) }
+    ensures { Gives (λ x. (spot x.0, option_map item_view x.1)) result
+        (record_line (record {
+          line = line;
+          start = start;
+          topics = Some topics;
+          records = records;
+        }) size topics (view value.now)) }
 {
     let input = read_input(alloc, topics.as_slice(), value)?;
     if records < MOST_RECORDS {
@@ -152,7 +159,8 @@ fn judge_value(
 ) -> Result<(Place, Option<JobItem>), ReadError>
     requires some { 0 < size }
     requires room { place.start + size ≤ 67108864 }
-    ensures { Gives (λ x. (spot x.0, option_map item_view x.1)) result (value_line place.topics (spot place) size (view value.now)) }
+    ensures { Gives (λ x. (spot x.0, option_map item_view x.1)) result
+        (value_line place.topics (spot place) size (view value.now)) }
 {
     let Place {
         line,
@@ -185,7 +193,8 @@ fn judge_data(
 ) -> Result<(Place, Option<JobItem>), ReadError>
     requires some { 0 < size }
     requires room { place.start + size ≤ 67108864 }
-    ensures { Gives (λ x. (spot x.0, option_map item_view x.1)) result (data_line (spot place) size line.now) }
+    ensures { Gives (λ x. (spot x.0, option_map item_view x.1)) result
+        (data_line (spot place) size line.now) }
 {
     match parse_line(alloc, line)? {
         Some(value) => judge_value(alloc, place, size, &value),
@@ -203,7 +212,8 @@ pub fn judge_line(
 ) -> Result<(Place, Option<JobItem>), ReadError>
     requires some { 0 < length line.now + end }
     requires end { end ≤ 1 }
-    ensures { Gives (λ x. (spot x.0, option_map item_view x.1)) result (judged (spot place) end line.now) }
+    ensures { Gives (λ x. (spot x.0, option_map item_view x.1)) result
+        (judged (spot place) end line.now) }
 {
     let size = line.len() as u64 + end;
     if is_past(place.start, size) {

@@ -64,7 +64,8 @@ fn end_line(
     begun: &mut Vec<u8>,
     front: &[u8],
 ) -> Result<(Place, Option<JobItem>), ReadError>
-    ensures line { Gives (λ x. (spot x.0, option_map item_view x.1)) result (ended (spot place) begun.old.items front.now) }
+    ensures line { Gives (λ x. (spot x.0, option_map item_view x.1)) result
+        (ended (spot place) begun.old.items front.now) }
     ensures empty { OnOk result (begun.new.items ≡ []) }
 {
     if front.len() > room_left(begun) {
@@ -110,7 +111,8 @@ fn feed_reading(
     piece: &[u8],
     items: &mut Vec<JobItem>,
 ) -> Result<Phase, AllocError>
-    ensures fed { IfOk result (λ p. machine p items.new.items ≡ after (machine (Phase.Reading place begun) items.old.items) piece.now) }
+    ensures fed { IfOk result (λ p. machine p items.new.items
+        ≡ after (machine (Phase.Reading place begun) items.old.items) piece.now) }
     ensures front { PushesFront items.old.items items.new.items
         (after (machine (Phase.Reading place begun) items.old.items) piece.now).items }
 {
@@ -145,7 +147,8 @@ pub fn feed_phase(
     piece: &[u8],
     items: &mut Vec<JobItem>,
 ) -> Result<Phase, AllocError>
-    ensures fed { IfOk result (λ p. machine p items.new.items ≡ after (machine phase items.old.items) piece.now) }
+    ensures fed { IfOk result (λ p. machine p items.new.items
+        ≡ after (machine phase items.old.items) piece.now) }
     ensures front { PushesFront items.old.items items.new.items
         (after (machine phase items.old.items) piece.now).items }
 {
@@ -173,7 +176,8 @@ fn close(alloc: Global, line: u64, place: Place) -> Phase
 
 #[tactic(auto, using(crate::proofs::Cuts::seen_push))]
 fn finish_phase(alloc: Global, phase: Phase, items: &mut Vec<JobItem>) -> Result<Phase, AllocError>
-    ensures ended { IfOk result (λ p. machine p items.new.items ≡ end_of (reader_of phase) (item_views items.old.items)) }
+    ensures ended { IfOk result (λ p. machine p items.new.items
+        ≡ end_of (reader_of phase) (item_views items.old.items)) }
     ensures front { PushesFront items.old.items items.new.items
         (end_of (reader_of phase) (item_views items.old.items)).items }
 {
@@ -249,7 +253,9 @@ impl JobReader {
     /// The end of the input: pushes the item of a last line that has no end. `Err` only where memory ran out, at this call or at an
     /// earlier one: that item was then pushed or not, and nothing else was.
     pub fn finish(self, items: &mut Vec<JobItem>) -> Result<Result<(), JobFault>, AllocError>
-        ensures ended { IfOk result (λ r. IfSome self (λ b. TellsFault r (end_of b (item_views items.old.items)).reader × (item_views items.new.items ≡ (end_of b (item_views items.old.items)).items))) }
+        ensures ended { IfOk result (λ r. IfSome self
+            (λ b. TellsFault r (end_of b (item_views items.old.items)).reader
+            × (item_views items.new.items ≡ (end_of b (item_views items.old.items)).items))) }
         ensures front { IfSome self (λ b. PushesFront items.old.items items.new.items
             (end_of b (item_views items.old.items)).items) }
         ensures sticky { self ≡ None → IsErr result × (items.new.items ≡ items.old.items) }
@@ -282,7 +288,8 @@ impl JobReader {
         piece: &[u8],
         items: &mut Vec<JobItem>,
     ) -> Result<Result<(), JobFault>, AllocError>
-        ensures fed { OnOk result (Fed self.old self.new items.old.items items.new.items piece.now) }
+        ensures fed { OnOk result (Fed self.old self.new items.old.items items.new.items
+            piece.now) }
         ensures answer { IfOk result (λ r. IfSome self.new (λ s. TellsFault r s)) }
         ensures err { OnErr result (self.new ≡ None) }
         ensures front { IfSome self.old (λ r. PushesFront items.old.items items.new.items
@@ -303,7 +310,8 @@ impl JobReader {
         piece: &[u8],
         items: &mut Vec<JobItem>,
     ) -> Result<Result<(), JobFault>, AllocError>
-        ensures fed { OnOk result (Fed self.old self.new items.old.items items.new.items piece.now) }
+        ensures fed { OnOk result (Fed self.old self.new items.old.items items.new.items
+            piece.now) }
         ensures answer { IfOk result (λ r. IfSome self.new (λ s. TellsFault r s)) }
         ensures err { OnErr result (self.new ≡ None) }
         ensures front { IfSome self.old (λ r. PushesFront items.old.items items.new.items
@@ -324,7 +332,8 @@ pub fn feed_all(
     pieces: &[Vec<u8>],
     items: &mut Vec<JobItem>,
 ) -> Result<(), AllocError>
-    ensures { OnOk result (reader.old ≢ None → Fed reader.old reader.new items.old.items items.new.items (flat_map (λ v. v.items) pieces.now)) }
+    ensures { OnOk result (reader.old ≢ None → Fed reader.old reader.new items.old.items
+        items.new.items (flat_map (λ v. v.items) pieces.now)) }
 {
     let mut rest = pieces;
     while let [first, more @ ..] = rest {

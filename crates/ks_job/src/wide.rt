@@ -91,7 +91,8 @@ fn cut_piece<'a>(
     piece: &'a [u8],
 ) -> Result<Option<Halves<'a>>, AllocError>
     ensures whole { IfOk result (λ o. IfSome o (λ h. piece.now ≡ h.front.now ++ h.back.now)) }
-    ensures start { IfOk result (λ o. IfSome o (λ h. reader_of h.start ≡ Reading (spot h.place) [])) }
+    ensures start { IfOk result (λ o. IfSome o
+        (λ h. reader_of h.start ≡ Reading (spot h.place) [])) }
 {
     let Phase::Reading { place, begun } = phase else {
         return Ok(None);
@@ -122,7 +123,8 @@ fn is_at(phase: &Phase, place: &Place) -> bool
 }
 
 fn read_part(alloc: Global, phase: Phase, piece: &[u8]) -> Result<Part, AllocError>
-    ensures { IfOk result (λ p. machine p.phase p.items.items ≡ after (machine phase []) piece.now) }
+    ensures { IfOk result (λ p. machine p.phase p.items.items
+        ≡ after (machine phase []) piece.now) }
 {
     let mut items = Vec::new(alloc);
     items.reserve(piece.len() / 64)?;
@@ -138,8 +140,10 @@ fn join_parts(
     second: Part,
     back: &[u8],
 ) -> Result<Part, AllocError>
-    requires { machine second.phase second.items.items ≡ after (record { reader = Reading (spot place.now) []; items = [] }) back.now }
-    ensures { IfOk result (λ p. machine p.phase p.items.items ≡ after (machine first.phase first.items.items) back.now) }
+    requires { machine second.phase second.items.items
+        ≡ after (record { reader = Reading (spot place.now) []; items = [] }) back.now }
+    ensures { IfOk result (λ p. machine p.phase p.items.items
+        ≡ after (machine first.phase first.items.items) back.now) }
 {
     let Part { phase, mut items } = first;
     if is_at(&phase, place) {
@@ -168,7 +172,8 @@ fn read_wide<R: Threads + Sync>(
     piece: &[u8],
     halvings: u32,
 ) -> Result<Part, AllocError>
-    ensures { IfOk result (λ p. machine p.phase p.items.items ≡ after (machine phase []) piece.now) }
+    ensures { IfOk result (λ p. machine p.phase p.items.items
+        ≡ after (machine phase []) piece.now) }
 {
     if halvings == 0 {
         return read_part(alloc, phase, piece);
@@ -188,11 +193,13 @@ fn read_wide<R: Threads + Sync>(
         rt,
         move || -> Result<Part, AllocError>
             requires { IsSync R.row }
-            ensures { IfOk result (λ p. machine p.phase p.items.items ≡ after (machine start []) back.entry.now) }
+            ensures { IfOk result (λ p. machine p.phase p.items.items
+                ≡ after (machine start []) back.entry.now) }
         { read_wide(rt, alloc, start, back, fewer) },
         move || -> Result<Part, AllocError>
             requires { IsSync R.row }
-            ensures { IfOk result (λ p. machine p.phase p.items.items ≡ after (machine phase []) front.entry.now) }
+            ensures { IfOk result (λ p. machine p.phase p.items.items
+                ≡ after (machine phase []) front.entry.now) }
         { read_wide(rt, alloc, phase, front, fewer) },
     );
     join_parts(alloc, first?, &place, second?, back)
@@ -207,7 +214,8 @@ pub fn feed_by_threads<R: Threads + Sync>(
     piece: &[u8],
     items: &mut Vec<JobItem>,
 ) -> Result<Phase, AllocError>
-    ensures fed { IfOk result (λ p. machine p items.new.items ≡ after (machine phase items.old.items) piece.now) }
+    ensures fed { IfOk result (λ p. machine p items.new.items
+        ≡ after (machine phase items.old.items) piece.now) }
     ensures front { PushesFront items.old.items items.new.items
         (after (machine phase items.old.items) piece.now).items }
 {

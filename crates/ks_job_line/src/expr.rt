@@ -33,7 +33,8 @@ pub fn only_member(value: &Value) -> Option<(&str, &Value)>
 
 #[tactic(auto, using(crate::proofs::Trees::two_items_none, crate::proofs::Trees::two_items_some))]
 pub fn only_pair(value: &Value) -> Option<(&Value, &Value)>
-    ensures { option_map (λ p. (view p.0.now, view p.1.now)) result ≡ only_pair_of (view value.now) }
+    ensures { option_map (λ p. (view p.0.now, view p.1.now)) result
+        ≡ only_pair_of (view value.now) }
 {
     let list = value.as_array()?;
     if list.len() == 2 {
@@ -141,7 +142,8 @@ fn both(
     left: Judged<Expr>,
     right: Judged<Expr>,
 ) -> Result<Judged<Expr>, AllocError>
-    ensures { IfOk result (λ j. seen_by term_of j ≡ both_of (joined name.now) (seen_by term_of left) (seen_by term_of right)) }
+    ensures { IfOk result (λ j. seen_by term_of j
+        ≡ both_of (joined name.now) (seen_by term_of left) (seen_by term_of right)) }
 {
     match pair_up(left, right) {
         Judged::Wrong => Ok(Judged::Wrong),

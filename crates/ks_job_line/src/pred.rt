@@ -104,7 +104,8 @@ fn both(
     left: Judged<Pred>,
     right: Judged<Pred>,
 ) -> Result<Judged<Pred>, AllocError>
-    ensures { IfOk result (λ j. seen_by test_of j ≡ both_of (connected name.now) (seen_by test_of left) (seen_by test_of right)) }
+    ensures { IfOk result (λ j. seen_by test_of j
+        ≡ both_of (connected name.now) (seen_by test_of left) (seen_by test_of right)) }
 {
     match pair_up(left, right) {
         Judged::Wrong => Ok(Judged::Wrong),

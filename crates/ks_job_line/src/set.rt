@@ -35,7 +35,8 @@ fn read_entries(
     sides: bool,
     object: &Map<String, Value>,
 ) -> Result<Vec<(Name, Expr)>, ReadError>
-    ensures { Gives (λ v. map (λ m. (m.0, term_of m.1)) v.items) result (set_from sides [] (members_view object.now.entries)) }
+    ensures { Gives (λ v. map (λ m. (m.0, term_of m.1)) v.items) result
+        (set_from sides [] (members_view object.now.entries)) }
 {
     let mut fields = Vec::new(alloc);
     for (name, value) in object {

@@ -28,7 +28,8 @@ pub struct OpenJob {
 
 // The topology of a job, and its other items.
 fn split_job(items: Vec<JobItem>) -> Option<(Draft, Vec<JobItem>)>
-    ensures { option_map (λ p. (draft_view p.0, item_views p.1.items)) result ≡ split (item_views items.items) }
+    ensures { option_map (λ p. (draft_view p.0, item_views p.1.items)) result
+        ≡ split (item_views items.items) }
 {
     let mut items = items;
     if items.is_empty() {
@@ -94,7 +95,8 @@ fn open_by<R: Threads + Sync, S: Source>(
     requires room { length buf.items ≤ 4194304 }
     ensures kept { OnOk result (S.faults input.new ≡ S.faults input.old) }
     ensures opened { IfOk result (λ r. Opens (S.left input.old) (S.left input.new) r) }
-    ensures fault { result ≡ Err ReadError.Fault → Rose (S.faults input.old) (S.faults input.new) × TookNoFault (S.left input.old) (S.left input.new) }
+    ensures fault { result ≡ Err ReadError.Fault → Rose (S.faults input.old) (S.faults input.new)
+        × TookNoFault (S.left input.old) (S.left input.new) }
 {
     let mut reader = JobReader::new(alloc);
     let mut items = Vec::new(alloc);
@@ -126,7 +128,8 @@ fn open_whole<R: Threads + Sync, S: Source>(
     ensures kept { OnOk result (S.faults input.new ≡ S.faults input.old) }
     ensures opened { IfOk result (λ r. Opens (S.left input.old) (S.left input.new) r) }
     ensures whole { IfOk result (λ r. IfOk r (λ job. job.rest.standing ≡ Whole)) }
-    ensures fault { result ≡ Err ReadError.Fault → Rose (S.faults input.old) (S.faults input.new) × TookNoFault (S.left input.old) (S.left input.new) }
+    ensures fault { result ≡ Err ReadError.Fault → Rose (S.faults input.old) (S.faults input.new)
+        × TookNoFault (S.left input.old) (S.left input.new) }
 {
     match read_by(rt, alloc, input, &mut buf)? {
         Ok(items) => Ok(open_with(None, None, items, buf)),
@@ -145,7 +148,8 @@ pub fn open_job<R: Threads + Sync, S: Source>(
     ensures kept { OnOk result (S.faults input.new ≡ S.faults input.old) }
     ensures opened { IfOk result (λ r. Opens (S.left input.old) (S.left input.new) r) }
     ensures whole { is_whole ≡ true → IfOk result (λ r. IfOk r (λ job. job.rest.standing ≡ Whole)) }
-    ensures fault { result ≡ Err ReadError.Fault → Rose (S.faults input.old) (S.faults input.new) × TookNoFault (S.left input.old) (S.left input.new) }
+    ensures fault { result ≡ Err ReadError.Fault → Rose (S.faults input.old) (S.faults input.new)
+        × TookNoFault (S.left input.old) (S.left input.new) }
 {
     let buf = zeros(alloc, PIECE)?;
     if is_whole {

@@ -53,7 +53,8 @@ fn judge_answer(
     items: &[JobItem],
     answer: Result<(), JobFault>,
 ) -> Result<Option<Stop>, AllocError>
-    ensures { IfOk result (λ o. o ≡ option_or (if is_first then topology_stop (item_views items.now) else None) (answer_stop answer)) }
+    ensures { IfOk result (λ o. o ≡ option_or
+        (if is_first then topology_stop (item_views items.now) else None) (answer_stop answer)) }
 {
     if is_first {
         if let Some(stop) = refused(alloc, items)? {
@@ -77,8 +78,10 @@ pub(crate) fn feed_piece<R: Threads + Sync>(
     items: &mut Vec<JobItem>,
     piece: &[u8],
 ) -> Result<Option<Stop>, AllocError>
-    ensures fed { OnOk result (machine_of reader.new items.new.items ≡ option_map (λ m. after m piece.now) (machine_of reader.old items.old.items)) }
-    ensures stop { IfOk result (λ o. IfSome (machine_of reader.old items.old.items) (λ m. topology_stop m.items ≡ None → o ≡ stop_of (after m piece.now))) }
+    ensures fed { OnOk result (machine_of reader.new items.new.items
+        ≡ option_map (λ m. after m piece.now) (machine_of reader.old items.old.items)) }
+    ensures stop { IfOk result (λ o. IfSome (machine_of reader.old items.old.items)
+        (λ m. topology_stop m.items ≡ None → o ≡ stop_of (after m piece.now))) }
 {
     let is_first = items.is_empty();
     let answer = reader.feed_wide(rt, piece, items)?;
@@ -91,8 +94,10 @@ pub(crate) fn end_items(
     reader: JobReader,
     items: &mut Vec<JobItem>,
 ) -> Result<Option<Stop>, AllocError>
-    ensures ended { OnOk result (IfSome reader (λ b. item_views items.new.items ≡ (end_of b (item_views items.old.items)).items)) }
-    ensures stop { IfOk result (λ o. IfSome (machine_of reader items.old.items) (λ m. topology_stop m.items ≡ None → o ≡ stop_of (end_of m.reader m.items))) }
+    ensures ended { OnOk result (IfSome reader
+        (λ b. item_views items.new.items ≡ (end_of b (item_views items.old.items)).items)) }
+    ensures stop { IfOk result (λ o. IfSome (machine_of reader items.old.items)
+        (λ m. topology_stop m.items ≡ None → o ≡ stop_of (end_of m.reader m.items))) }
 {
     let is_first = items.is_empty();
     let answer = reader.finish(items)?;
@@ -105,7 +110,8 @@ fn end_job(
     reader: JobReader,
     mut items: Vec<JobItem>,
 ) -> Result<Result<Vec<JobItem>, Stop>, AllocError>
-    ensures { IfOk result (λ r. IfSome (machine_of reader items.items) (λ m. topology_stop m.items ≡ None → Ends (end_of m.reader m.items) r)) }
+    ensures { IfOk result (λ r. IfSome (machine_of reader items.items)
+        (λ m. topology_stop m.items ≡ None → Ends (end_of m.reader m.items) r)) }
 {
     match end_items(alloc, reader, &mut items)? {
         Some(stop) => Ok(Err(stop)),
@@ -125,7 +131,8 @@ pub(crate) fn read_by<R: Threads + Sync, S: Source>(
     ensures kept { OnOk result (S.faults input.new ≡ S.faults input.old) }
     ensures read { IfOk result (λ r. Read (S.left input.old) r) }
     ensures end { IfOk result (λ r. OnOk r (IsAtEnd (S.left input.new))) }
-    ensures fault { result ≡ Err ReadError.Fault → Rose (S.faults input.old) (S.faults input.new) × TookNoFault (S.left input.old) (S.left input.new) }
+    ensures fault { result ≡ Err ReadError.Fault → Rose (S.faults input.old) (S.faults input.new)
+        × TookNoFault (S.left input.old) (S.left input.new) }
 {
     let mut reader = JobReader::new(alloc);
     let mut items = Vec::new(alloc);

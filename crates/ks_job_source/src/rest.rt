@@ -58,8 +58,10 @@ fn take_piece<R: Threads + Sync>(
     items: &mut Vec<JobItem>,
 ) -> Result<Standing, AllocError>
     requires { items.old.items ≡ [] }
-    ensures standing { IfOk result (λ s. IfSome reader (λ r. s ≡ standing_after (after (from r) piece.now).reader)) }
-    ensures items { OnOk result (IfSome reader (λ r. item_views items.new.items ≡ (after (from r) piece.now).items)) }
+    ensures standing { IfOk result (λ s. IfSome reader
+        (λ r. s ≡ standing_after (after (from r) piece.now).reader)) }
+    ensures items { OnOk result (IfSome reader
+        (λ r. item_views items.new.items ≡ (after (from r) piece.now).items)) }
 {
     match reader.feed_wide(rt, piece, items)? {
         Ok(()) => Ok(Standing::Reading(reader)),
@@ -73,8 +75,10 @@ fn take_piece<R: Threads + Sync>(
 // What comes at the end of the input; the item of a last line without an end is pushed.
 fn take_end(reader: JobReader, items: &mut Vec<JobItem>) -> Result<Standing, AllocError>
     requires { items.old.items ≡ [] }
-    ensures standing { IfOk result (λ s. IfSome reader (λ r. s ≡ standing_ended (end_of r []).reader)) }
-    ensures items { OnOk result (IfSome reader (λ r. item_views items.new.items ≡ (end_of r []).items)) }
+    ensures standing { IfOk result (λ s. IfSome reader
+        (λ r. s ≡ standing_ended (end_of r []).reader)) }
+    ensures items { OnOk result (IfSome reader
+        (λ r. item_views items.new.items ≡ (end_of r []).items)) }
 {
     match reader.finish(items)? {
         Ok(()) => Ok(Standing::Whole),
@@ -96,7 +100,8 @@ fn read_next<R: Threads + Sync, S: Source>(
     requires room { 1 ≤ length buf.old }
     requires none { items.old.items ≡ [] }
     ensures kept { OnOk result (S.faults input.new ≡ S.faults input.old) }
-    ensures goes { IfOk result (λ p. StepsOn (S.left input.old) (S.left input.new) reader p.0 (item_views items.new.items)) }
+    ensures goes { IfOk result (λ p. StepsOn (S.left input.old) (S.left input.new) reader p.0
+        (item_views items.new.items)) }
     ensures past { IfOk result (λ p. StepsPast reader p.0 p.1 (item_views items.new.items)) }
     ensures room { length buf.new ≡ length buf.old }
     ensures fault { result ≡ Err ReadError.Fault → Rose (S.faults input.old) (S.faults input.new)
@@ -138,10 +143,13 @@ impl JobRest {
         requires reading { IsReading self.old.standing }
         requires room { 1 ≤ length self.old.buf.items }
         ensures kept { OnOk result (S.faults input.new ≡ S.faults input.old) }
-        ensures goes { IfOk result (λ v. GoesFurther (S.left input.old) (S.left input.new) self.old.standing self.new.standing (item_views v.items)) }
-        ensures past { IfOk result (λ v. GoesPast self.old.standing self.new.standing self.old.taken self.new.taken (item_views v.items)) }
+        ensures goes { IfOk result (λ v. GoesFurther (S.left input.old) (S.left input.new)
+            self.old.standing self.new.standing (item_views v.items)) }
+        ensures past { IfOk result (λ v. GoesPast self.old.standing self.new.standing self.old.taken
+            self.new.taken (item_views v.items)) }
         ensures room { OnOk result (1 ≤ length self.new.buf.items) }
-        ensures fault { result ≡ Err ReadError.Fault → Rose (S.faults input.old) (S.faults input.new)
+        ensures fault { result ≡ Err ReadError.Fault
+            → Rose (S.faults input.old) (S.faults input.new)
             × Keeps (S.left input.old) (S.left input.new) }
     {
         let mut items = Vec::new(alloc);

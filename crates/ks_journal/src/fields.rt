@@ -62,7 +62,8 @@ pub(crate) fn positions_field(
     out: &mut Vec<u8>,
     positions: &[(TaskId, u64)],
 ) -> Result<(), AllocError>
-    ensures { OnOk result (out.new.items ≡ out.old.items ++ field_text (places_data positions.now)) }
+    ensures { OnOk result (out.new.items ≡ out.old.items
+        ++ field_text (places_data positions.now)) }
 {
     push_positions(out, positions)?;
     out.push(b',')?;
@@ -109,7 +110,8 @@ pub(crate) fn offsets_fields(
     order: &[(u16, u64)],
     late: u64,
 ) -> Result<(), AllocError>
-    ensures { OnOk result (out.new.items ≡ out.old.items ++ offsets_text offsets.now order.now late) }
+    ensures { OnOk result (out.new.items ≡ out.old.items
+        ++ offsets_text offsets.now order.now late) }
 {
     pairs_field(out, offsets)?;
     pairs_field(out, order)?;

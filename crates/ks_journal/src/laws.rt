@@ -16,7 +16,8 @@ pub fn a_line_tells_its_entry()
 
 /// The text of a journal tells its entries: no other journal has it.
 pub fn a_text_tells_its_journal()
-    ensures { (a b : List Entry) → FitsJournal a → FitsJournal b → journal_text a ≡ journal_text b → a ≡ b }
+    ensures { (a b : List Entry) → FitsJournal a → FitsJournal b → journal_text a ≡ journal_text b
+        → a ≡ b }
 {}
 
 /// An entry of a legal journal has a reply that its request can have.

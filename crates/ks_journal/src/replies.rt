@@ -77,7 +77,8 @@ fn push_refusal(out: &mut Vec<u8>, refused: Refused) -> Result<(), AllocError>
 
 // A marker that was written: `[T,P,COMMIT]`.
 fn push_mark(out: &mut Vec<u8>, part: PartId, commit: bool) -> Result<(), AllocError>
-    ensures { OnOk result (out.new.items ≡ out.old.items ++ compact_text (mark_data (Some (part, commit)))) }
+    ensures { OnOk result (out.new.items ≡ out.old.items
+        ++ compact_text (mark_data (Some (part, commit)))) }
 {
     out.push(b'[')?;
     part_fields(out, part)?;

@@ -56,7 +56,8 @@ fn add_fields(out: &mut Vec<u8>, w: u8, epoch: u64, part: PartId) -> Result<(), 
 }
 
 fn decide_fields(out: &mut Vec<u8>, w: u8, epoch: u64, commit: bool) -> Result<(), AllocError>
-    ensures { OnOk result (out.new.items ≡ out.old.items ++ arguments_text (Decide w epoch commit)) }
+    ensures { OnOk result (out.new.items ≡ out.old.items
+        ++ arguments_text (Decide w epoch commit)) }
 {
     number_field(out, w as u64)?;
     number_field(out, epoch)?;
@@ -83,7 +84,8 @@ fn assign_fields(
     generation: u64,
     a: &Assignment,
 ) -> Result<(), AllocError>
-    ensures { OnOk result (out.new.items ≡ out.old.items ++ arguments_text (Assign w generation a.now)) }
+    ensures { OnOk result (out.new.items ≡ out.old.items
+        ++ arguments_text (Assign w generation a.now)) }
 {
     number_field(out, w as u64)?;
     number_field(out, generation)?;

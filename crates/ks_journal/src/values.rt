@@ -137,7 +137,8 @@ pub(crate) fn push_pair(out: &mut Vec<u8>, pair: (u16, u64)) -> Result<(), Alloc
 
 // `["S_P",NUMBER]`.
 fn push_place(out: &mut Vec<u8>, task: TaskId, number: u64) -> Result<(), AllocError>
-    ensures { OnOk result (out.new.items ≡ out.old.items ++ compact_text (place_data (task, number))) }
+    ensures { OnOk result (out.new.items ≡ out.old.items
+        ++ compact_text (place_data (task, number))) }
 {
     out.push(b'[')?;
     push_task(out, task)?;
@@ -192,7 +193,8 @@ pub(crate) fn push_positions(
     out: &mut Vec<u8>,
     positions: &[(TaskId, u64)],
 ) -> Result<(), AllocError>
-    ensures { OnOk result (out.new.items ≡ out.old.items ++ compact_text (places_data positions.now)) }
+    ensures { OnOk result (out.new.items ≡ out.old.items
+        ++ compact_text (places_data positions.now)) }
 {
     out.push(b'[')?;
     let mut later = false;

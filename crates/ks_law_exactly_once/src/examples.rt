@@ -15,7 +15,8 @@ pub fn one_commit_is_history()
     ensures history { (rec : Rec) → IsHistory setup (one_commit rec) }
     ensures replay { (rec : Rec) → replay setup (one_commit rec) ≡ (None, input) ∷ [] }
     ensures taken { (rec : Rec) → (run_of setup (one_commit rec)).waiting None input ≡ [] }
-    ensures past { (rec : Rec) → (run_of setup (one_commit rec)).given (Some the_task) changelog ≡ rec ∷ [] }
+    ensures past { (rec : Rec) → (run_of setup (one_commit rec)).given (Some the_task) changelog
+        ≡ rec ∷ [] }
     ensures produced { (rec : Rec) → told_after 1 (one_commit rec) ≡ (0, 1, 0) }
     ensures begun { (rec : Rec) → told_after 7 (one_commit rec) ≡ (0, 1, 1) }
     ensures decided { (rec : Rec) → told_after 8 (one_commit rec) ≡ (1, 1, 1) }
@@ -25,10 +26,15 @@ pub fn one_commit_is_history()
 /// A zombie: worker 0 is expired before it decides, so that its commit is refused and nothing of it is read.
 pub fn zombie_is_history()
     ensures history { (rec : Rec) → IsHistory setup (zombie rec) }
-    ensures unstable { (rec : Rec) → committed_refusal (at setup (take 10 (zombie rec))) 1 2 the_task ≡ Some (Unstable 0) }
-    ensures answered { (rec : Rec) → committed_refusal (at setup (take 14 (zombie rec))) 1 3 the_task ≡ None }
-    ensures committed { (rec : Rec) → committed_offsets setup (at setup (take 14 (zombie rec))) the_task ≡ (0, 0) ∷ [] }
-    ensures fetched { (rec : Rec) → fetched (at setup (take 14 (zombie rec))) changelog 0 10 ≡ ([], 2) }
-    ensures ends { (rec : Rec) → ends_of (at setup (take 14 (zombie rec))) (changelog ∷ []) ≡ 2 ∷ [] }
+    ensures unstable { (rec : Rec) → committed_refusal (at setup (take 10 (zombie rec))) 1 2
+        the_task ≡ Some (Unstable 0) }
+    ensures answered { (rec : Rec) → committed_refusal (at setup (take 14 (zombie rec))) 1 3
+        the_task ≡ None }
+    ensures committed { (rec : Rec) → committed_offsets setup (at setup (take 14 (zombie rec)))
+        the_task ≡ (0, 0) ∷ [] }
+    ensures fetched { (rec : Rec) → fetched (at setup (take 14 (zombie rec))) changelog 0 10
+        ≡ ([], 2) }
+    ensures ends { (rec : Rec) → ends_of (at setup (take 14 (zombie rec))) (changelog ∷ []) ≡ 2
+        ∷ [] }
     ensures replay { (rec : Rec) → replay setup (zombie rec) ≡ [] }
 {}

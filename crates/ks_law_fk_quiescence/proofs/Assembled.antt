@@ -18,7 +18,7 @@ use Rattle.ks_def_tasks.specs.Step.{of_row, direct as direct_value, set_result}
 use Rattle.ks_law_quiescence.specs.ForeignJoin.{Subscription, Response, Event, with_at, same_key, apply, sent_to_key, direct, now_had, answer, answer_to, accept, subscription_comes, response_comes, happens}
 use Rattle.ks_law_quiescence.specs.ForeignJoin.Event.{LeftChanges, RightChanges, SubscriptionComes, ResponseComes}
 use Rattle.ks_law_quiescence.proofs.Derived.{shown_row}
-use Rattle.ks_law_fk_quiescence.specs.Seen.{JoinAt, protocol_of, asking, answers, key_task, right_task, key_part, Seen}
+use Rattle.ks_law_fk_quiescence.specs.KeyJoins.{JoinAt, protocol_of, asking, answers, key_task, right_task, key_part, KeyJoin}
 use Rattle.ks_law_fk_quiescence.specs.Joins.{IsAsking, IsAnswer}
 
 pub appended_at : {A : Type 0} (f : ℕ → List A) (i : ℕ) (xs : List A) (j : ℕ) → f j ++ cond (nat_eq j i) xs [] ≡ with_at nat_eq f i (f i ++ xs) j
@@ -36,7 +36,7 @@ nothing_joined LeftJoin set = refl
 nothing_joined Outer set = refl
 
 module _ (at : JoinAt) where
-  abbrev pub happen : Seen → Event Key Row Row → Seen
+  abbrev pub happen : KeyJoin → Event Key Row Row → KeyJoin
   happen j e = happens (protocol_of at) j e
 
   -- a step that changes rows: the left one, then the right one
@@ -49,7 +49,7 @@ module _ (at : JoinAt) where
   abbrev pub left_result : Option Row → Option Row → Option Row → Option Row
   left_result old w result = direct (protocol_of at) old w result
 
-  pub rows_change : (left right : Bool) (j k : Seen) (w : Option Row) (c : Key) (y : Option Row) →
+  pub rows_change : (left right : Bool) (j k : KeyJoin) (w : Option Row) (c : Key) (y : Option Row) →
       k.row ≡ cond left w j.row → k.result ≡ cond left (left_result j.row w j.result) j.result → k.had ≡ cond left (now_had w j.had) j.had →
       ((b : Key) → k.right b ≡ cond (right && same_bytes b c) y (j.right b)) → ((b : Key) → k.stored b ≡ j.stored b) →
       ((b : Key) → k.subscriptions b ≡ j.subscriptions b ++ cond left (left_sent j.row w b) []) →
@@ -93,7 +93,7 @@ module _ (at : JoinAt) where
   }
 
   -- a step that changes nothing of the key's
-  pub nothing_happens : (j k : Seen) → k.row ≡ j.row → k.result ≡ j.result → k.had ≡ j.had → ((b : Key) → k.right b ≡ j.right b) → ((b : Key) → k.stored b ≡ j.stored b) →
+  pub nothing_happens : (j k : KeyJoin) → k.row ≡ j.row → k.result ≡ j.result → k.had ≡ j.had → ((b : Key) → k.right b ≡ j.right b) → ((b : Key) → k.stored b ≡ j.stored b) →
       ((b : Key) → k.subscriptions b ≡ j.subscriptions b) → ((i : ℕ) → k.responses i ≡ j.responses i) → k ≡ j
   nothing_happens j k row result had rights stored asked answered = λ i. record {
     row = row i;
@@ -106,7 +106,7 @@ module _ (at : JoinAt) where
   }
 
   -- a response comes
-  pub response_happens : (j k : Seen) (n : ℕ) (y : Response Row) (rest : List (Response Row)) → j.responses n ≡ y ∷ rest →
+  pub response_happens : (j k : KeyJoin) (n : ℕ) (y : Response Row) (rest : List (Response Row)) → j.responses n ≡ y ∷ rest →
       k.row ≡ j.row → k.result ≡ accept (protocol_of at) j.row j.result y → k.had ≡ j.had →
       ((b : Key) → k.right b ≡ j.right b) → ((b : Key) → k.stored b ≡ j.stored b) → ((b : Key) → k.subscriptions b ≡ j.subscriptions b) →
       ((i : ℕ) → k.responses i ≡ with_at nat_eq j.responses n rest i) → k ≡ happen j (ResponseComes n)
@@ -123,7 +123,7 @@ module _ (at : JoinAt) where
       first ∙ ap (response_comes (protocol_of at) j n) (sym e)
 
   -- a subscription comes
-  pub subscription_happens : (j k : Seen) (c : Key) (y : Subscription) (rest : List Subscription) → j.subscriptions c ≡ y ∷ rest →
+  pub subscription_happens : (j k : KeyJoin) (c : Key) (y : Subscription) (rest : List Subscription) → j.subscriptions c ≡ y ∷ rest →
       k.row ≡ j.row → k.result ≡ j.result → k.had ≡ j.had → ((b : Key) → k.right b ≡ j.right b) →
       ((b : Key) → k.stored b ≡ with_at same_bytes j.stored c (apply (j.stored c) y) b) → ((b : Key) → k.subscriptions b ≡ with_at same_bytes j.subscriptions c rest b) →
       ((i : ℕ) → k.responses i ≡ j.responses i ++ cond (nat_eq i (key_part at c)) (answer_to y (j.right c)) []) →

@@ -28,8 +28,8 @@ use Rattle.ks_law_quiescence.proofs.Mixed.{Stands_at}
 use Rattle.ks_law_quiescence.proofs.OneKey.{Sound, Sound-run, keys_decided}
 use Rattle.ks_law_quiescence.proofs.Placed.{FitsAt}
 use Rattle.ks_law_fk_quiescence.specs.AtRest.{hash_for}
-use Rattle.ks_law_fk_quiescence.specs.Joins.{IsAskedAt, IsAnsweredAt, HashesAreHad, HashesFollow, OthersAreForgotten, PresentIsAnswered, ResultsFollow, GoneIsTold, AloneIsJoined, HasHad, last, last_with, seen_in}
-use Rattle.ks_law_fk_quiescence.specs.Seen.{JoinAt, join_at, protocol_of, Seen}
+use Rattle.ks_law_fk_quiescence.specs.Joins.{IsAskedAt, IsAnsweredAt, HashesAreHad, HashesFollow, OthersAreForgotten, PresentIsAnswered, ResultsFollow, GoneIsTold, AloneIsJoined, HasHad, last, last_with, key_join_in}
+use Rattle.ks_law_fk_quiescence.specs.KeyJoins.{JoinAt, join_at, protocol_of, KeyJoin}
 use Rattle.ks_law_fk_quiescence.proofs.Waits.{Waits, IsAsked, IsAnswered, waits_run, asking_parts}
 use Rattle.ks_law_fk_quiescence.proofs.Parts.{same_itself}
 use Rattle.ks_law_fk_quiescence.proofs.Simulated.{see}
@@ -120,7 +120,7 @@ module _ (rules : Rules) (p : Plan) (fits : Fits p) (a l r : ℕ) (fk : List ℕ
     abbrev sees : Sees rules p fits a l r fk kind set stands k st
     sees = sees_run rules p fits a l r fk kind set stands k records schedule
 
-    abbrev j : Seen
+    abbrev j : KeyJoin
     j = see rules p fits a l r fk kind set stands k sees.had st
 
     apart : join.NoCollision rules.hash sees.had
@@ -129,23 +129,23 @@ module _ (rules : Rules) (p : Plan) (fits : Fits p) (a l r : ℕ) (fk : List ℕ
     sound : IsSound rules p fits a l r fk kind set stands j
     sound = sees_sound rules p fits a l r fk kind set stands k st sees (none_here rules p fits a l r fk kind set stands records schedule none k)
 
-    abbrev IsTold : Seen → Type 0
+    abbrev IsTold : KeyJoin → Type 0
     IsTold j = Told (protocol_of site) keys_decided j
 
     told : IsTold j
     told = subst IsTold (sym sees.is) (told_run (protocol_of site) keys_decided sees.events)
 
-    in_past : (b : Key) (h : ℕ) → HadHash (protocol_of site) keys_decided j.had b h → HasHad site (seen_in site k st) b h
+    in_past : (b : Key) (h : ℕ) → HadHash (protocol_of site) keys_decided j.had b h → HasHad site (key_join_in site k st) b h
     in_past b h was = (was.0, sees.within was.0 was.1, was.2, was.3)
 
-    pub hashes_are_had : HashesAreHad site (seen_in site k st)
+    pub hashes_are_had : HashesAreHad site (key_join_in site k st)
     hashes_are_had = record {
       stored = λ b h e. in_past b h (told.stored b h e);
       asked = λ b h i. in_past b h (told.asked b h i);
       answered = λ i h y e. let was = told.answered i h y e in (was.0, was.1, in_past was.0 h was.2);
     }
 
-    pub hashes_follow : HashesFollow site (seen_in site k st)
+    pub hashes_follow : HashesFollow site (key_join_in site k st)
     hashes_follow b = sound.final b ∙ wanted_is rules p fits a l r fk kind set stands records schedule j.row b
 
     not_wanted : (row : Option Row) (b : Key) → option_and_then (field_key fk) row ≢ Some b → option_and_then (hash_for rules fk b) row ≡ None
@@ -155,16 +155,16 @@ module _ (rules : Rules) (p : Plan) (fits : Fits p) (a l r : ℕ) (fk : List ℕ
       | false ↦ λ t. refl
     ] refl
 
-    pub others_are_forgotten : OthersAreForgotten site (seen_in site k st)
+    pub others_are_forgotten : OthersAreForgotten site (key_join_in site k st)
     others_are_forgotten b ne = none_last (j.stored b) (j.subscriptions b) (hashes_follow b ∙ not_wanted j.row b ne)
 
-    pub results_follow : ResultsFollow site (seen_in site k st)
+    pub results_follow : ResultsFollow site (key_join_in site k st)
     results_follow v c e f w = settled_with (protocol_of site) keys_decided j v c e f w sound
 
-    pub alone_is_joined : AloneIsJoined site (seen_in site k st)
+    pub alone_is_joined : AloneIsJoined site (key_join_in site k st)
     alone_is_joined v e f = settled_without (protocol_of site) keys_decided j v e f sound
 
-    pub gone_is_told : GoneIsTold site (seen_in site k st)
+    pub gone_is_told : GoneIsTold site (key_join_in site k st)
     gone_is_told e = told.gone e
 
     -- the same events, with results that keep both rows
@@ -175,7 +175,7 @@ module _ (rules : Rules) (p : Plan) (fits : Fits p) (a l r : ℕ) (fk : List ℕ
     both_is = run_same (protocol_of site) sees.events ∙ sym sees.is
 
     both_apart : join.NoCollision rules.hash both.had
-    both_apart = subst (join.NoCollision rules.hash) (sym (ap (λ (s : Seen). s.had) both_is)) apart
+    both_apart = subst (join.NoCollision rules.hash) (sym (ap (λ (s : KeyJoin). s.had) both_is)) apart
 
     both_sound : Sound (pairs (protocol_of site)) keys_decided both
     both_sound = Sound-run (pairs (protocol_of site)) keys_decided sees.events both_apart
@@ -183,11 +183,11 @@ module _ (rules : Rules) (p : Plan) (fits : Fits p) (a l r : ℕ) (fk : List ℕ
     answers_stand : (v : Row) (c : Key) → j.row ≡ Some v → field_key fk v ≡ Some c → j.subscriptions c ≡ [] →
         (last_with (rules.hash v) (j.responses (home rules p r c)) ≡ Some (j.right c)) ⊎ ((last_with (rules.hash v) (j.responses (home rules p r c)) ≡ None) × (j.result ≡ joined kind set (Some v) (j.right c)))
     answers_stand v c e f w =
-        let row : both.row ≡ Some v = ap (λ (s : Seen). s.row) both_is ∙ e in
-        let subscriptions : both.subscriptions c ≡ [] = ap (λ (s : Seen). s.subscriptions c) both_is ∙ w in
-        let responses : j.responses (home rules p r c) ≡ both.responses (home rules p r c) = sym (ap (λ (s : Seen). s.responses (home rules p r c)) both_is) in
-        let right : both.right c ≡ j.right c = ap (λ (s : Seen). s.right c) both_is in
-        let result : j.result ≡ option_and_then (of_pair (protocol_of site)) both.result = sym (ap (λ (s : Seen). s.result) both_is) in
+        let row : both.row ≡ Some v = ap (λ (s : KeyJoin). s.row) both_is ∙ e in
+        let subscriptions : both.subscriptions c ≡ [] = ap (λ (s : KeyJoin). s.subscriptions c) both_is ∙ w in
+        let responses : j.responses (home rules p r c) ≡ both.responses (home rules p r c) = sym (ap (λ (s : KeyJoin). s.responses (home rules p r c)) both_is) in
+        let right : both.right c ≡ j.right c = ap (λ (s : KeyJoin). s.right c) both_is in
+        let result : j.result ≡ option_and_then (of_pair (protocol_of site)) both.result = sym (ap (λ (s : KeyJoin). s.result) both_is) in
         let all = settled_with (pairs (protocol_of site)) keys_decided both v c row f subscriptions both_sound in
         ⊎_elim
         (λ (m : (y : Option Row) × (last_with (rules.hash v) (both.responses (home rules p r c)) ≡ Some y) × (Some (v, both.right c) ≡ Some (v, y))).
@@ -216,7 +216,7 @@ module _ (rules : Rules) (p : Plan) (fits : Fits p) (a l r : ℕ) (fk : List ℕ
     wanted_here : (v : Row) (c : Key) → j.row ≡ Some v → field_key fk v ≡ Some c → option_and_then (hash_for rules fk c) j.row ≡ Some (rules.hash v)
     wanted_here v c e f = ap (option_and_then (hash_for rules fk c)) e ∙ ap (λ n. cond (same_option same_bytes n (Some c)) (Some (rules.hash v)) None) f ∙ ap (λ b. cond b (Some (rules.hash v)) None) (same_itself c)
 
-    pub present_is_answered : PresentIsAnswered site (seen_in site k st)
+    pub present_is_answered : PresentIsAnswered site (key_join_in site k st)
     present_is_answered v c e f = record {
       stands = ⊎_elim (λ m. inl m)
           (λ (m : (j.subscriptions c ≡ []) × (j.stored c ≡ Some (rules.hash v))). inr (record { none_waits = m.0; stored = m.1; answered = answers_stand v c e f m.0 }))

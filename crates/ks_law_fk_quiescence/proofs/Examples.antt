@@ -17,8 +17,8 @@ use Rattle.ks_def_tasks.proofs.Examples.{one_part, put_row}
 use Rattle.ks_law_quiescence.specs.States.{state_of}
 use Rattle.ks_law_quiescence.specs.ForeignJoin.{Subscription, Response}
 use Rattle.ks_law_quiescence.specs.ForeignJoin.Subscription.{Ask}
-use Rattle.ks_law_fk_quiescence.specs.Seen.{JoinAt, join_at, Seen}
-use Rattle.ks_law_fk_quiescence.specs.Joins.{seen_in}
+use Rattle.ks_law_fk_quiescence.specs.KeyJoins.{JoinAt, join_at, KeyJoin}
+use Rattle.ks_law_fk_quiescence.specs.Joins.{key_join_in}
 
 abbrev fields : Set
 fields = (codes "amt", LeftOf (codes "amt")) ∷ (codes "region", RightOf (codes "region")) ∷ []
@@ -53,8 +53,8 @@ choices = (None, record { topic = InputTopic 1; part = 0 }) ∷ (Some (record { 
 abbrev joined_orders : JoinAt
 joined_orders = join_at one_part (plan_of orders) 2 0 1 (codes "cust") Inner fields
 
-abbrev after : ℕ → Seen
-after n = seen_in joined_orders (codes "o1") (state_of one_part (plan_of orders) (put_row 1 (codes "o1") order ∷ put_row 0 (codes "c1") customer ∷ []) (take n choices))
+abbrev after : ℕ → KeyJoin
+after n = key_join_in joined_orders (codes "o1") (state_of one_part (plan_of orders) (put_row 1 (codes "o1") order ∷ put_row 0 (codes "c1") customer ∷ []) (take n choices))
 
 abbrev IsSeen : ℕ → Option Row → Option Row → List Row → Option Row → Option ℕ → List Subscription → List (Response Row) → Type 0
 IsSeen n row result had right stored asked answered = record {

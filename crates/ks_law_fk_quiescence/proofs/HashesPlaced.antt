@@ -30,7 +30,7 @@ use Rattle.ks_law_quiescence.proofs.Fits.{Fits}
 use Rattle.ks_law_quiescence.proofs.Mixed.{Stands_at}
 use Rattle.ks_law_quiescence.proofs.OneKey.{keys_decided}
 use Rattle.ks_law_quiescence.proofs.Placed.{FitsAt, placed_run}
-use Rattle.ks_law_fk_quiescence.specs.Seen.{JoinAt, join_at, asking_place}
+use Rattle.ks_law_fk_quiescence.specs.KeyJoins.{JoinAt, join_at, asking_place}
 use Rattle.ks_law_fk_quiescence.proofs.Waits.{Waits, waits_step, waits_initial, asking_parts, taken_by_right}
 use Rattle.ks_law_fk_quiescence.proofs.Steps.{hash_then}
 

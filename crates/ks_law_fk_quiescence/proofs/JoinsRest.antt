@@ -28,7 +28,7 @@ use Rattle.ks_law_quiescence.proofs.Mixed.{Stands_at}
 use Rattle.ks_law_quiescence.proofs.OneKey.{keys_decided, stored_at_rest, result_at_rest}
 use Rattle.ks_query.proofs.Pointwise.{get-map_values}
 use Rattle.ks_law_quiescence.proofs.Queries.{query_at, given_here}
-use Rattle.ks_law_fk_quiescence.specs.Seen.{JoinAt, join_at, protocol_of, Seen, asked_by, answered_to, asking_place, answers_place, right_task}
+use Rattle.ks_law_fk_quiescence.specs.KeyJoins.{JoinAt, join_at, protocol_of, KeyJoin, asked_by, answered_to, asking_place, answers_place, right_task}
 use Rattle.ks_law_fk_quiescence.specs.AtRest.{hash_for}
 use Rattle.ks_law_fk_quiescence.proofs.Waits.{beside, left_home}
 use Rattle.ks_law_fk_quiescence.proofs.Simulated.{see, left_past}
@@ -52,7 +52,7 @@ module _ (rules : Rules) (p : Plan) (fits : Fits p) (a l r : ℕ) (fk : List ℕ
     abbrev sees : Sees rules p fits a l r fk kind set stands k st
     sees = sees_run rules p fits a l r fk kind set stands k records schedule
 
-    abbrev mine : Seen
+    abbrev mine : KeyJoin
     mine = see rules p fits a l r fk kind set stands k sees.had st
 
     no_asking : (b : Key) → mine.subscriptions b ≡ []

@@ -23,7 +23,7 @@ use Rattle.ks_law_quiescence.specs.ForeignJoin.{Subscription, Response, same_key
 use Rattle.ks_law_quiescence.specs.ForeignJoin.Subscription.{Forget, ForgetAndAnswer, Ask}
 use Rattle.ks_law_quiescence.proofs.Mixed.{picked}
 use Rattle.ks_law_quiescence.proofs.OneKey.{same_key-is, keys_decided}
-use Rattle.ks_law_fk_quiescence.specs.Seen.{asking, asks, answers, asked_by, answered_to, asking_place, answers_place, JoinAt, protocol_of}
+use Rattle.ks_law_fk_quiescence.specs.KeyJoins.{asking, asks, answers, asked_by, answered_to, asking_place, answers_place, JoinAt, protocol_of}
 use Rattle.ks_law_fk_quiescence.specs.Joins.{IsAsking}
 
 pub same_turned : (a b : Key) → same_bytes a b ≡ same_bytes b a

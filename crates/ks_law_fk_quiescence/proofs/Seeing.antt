@@ -23,7 +23,7 @@ use Rattle.ks_law_quiescence.proofs.Fits.{Fits}
 use Rattle.ks_law_quiescence.proofs.Mixed.{Stands_at}
 use Rattle.ks_law_quiescence.proofs.OneKey.{Sound, Sound-run, keys_decided}
 use Rattle.ks_law_quiescence.proofs.Placed.{placed_run}
-use Rattle.ks_law_fk_quiescence.specs.Seen.{JoinAt, join_at, protocol_of, Seen}
+use Rattle.ks_law_fk_quiescence.specs.KeyJoins.{JoinAt, join_at, protocol_of, KeyJoin}
 use Rattle.ks_law_fk_quiescence.proofs.Waits.{Waits, waits_step, waits_initial}
 use Rattle.ks_law_fk_quiescence.proofs.Assembled.{happen}
 use Rattle.ks_law_fk_quiescence.proofs.Simulated.{see, left_past, IsPast, step_is_events}
@@ -39,7 +39,7 @@ module _ (rules : Rules) (p : Plan) (fits : Fits p) (a l r : ℕ) (fk : List ℕ
   abbrev site : JoinAt
   site = join_at rules p a l r fk kind set
 
-  abbrev pub protocol_run : List (Event Key Row Row) → Seen
+  abbrev pub protocol_run : List (Event Key Row Row) → KeyJoin
   protocol_run events = run_of (protocol_of site) events
 
   pub record Sees (k : Key) (st : State) : Type 0 where
@@ -86,10 +86,10 @@ module _ (rules : Rules) (p : Plan) (fits : Fits p) (a l r : ℕ) (fk : List ℕ
   pub had_apart : (k : Key) (st : State) (h : Sees k st) → NoneCollides rules.hash (left_past rules p fits a l r fk kind set stands k st) → join.NoCollision rules.hash h.had
   had_apart k st h none = λ v w i j e. none v w (h.within v i) (h.within w j) e
 
-  abbrev pub IsSound : Seen → Type 0
+  abbrev pub IsSound : KeyJoin → Type 0
   IsSound j = Sound (protocol_of site) keys_decided j
 
   pub sees_sound : (k : Key) (st : State) (h : Sees k st) → NoneCollides rules.hash (left_past rules p fits a l r fk kind set stands k st) → IsSound (see rules p fits a l r fk kind set stands k h.had st)
   sees_sound k st h none =
-      let had : h.had ≡ (protocol_run h.events).had = ap (λ (j : Seen). j.had) h.is in
+      let had : h.had ≡ (protocol_run h.events).had = ap (λ (j : KeyJoin). j.had) h.is in
       subst IsSound (sym h.is) (Sound-run (protocol_of site) keys_decided h.events (subst (join.NoCollision rules.hash) had (had_apart k st h none)))

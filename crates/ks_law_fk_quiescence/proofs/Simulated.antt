@@ -39,7 +39,7 @@ use Rattle.ks_law_quiescence.proofs.Follow.{value_is}
 use Rattle.ks_law_quiescence.proofs.Mixed.{Stands_at, picked, step_sends_own, apart_asked, apart_answered}
 use Rattle.ks_law_quiescence.proofs.OneKey.{keys_decided}
 use Rattle.ks_law_quiescence.proofs.Placed.{FitsAt}
-use Rattle.ks_law_fk_quiescence.specs.Seen.{asks, answers, asked_by, answered_to, right_task, answers_place, asking_place, seen, JoinAt, join_at, protocol_of, Seen, key_part}
+use Rattle.ks_law_fk_quiescence.specs.KeyJoins.{asks, answers, asked_by, answered_to, right_task, answers_place, asking_place, key_join, JoinAt, join_at, protocol_of, KeyJoin, key_part}
 use Rattle.ks_law_fk_quiescence.specs.Joins.{IsAsking, IsAnswer}
 use Rattle.ks_law_fk_quiescence.proofs.Waits.{owner, left_home, beside, asking_parts, taken_by_right, asking_part, answering_part, asked_is, answered_is, Waits, IsAsked, IsAnswered, stays_unchanged}
 use Rattle.ks_law_fk_quiescence.proofs.Parts.{same_itself, same_turned, one_answers, asked-append, answered-append, for_key, for_other, asked_sent, for_own, answered_sent, all_answers}
@@ -66,8 +66,8 @@ module _ (rules : Rules) (p : Plan) (fits : Fits p) (a l r : ℕ) (fk : List ℕ
   abbrev site : JoinAt
   site = join_at rules p a l r fk kind set
 
-  abbrev pub see : Key → List Row → State → Seen
-  see k had st = seen site k had st
+  abbrev pub see : Key → List Row → State → KeyJoin
+  see k had st = key_join site k had st
 
   abbrev pub left_past : Key → State → List Row
   left_past k st = rows_had k (past p st l (home rules p l k))
@@ -104,7 +104,7 @@ module _ (rules : Rules) (p : Plan) (fits : Fits p) (a l r : ℕ) (fk : List ℕ
     abbrev me : TaskId
     me = home_task rules p a k
 
-    abbrev j : Seen
+    abbrev j : KeyJoin
     j = see k had st
 
     at_key : is_changelog q.topic ≡ false → FitsAt rules p q x.message

@@ -11,7 +11,6 @@ use Rattle.ks_plan.specs.declared.node.Topic.TheVariants.{Subscriptions}
 use Rattle.ks_plan.specs.Layout.{same_topic}
 use Rattle.ks_plan.specs.Plan.{Plan}
 use Rattle.ks_def_maps.specs.FinMap as fin
-use Rattle.ks_def_maps.specs.FinMap.{FinMap}
 use Rattle.ks_def_maps.proofs.Tables.{get-write}
 use Rattle.ks_query.specs.Streams.{Key, StreamItem}
 use Rattle.ks_def_runs.specs.Run.{same_channel, sent_to, take_first}

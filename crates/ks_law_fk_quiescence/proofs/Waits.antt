@@ -37,7 +37,7 @@ use Rattle.ks_law_quiescence.proofs.Fits.{Fits, Beside, each_at}
 use Rattle.ks_law_quiescence.proofs.Mixed.{messages-append, Stands_at, picked, picked-append, made_is, step_sends_own, apart_asked, apart_answered}
 use Rattle.ks_law_quiescence.proofs.Placed.{FitsAt, Owned, Placed, values_owned, items_owned, fits_key, placed_step, placed_run}
 use Rattle.ks_law_fk_quiescence.specs.Joins.{IsAsking, IsAnswer}
-use Rattle.ks_law_fk_quiescence.specs.Seen.{JoinAt, join_at, right_task}
+use Rattle.ks_law_fk_quiescence.specs.KeyJoins.{JoinAt, join_at, right_task}
 
 -- ---- a row is the same as itself
 field_itself : (f : Field) → same_field f f ≡ true

@@ -21,7 +21,7 @@ use Rattle.ks_law_quiescence.specs.ForeignJoin.Subscription.{Forget, ForgetAndAn
 use Rattle.ks_law_quiescence.specs.States.{State, state_of}
 use Rattle.ks_law_quiescence.specs.Taken.{messages}
 use Rattle.ks_law_quiescence.specs.WellFormed.{IsWellFormed}
-use Rattle.ks_law_fk_quiescence.specs.Seen.{JoinAt, join_at, protocol_of, Seen, seen, left_task, left_part, right_task, key_part}
+use Rattle.ks_law_fk_quiescence.specs.KeyJoins.{JoinAt, join_at, protocol_of, KeyJoin, key_join, left_task, left_part, right_task, key_part}
 use Rattle.ks_law_fk_quiescence.specs.AtRest.{hash_for}
 
 -- ---- what waits
@@ -68,26 +68,26 @@ MessagesStand = (rules : Rules) (d : DraftView) (records : List Input) (schedule
     }
 
 -- ---- what a left key sees, with the rows that it has had
-abbrev pub seen_in : JoinAt → Key → State → Seen
-seen_in at k st = seen at k (rows_had k (past at.plan st at.left (home at.rules at.plan at.left k))) st
+abbrev pub key_join_in : JoinAt → Key → State → KeyJoin
+key_join_in at k st = key_join at k (rows_had k (past at.plan st at.left (home at.rules at.plan at.left k))) st
 
 -- a law of each left key of each join
-abbrev pub OfEach : (JoinAt → Seen → Type 0) → Type 0
+abbrev pub OfEach : (JoinAt → KeyJoin → Type 0) → Type 0
 OfEach law = (rules : Rules) (d : DraftView) (records : List Input) (schedule : List (Option TaskId × Place)) → IsWellFormed d →
     let p = plan_of d in
     let st = state_of rules p records schedule in
     NoCollision rules p st →
     (n l r : ℕ) (fk : Name) (kind : JoinKind) (set : Set) → IsNode p n (ForeignKeyJoin l r fk kind set) →
     let at = join_at rules p n l r fk kind set in
-    (k : Key) → law at (seen_in at k st)
+    (k : Key) → law at (key_join_in at k st)
 
 -- it has had a row with this foreign key and this hash
-abbrev pub HasHad : JoinAt → Seen → Key → ℕ → Type 0
+abbrev pub HasHad : JoinAt → KeyJoin → Key → ℕ → Type 0
 HasHad at j b h = (v : Row) × (In v j.had) × (at.rules.hash v ≡ h) × (field_key at.fk v ≡ Some b)
 
 -- each hash that is stored, or waits in a subscription, is that of a row that the key has had whose foreign key is b; each waiting
 -- response with a hash comes from the task of the foreign key of a row that it has had with that hash
-abbrev pub HashesAreHad : JoinAt → Seen → Type 0
+abbrev pub HashesAreHad : JoinAt → KeyJoin → Type 0
 HashesAreHad at j = record {
   stored : (b : Key) (h : ℕ) → j.stored b ≡ Some h → HasHad at j b h;
   asked : (b : Key) (h : ℕ) → In (Ask h) (j.subscriptions b) → HasHad at j b h;
@@ -96,7 +96,7 @@ HashesAreHad at j = record {
 }
 
 -- the stored hash after all waiting subscriptions is the present row's where b is its foreign key, and none elsewhere
-abbrev pub HashesFollow : JoinAt → Seen → Type 0
+abbrev pub HashesFollow : JoinAt → KeyJoin → Type 0
 HashesFollow at j = (b : Key) → fold apply (j.stored b) (j.subscriptions b) ≡ option_and_then (hash_for at.rules at.fk b) j.row
 
 abbrev pub last : {A : Type 0} → List A → Option A
@@ -104,11 +104,11 @@ last [] = None
 last (x ∷ xs) = option_or (last xs) (Some x)
 
 -- the last waiting subscription of a foreign key
-abbrev pub last_asked : Seen → Key → Option Subscription
+abbrev pub last_asked : KeyJoin → Key → Option Subscription
 last_asked j b = last (j.subscriptions b)
 
 -- where b isn't the foreign key of the present row: the last waiting subscription is 0 or 1, or none waits and nothing is stored
-abbrev pub OthersAreForgotten : JoinAt → Seen → Type 0
+abbrev pub OthersAreForgotten : JoinAt → KeyJoin → Type 0
 OthersAreForgotten at j = (b : Key) → option_and_then (field_key at.fk) j.row ≢ Some b →
     ((last_asked j b ≡ Some Forget) ⊎ (last_asked j b ≡ Some ForgetAndAnswer)) ⊎ ((j.subscriptions b ≡ []) × (j.stored b ≡ None))
 
@@ -118,13 +118,13 @@ last_with h [] = None
 last_with h (y ∷ ys) = option_or (last_with h ys) (cond (same_key nat_eq (Some h) y.hash) (Some y.row) None)
 
 -- the row of the last waiting response of a right task with this hash
-abbrev pub last_answer : Seen → ℕ → ℕ → Option (Option Row)
+abbrev pub last_answer : KeyJoin → ℕ → ℕ → Option (Option Row)
 last_answer j i h = last_with h (j.responses i)
 
 -- where the present row v has the foreign key a: the last waiting subscription is 2 with v's hash, or none waits, v's hash is stored,
 -- and either the last waiting response with it carries the right row of the moment, or none with it waits and the result is that
 -- row's; responses with v's hash come from a's task alone
-abbrev pub PresentIsAnswered : JoinAt → Seen → Type 0
+abbrev pub PresentIsAnswered : JoinAt → KeyJoin → Type 0
 PresentIsAnswered at j = (v : Row) (a : Key) → j.row ≡ Some v → field_key at.fk v ≡ Some a →
     let h = at.rules.hash v in
     let part = key_part at a in
@@ -139,15 +139,15 @@ PresentIsAnswered at j = (v : Row) (a : Key) → j.row ≡ Some v → field_key 
     }
 
 -- the result after all waiting responses of the foreign key's task is the right row's of the moment
-abbrev pub ResultsFollow : JoinAt → Seen → Type 0
+abbrev pub ResultsFollow : JoinAt → KeyJoin → Type 0
 ResultsFollow at j = (v : Row) (a : Key) → j.row ≡ Some v → field_key at.fk v ≡ Some a → j.subscriptions a ≡ [] →
     fold (accept (protocol_of at) (Some v)) j.result (j.responses (key_part at a)) ≡ joined at.kind at.set (Some v) (j.right a)
 
 -- without a left row: no result, or a subscription 1 or a response without a hash waits
-abbrev pub GoneIsTold : JoinAt → Seen → Type 0
+abbrev pub GoneIsTold : JoinAt → KeyJoin → Type 0
 GoneIsTold at j = j.row ≡ None → (j.result ≡ None)
     ⊎ (((b : Key) × In ForgetAndAnswer (j.subscriptions b)) ⊎ ((i : ℕ) × In (record { hash = None; row = None }) (j.responses i)))
 
 -- where the present row has no foreign key: the result is that of no right row
-abbrev pub AloneIsJoined : JoinAt → Seen → Type 0
+abbrev pub AloneIsJoined : JoinAt → KeyJoin → Type 0
 AloneIsJoined at j = (v : Row) → j.row ≡ Some v → field_key at.fk v ≡ None → j.result ≡ joined at.kind at.set (Some v) None

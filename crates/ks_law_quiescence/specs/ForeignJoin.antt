@@ -5,13 +5,13 @@ use Rattle.ks_query.specs.Streams.{Key}
 use Rattle.std.specs.Prelude.{◌≡◌, ℕ, Bool, true, false, List, [], ◌∷◌, ◌++◌, Option, Some, None, fold, cond, nat_eq}
 use Rattle.ks_def_tasks.specs.Collision.{In}
 
--- what a join is made of: left rows X, foreign keys K, right rows Y, rows of the result Z
+-- what a join is made of: foreign keys K, left rows X, right rows Y, rows of the result Z
 pub record Protocol (K X Y Z : Type 0) : Type 0 where
   -- whether two foreign keys are the same
   pub alike : K → K → Bool
   -- the foreign key of a left row, where it has one
   pub foreign_key : X → Option K
-  -- the hash of a left row: a subscription carries it, and each response to it
+  -- the hash of a left row: a subscription that asks for answers carries it, and so does each response to that one
   pub hash : X → ℕ
   -- the number of the right task that keeps a foreign key
   pub part : K → ℕ

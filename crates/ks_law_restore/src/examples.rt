@@ -9,11 +9,14 @@ ghost use Rattle.ks_law_restore.specs.Example.{produced, rest, taker, work, ends
 /// A fresh task takes the one record, its work is committed, and it follows the journal at each stage.
 pub fn one_commit_is_followed()
     ensures fresh { (rec : Rec) → Stands setup (produced rec) (fresh_view the_task) }
-    ensures next { (rec : Rec) → IsNext setup (at setup (produced rec)) (fresh_view the_task) 0 0 rec }
+    ensures next { (rec : Rec) → IsNext setup (at setup (produced rec)) (fresh_view the_task) 0 0
+        rec }
     ensures taken { (rec : Rec) → Stands setup (produced rec) (taker rec) }
     ensures frozen { (rec : Rec) → IsFrozen setup.plan (taker rec) (work rec) }
     ensures work { (rec : Rec) → IsWork setup (at setup (produced rec)) (work rec) }
-    ensures one { (rec : Rec) → OneCommit setup (at setup (produced rec)) (rest rec) (pending_work (work rec)) }
+    ensures one { (rec : Rec) → OneCommit setup (at setup (produced rec)) (rest rec)
+        (pending_work (work rec)) }
     ensures ends { (rec : Rec) → AreEnds setup (at setup (one_commit rec)) (work rec) ends }
-    ensures committed { (rec : Rec) → Stands setup (one_commit rec) (committed_view (taker rec) ends) }
+    ensures committed { (rec : Rec) → Stands setup (one_commit rec)
+        (committed_view (taker rec) ends) }
 {}

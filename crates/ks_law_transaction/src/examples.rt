@@ -17,10 +17,13 @@ ghost use Rattle.ks_law_transaction.specs.Example.{assigned, built, expired, con
 /// worker is expired, and its commit is refused.
 pub fn zombie_built()
     ensures history { (rec : Rec) → IsHistory setup (built rec) }
-    ensures building { (rec : Rec) → IsBuilding (at setup (assigned rec)) (at setup (built rec)) 0 1 (contents rec) }
+    ensures building { (rec : Rec) → IsBuilding (at setup (assigned rec)) (at setup (built rec)) 0 1
+        (contents rec) }
     ensures holds { (rec : Rec) → HoldsWork setup (at setup (built rec)) (contents rec) }
-    ensures faithful { (rec : Rec) → CommitsFaithfully setup (at setup (built rec)) (Decide 0 1 true) }
+    ensures faithful { (rec : Rec) → CommitsFaithfully setup (at setup (built rec))
+        (Decide 0 1 true) }
     ensures seen { (rec : Rec) → HasSeen setup (built rec) 0 1 7 }
     ensures active { (rec : Rec) → IsActive setup (built rec) 0 1 7 (taker rec) }
-    ensures fenced { (rec : Rec) → refusal setup (at setup (expired rec)) (Decide 0 1 true) ≡ Some (Fenced 2) }
+    ensures fenced { (rec : Rec) → refusal setup (at setup (expired rec)) (Decide 0 1 true)
+        ≡ Some (Fenced 2) }
 {}

@@ -39,7 +39,8 @@ pub struct Batch {
 pub fn put_sent(slots: &mut Vec<Slot>, batch: Batch)
     requires room { length slots.old.items + length batch.recs.items ≤ vec_capacity slots.old }
     requires below { batch.number + length batch.recs.items < 2 ^ 64 }
-    ensures { slots.new.items ≡ slots.old.items ++ sent_slots batch.producer batch.epoch batch.number batch.task batch.recs.items }
+    ensures { slots.new.items ≡ slots.old.items
+        ++ sent_slots batch.producer batch.epoch batch.number batch.task batch.recs.items }
 {
     let Batch {
         producer,

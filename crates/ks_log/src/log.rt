@@ -62,7 +62,8 @@ fn grow(
     batch: Batch,
 ) -> Result<Result<u64, OutOfSequence>, AllocError>
     requires { at ≡ place part parts.old.items }
-    ensures answer { IfOk result (λ r. r ≡ append_answer batch.producer batch.epoch batch.number (slots_in part parts.old.items)) }
+    ensures answer { IfOk result (λ r. r ≡ append_answer batch.producer batch.epoch batch.number
+        (slots_in part parts.old.items)) }
     ensures ok { OnOk result (parts.new.items ≡ log_appended part batch parts.old.items) }
     ensures err { OnErr result (parts.new.items ≡ parts.old.items) }
 {
@@ -183,7 +184,8 @@ impl Log {
         part: PartId,
         batch: Batch,
     ) -> Result<Result<u64, OutOfSequence>, AllocError>
-        ensures answer { IfOk result (λ r. r ≡ append_answer batch.producer batch.epoch batch.number (slots_in part self.old)) }
+        ensures answer { IfOk result (λ r. r ≡ append_answer batch.producer batch.epoch batch.number
+            (slots_in part self.old)) }
         ensures ok { OnOk result (self.new ≡ log_appended part batch self.old) }
         ensures few { OnOk result (total self.new < 2 ^ 48) }
         ensures err { OnErr result (self.new ≡ self.old) }
@@ -239,7 +241,8 @@ impl Log {
         commit: bool,
     ) -> Result<u64, AllocError>
         ensures at { IfOk result (λ at. at ≡ length (slots_in part self.old)) }
-        ensures ok { OnOk result (self.new ≡ with_slots part (Mark producer epoch commit ∷ []) self.old) }
+        ensures ok { OnOk result (self.new ≡ with_slots part (Mark producer epoch commit ∷ [])
+            self.old) }
         ensures few { OnOk result (total self.new < 2 ^ 48) }
         ensures err { OnErr result (self.new ≡ self.old) }
     {

@@ -53,7 +53,8 @@ fn extend_visible(slots: &[Slot], marks: &[Marked], passed: usize, visible: &mut
     requires known { length visible.old.items ≤ length slots.now }
     requires within { passed ≤ length marks.now }
     requires marks { drop passed marks.now ≡ marks_in (drop (length visible.old.items) slots.now) }
-    ensures visible { visible.new.items ≡ visible.old.items ++ visible_in (drop (length visible.old.items) slots.now) }
+    ensures visible { visible.new.items ≡ visible.old.items
+        ++ visible_in (drop (length visible.old.items) slots.now) }
     ensures within { result ≤ length marks.now }
     ensures marks { drop result marks.now ≡ marks_in (drop (length visible.new.items) slots.now) }
 {
@@ -141,7 +142,8 @@ impl Part {
         producers: &[Producer],
         part: PartId,
     ) -> Result<Vec<(u64, Rec)>, AllocError>
-        ensures { IfOk result (λ made. made.items ≡ decided_pairs (waiting_in producers.now part) 0 self.now) }
+        ensures { IfOk result (λ made. made.items
+            ≡ decided_pairs (waiting_in producers.now part) 0 self.now) }
     {
         decided_in(
             alloc,
@@ -164,7 +166,8 @@ impl Part {
         recs: Vec<Rec>,
     ) -> Result<Result<u64, OutOfSequence>, AllocError>
         ensures answer { IfOk result (λ r. r ≡ append_answer producer epoch number self.old) }
-        ensures ok { OnOk result (self.new ≡ appended producer epoch number task recs.items self.old) }
+        ensures ok { OnOk result (self.new ≡ appended producer epoch number task recs.items
+            self.old) }
         ensures err { OnErr result (self.new ≡ self.old) }
     {
         let expected = self.count(producer, epoch);

@@ -21,7 +21,8 @@ fn take_record(
     left: usize,
 ) -> Result<usize, AllocError>
     requires { 0 < left }
-    ensures { IfOk result (λ less. (rest : List (ℕ × Record)) → made.new.items ++ take less rest ≡ made.old.items ++ take left ((at, rec.now) ∷ rest)) }
+    ensures { IfOk result (λ less. (rest : List (ℕ × Record)) → made.new.items ++ take less rest
+        ≡ made.old.items ++ take left ((at, rec.now) ∷ rest)) }
 {
     made.push((at, copy(rec)?))?;
     Ok(left - 1)
@@ -36,7 +37,9 @@ fn take_slot(
     left: usize,
 ) -> Result<usize, AllocError>
     requires { 0 < left }
-    ensures { IfOk result (λ less. (rest : List (ℕ × Record)) → made.new.items ++ take less rest ≡ made.old.items ++ take left ((if is_visible then record_at at slot.now else []) ++ rest)) }
+    ensures { IfOk result (λ less. (rest : List (ℕ × Record)) → made.new.items ++ take less rest
+        ≡ made.old.items ++ take left ((if is_visible then record_at at slot.now else [])
+        ++ rest)) }
 {
     if !is_visible {
         return Ok(left);
@@ -63,7 +66,8 @@ pub fn visible_from(
     limit: usize,
 ) -> Result<Vec<(u64, Rec)>, AllocError>
     requires { length visible.now ≤ length slots.now }
-    ensures { IfOk result (λ made. made.items ≡ take limit (visible_pairs from (drop from visible.now) (drop from slots.now))) }
+    ensures { IfOk result (λ made. made.items
+        ≡ take limit (visible_pairs from (drop from visible.now) (drop from slots.now))) }
 {
     let mut made = Vec::new(alloc);
     let mut left = limit;
@@ -95,7 +99,8 @@ fn past_last_in(recs: &[(u64, Rec)]) -> Result<u64, AllocError>
 /// last stable offset: one past the last record, or 0 with none, where there are `limit` of them, else the last stable
 /// offset or `from`, whichever is more. Its one error, want of memory, stands for an offset of 2^64.
 pub fn next_in(recs: &[(u64, Rec)], stable: u64, from: u64, limit: usize) -> Result<u64, AllocError>
-    ensures { IfOk result (λ next. next ≡ (if length recs.now == limit then past_last recs.now else max from stable)) }
+    ensures { IfOk result (λ next. next ≡ (if length recs.now == limit then past_last recs.now else
+        max from stable)) }
 {
     if recs.len() == limit {
         past_last_in(recs)
@@ -163,7 +168,8 @@ fn decide_slot(
     producers: &[Producer],
     part: PartId,
 ) -> Result<(), AllocError>
-    ensures { OnOk result (made.new.items ≡ made.old.items ++ decided_one (waiting_in producers.now part) at slot.now marks.now) }
+    ensures { OnOk result (made.new.items ≡ made.old.items
+        ++ decided_one (waiting_in producers.now part) at slot.now marks.now) }
 {
     match slot {
         Slot::Plain { rec } => made.push((at, copy(rec)?))?,
@@ -194,7 +200,8 @@ pub fn decided_in(
     part: PartId,
 ) -> Result<Vec<(u64, Rec)>, AllocError>
     requires { marks.now ≡ marks_in slots.now }
-    ensures { IfOk result (λ made. made.items ≡ decided_pairs (waiting_in producers.now part) 0 slots.now) }
+    ensures { IfOk result (λ made. made.items
+        ≡ decided_pairs (waiting_in producers.now part) 0 slots.now) }
 {
     let mut made = Vec::new(alloc);
     let mut passed: usize = 0;

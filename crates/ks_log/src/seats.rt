@@ -41,7 +41,8 @@ pub fn put_seat(seats: &mut Vec<usize>, part: PartId, at: usize)
     requires long { part_number part < length seats.old.items }
     requires place { at < 2 ^ 48 }
     ensures long { length seats.new.items ≡ length seats.old.items }
-    ensures seats { (p : Part) → p.part < 256 → get_or seats.new.items (part_number p) 0 ≡ (if same_part p part then at + 1 else get_or seats.old.items (part_number p) 0) }
+    ensures seats { (p : Part) → p.part < 256 → get_or seats.new.items (part_number p) 0
+        ≡ (if same_part p part then at + 1 else get_or seats.old.items (part_number p) 0) }
 {
     seats[part_number(part)] = at + 1;
 }

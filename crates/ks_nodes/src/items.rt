@@ -58,7 +58,8 @@ pub fn item_at(items: &[Option<Item>], number: u8) -> Option<&Item>
 }
 
 fn filter_one(test: &Pred, item: &Item) -> Result<Option<Item>, AllocError>
-    ensures { IfOk result (λ o. option_map item_view o ≡ filter_item (test_of test.now) (item_view item.now)) }
+    ensures { IfOk result (λ o. option_map item_view o
+        ≡ filter_item (test_of test.now) (item_view item.now)) }
 {
     match filter_row(test, Some(&item.row))? {
         Some(row) => Ok(Some(Item {
@@ -71,7 +72,8 @@ fn filter_one(test: &Pred, item: &Item) -> Result<Option<Item>, AllocError>
 }
 
 fn map_one(alloc: Global, set: &Proj, item: &Item) -> Result<Option<Item>, AllocError>
-    ensures { IfOk result (λ o. option_map item_view o ≡ map_item (set_of set.now) (item_view item.now)) }
+    ensures { IfOk result (λ o. option_map item_view o
+        ≡ map_item (set_of set.now) (item_view item.now)) }
 {
     match map_row(alloc, set, Some(&item.row))? {
         Some(row) => Ok(Some(Item {
@@ -84,7 +86,8 @@ fn map_one(alloc: Global, set: &Proj, item: &Item) -> Result<Option<Item>, Alloc
 }
 
 fn rekey_one(alloc: Global, field: &Name, item: &Item) -> Result<Option<Item>, AllocError>
-    ensures { IfOk result (λ o. option_map item_view o ≡ rekey_item field.now (item_view item.now)) }
+    ensures { IfOk result (λ o. option_map item_view o
+        ≡ rekey_item field.now (item_view item.now)) }
 {
     match key_of_field(alloc, &item.row, field.as_str().as_bytes())? {
         Some(key) => Ok(Some(Item {
@@ -102,7 +105,8 @@ fn source_item(
     topic: u16,
     stamped: &StampedRecord<'_>,
 ) -> Result<Option<Item>, AllocError>
-    ensures { IfOk result (λ o. option_map item_view o ≡ item_here (arrival_of stamped.now) (λ n. None) (StreamSource topic)) }
+    ensures { IfOk result (λ o. option_map item_view o
+        ≡ item_here (arrival_of stamped.now) (λ n. None) (StreamSource topic)) }
 {
     if !is_same_topic(stamped.topic, Topic::Input(topic)) {
         return Ok(None);
@@ -130,7 +134,8 @@ fn item_of(
     items: &[Option<Item>],
     stamped: &StampedRecord<'_>,
 ) -> Result<Option<Item>, AllocError>
-    ensures { IfOk result (λ o. option_map item_view o ≡ item_here (arrival_of stamped.now) (item_in (views items.now)) (kind_of processor.now)) }
+    ensures { IfOk result (λ o. option_map item_view o
+        ≡ item_here (arrival_of stamped.now) (item_in (views items.now)) (kind_of processor.now)) }
 {
     match processor {
         Processor::StreamSource { topic } => source_item(alloc, *topic, stamped),
@@ -156,7 +161,9 @@ fn push_item(
     items: &mut Vec<Option<Item>>,
     stamped: &StampedRecord<'_>,
 ) -> Result<(), AllocError>
-    ensures { OnOk result (views items.new.items ≡ views items.old.items ++ item_here (arrival_of stamped.now) (item_in (views items.old.items)) (kind_of processor.now) ∷ []) }
+    ensures { OnOk result (views items.new.items ≡ views items.old.items
+        ++ item_here (arrival_of stamped.now) (item_in (views items.old.items))
+        (kind_of processor.now) ∷ []) }
 {
     let item = item_of(alloc, processor, items.as_slice(), stamped)?;
     items.push(item)?;
@@ -169,7 +176,8 @@ pub fn items_of(
     nodes: &[ProcessorNode<'_>],
     stamped: &StampedRecord<'_>,
 ) -> Result<Vec<Option<Item>>, AllocError>
-    ensures { IfOk result (λ v. views v.items ≡ all_items (arrival_of stamped.now) [] (kinds_in (map node_view nodes.now))) }
+    ensures { IfOk result (λ v. views v.items
+        ≡ all_items (arrival_of stamped.now) [] (kinds_in (map node_view nodes.now))) }
 {
     let mut items = Vec::new(alloc);
     let mut rest = nodes;
@@ -186,7 +194,8 @@ fn repartitioned_item(
     number: u8,
     stamped: &StampedRecord<'_>,
 ) -> Result<Option<Item>, AllocError>
-    ensures { IfOk result (λ o. option_map item_view o ≡ item_keyed stamped.now.time (arrived (arrival_of stamped.now) (Repartition number))) }
+    ensures { IfOk result (λ o. option_map item_view o
+        ≡ item_keyed stamped.now.time (arrived (arrival_of stamped.now) (Repartition number))) }
 {
     if !is_same_topic(stamped.topic, Topic::Repartition(number)) {
         return Ok(None);
@@ -214,7 +223,8 @@ pub fn item_into(
     through: bool,
     stamped: &StampedRecord<'_>,
 ) -> Result<Option<Item>, AllocError>
-    ensures { IfOk result (λ o. option_map item_view o ≡ item_taken (arrival_of stamped.now) (item_in (views items.now)) number from through) }
+    ensures { IfOk result (λ o. option_map item_view o
+        ≡ item_taken (arrival_of stamped.now) (item_in (views items.now)) number from through) }
 {
     if through {
         return repartitioned_item(alloc, number, stamped);

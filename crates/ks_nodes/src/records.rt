@@ -110,7 +110,8 @@ fn read_grouped<'a>(alloc: Global, rec: &'a Rec) -> Result<Option<Payload<'a>>, 
 
 // Of the repartition topic of a table's aggregate.
 fn read_change<'a>(alloc: Global, rec: &'a Rec) -> Result<Option<Payload<'a>>, AllocError>
-    ensures { IfOk result (λ o. option_map message_of o ≡ of_both key_from delta_from Moved rec.now) }
+    ensures { IfOk result (λ o. option_map message_of o
+        ≡ of_both key_from delta_from Moved rec.now) }
 {
     let (Some(key), Some(value)) = (&rec.key, &rec.value) else {
         return Ok(None);
@@ -126,7 +127,8 @@ fn read_change<'a>(alloc: Global, rec: &'a Rec) -> Result<Option<Payload<'a>>, A
 
 // Of the subscriptions of a join on a foreign key.
 fn read_subscribed<'a>(alloc: Global, rec: &'a Rec) -> Result<Option<Payload<'a>>, AllocError>
-    ensures { IfOk result (λ o. option_map message_of o ≡ of_both key_from subscription_from (λ b v. Asked b v.left (subscription_of v)) rec.now) }
+    ensures { IfOk result (λ o. option_map message_of o
+        ≡ of_both key_from subscription_from (λ b v. Asked b v.left (subscription_of v)) rec.now) }
 {
     let (Some(key), Some(value)) = (&rec.key, &rec.value) else {
         return Ok(None);
@@ -145,7 +147,8 @@ fn read_subscribed<'a>(alloc: Global, rec: &'a Rec) -> Result<Option<Payload<'a>
 
 // Of its responses.
 fn read_responded<'a>(alloc: Global, rec: &'a Rec) -> Result<Option<Payload<'a>>, AllocError>
-    ensures { IfOk result (λ o. option_map message_of o ≡ of_both key_from response_from Answered rec.now) }
+    ensures { IfOk result (λ o. option_map message_of o
+        ≡ of_both key_from response_from Answered rec.now) }
 {
     let (Some(key), Some(value)) = (&rec.key, &rec.value) else {
         return Ok(None);
@@ -165,7 +168,8 @@ fn read_repartitioned<'a>(
     processor: &Processor<'_>,
     rec: &'a Rec,
 ) -> Result<Option<Payload<'a>>, AllocError>
-    ensures { IfOk result (λ o. option_map message_of o ≡ regrouped_in (kind_of processor.now) rec.now) }
+    ensures { IfOk result (λ o. option_map message_of o
+        ≡ regrouped_in (kind_of processor.now) rec.now) }
 {
     match processor {
         Processor::StreamAggregate { .. } => read_grouped(alloc, rec),
@@ -181,7 +185,8 @@ fn read_payload<'a>(
     topic: Topic,
     rec: &'a Rec,
 ) -> Result<Option<Payload<'a>>, AllocError>
-    ensures { IfOk result (λ o. option_map message_of o ≡ message_from (kinds_in (map node_view nodes.now)) topic rec.now) }
+    ensures { IfOk result (λ o. option_map message_of o
+        ≡ message_from (kinds_in (map node_view nodes.now)) topic rec.now) }
 {
     match topic {
         Topic::Input(_) => read_input(alloc, rec),
@@ -202,7 +207,8 @@ pub fn read_record<'a>(
     topic: Topic,
     rec: &'a Rec,
 ) -> Result<Option<StampedRecord<'a>>, AllocError>
-    ensures { IfOk result (λ o. option_map arrival_of o ≡ arrival_from (kinds_in (map node_view nodes.now)) topic rec.now) }
+    ensures { IfOk result (λ o. option_map arrival_of o
+        ≡ arrival_from (kinds_in (map node_view nodes.now)) topic rec.now) }
 {
     match read_payload(alloc, nodes, topic, rec)? {
         Some(payload) => Ok(Some(StampedRecord {

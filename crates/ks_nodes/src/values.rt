@@ -131,7 +131,8 @@ fn are_equal(a: &[u8], b: &[u8]) -> bool
 
 // A row has one spelling, so that bytes are compared and no row is read. Takes no memory.
 fn is_spelling(bytes: &[u8], row: &EncodedRow<'_>) -> bool
-    ensures { result ≡ same_option same_stored (option_map OfRow (row_from bytes.now)) (Some (OfRow row.now)) }
+    ensures { result ≡ same_option same_stored (option_map OfRow (row_from bytes.now))
+        (Some (OfRow row.now)) }
 {
     are_equal(bytes, row.bytes())
 }
@@ -146,7 +147,8 @@ fn is_this_row(old: Option<StoredValue<'_>>, row: &EncodedRow<'_>) -> bool
 }
 
 fn is_this_aggregate(old: Option<StoredValue<'_>>, is_count: bool, agg: &Agg) -> bool
-    ensures { result ≡ same_option same_stored (stored_in old.entry) (Some (OfAgg is_count agg.now)) }
+    ensures { result ≡ same_option same_stored (stored_in old.entry)
+        (Some (OfAgg is_count agg.now)) }
 {
     match old {
         Some(
@@ -193,7 +195,8 @@ fn changed_to_aggregate(
     is_count: bool,
     agg: &Agg,
 ) -> Result<Option<Option<Blob>>, AllocError>
-    ensures { IfOk result (λ o. o ≡ changed_bytes (stored_in old.entry) (Some (OfAgg is_count agg.now))) }
+    ensures { IfOk result (λ o. o ≡ changed_bytes (stored_in old.entry)
+        (Some (OfAgg is_count agg.now))) }
 {
     if is_this_aggregate(old, is_count, agg) {
         return Ok(None);
@@ -212,7 +215,8 @@ fn changed_to_bytes(
     old: Option<StoredValue<'_>>,
     bytes: &[u8],
 ) -> Result<Option<Option<Blob>>, AllocError>
-    ensures { IfOk result (λ o. o ≡ changed_bytes (stored_in old.entry) (option_map OfRow (row_from bytes.now))) }
+    ensures { IfOk result (λ o. o ≡ changed_bytes (stored_in old.entry)
+        (option_map OfRow (row_from bytes.now))) }
 {
     match EncodedRow::of(bytes) {
         Some(row) => changed_to_row(alloc, old, &row),
@@ -227,7 +231,8 @@ fn changed_between(
     old: &[u8],
     new: &[u8],
 ) -> Result<Option<Option<Blob>>, AllocError>
-    ensures { IfOk result (λ o. o ≡ changed_bytes (option_map OfRow (row_from old.now)) (option_map OfRow (row_from new.now))) }
+    ensures { IfOk result (λ o. o ≡ changed_bytes (option_map OfRow (row_from old.now))
+        (option_map OfRow (row_from new.now))) }
 {
     if are_equal(old, new) {
         return Ok(None);
@@ -316,7 +321,8 @@ fn is_other_spelling(old: &[u8], new: &EncodedRow<'_>) -> bool
 
 #[tactic(auto, using(crate::proofs::Spellings::read_again))]
 fn is_other_than(alloc: Global, old: &[u8], new: &Row) -> Result<bool, AllocError>
-    ensures { IfOk result (λ c. c ≡ is_other (option_map OfRow (row_from old.now)) (Some (OfRow new.now))) }
+    ensures { IfOk result (λ c. c ≡ is_other (option_map OfRow (row_from old.now))
+        (Some (OfRow new.now))) }
 {
     let bytes = encode(alloc, new)?;
     match EncodedRow::of(bytes.as_slice()) {
@@ -328,7 +334,8 @@ fn is_other_than(alloc: Global, old: &[u8], new: &Row) -> Result<bool, AllocErro
 // Equal bytes are compared first.
 #[tactic(auto, using(crate::proofs::Spellings::nothing_other))]
 fn is_other_bytes(alloc: Global, old: &[u8], new: &[u8]) -> Result<bool, AllocError>
-    ensures { IfOk result (λ c. c ≡ is_other (option_map OfRow (row_from old.now)) (option_map OfRow (row_from new.now))) }
+    ensures { IfOk result (λ c. c ≡ is_other (option_map OfRow (row_from old.now))
+        (option_map OfRow (row_from new.now))) }
 {
     if are_equal(old, new) {
         return Ok(false);

@@ -58,7 +58,8 @@ fn window_in(size: i64, advance: Option<i64>, grace: Option<i64>) -> Window
 impl HoppingWindow {
     /// Of a node's size, advance and grace in milliseconds; none where the advance is 0 or above the size.
     pub fn of(size: i64, advance: Option<i64>, grace: Option<i64>) -> Option<HoppingWindow>
-        ensures { result ≡ cond (fits_window (window_of size advance grace)) (Some (window_of size advance grace)) None }
+        ensures { result ≡ cond (fits_window (window_of size advance grace))
+            (Some (window_of size advance grace)) None }
     {
         let window = window_in(size, advance, grace);
         if 1 <= window.advance && window.advance <= window.size {

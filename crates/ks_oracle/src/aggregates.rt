@@ -22,7 +22,8 @@ fn add_row(
     group: Key,
     row: &Row,
 ) -> Result<(), AllocError>
-    ensures { OnOk result (groups.new ≡ add_to {R = by_bytes} (option_copied field.entry) groups.old (group, row.now)) }
+    ensures { OnOk result (groups.new ≡ add_to {R = by_bytes} (option_copied field.entry) groups.old
+        (group, row.now)) }
 {
     let agg = stream_add(field, groups.get(&group), row);
     groups.put(group, agg)
@@ -48,7 +49,8 @@ fn group_items(
     field: Option<&Name>,
     items: &[Item],
 ) -> Result<Groups, AllocError>
-    ensures { IfOk result (λ m. m ≡ fold (add_to {R = by_bytes} (option_copied field.entry)) fin.empty (item_rows (in_groups (option_copied by.entry) items.now))) }
+    ensures { IfOk result (λ m. m ≡ fold (add_to {R = by_bytes} (option_copied field.entry))
+        fin.empty (item_rows (in_groups (option_copied by.entry) items.now))) }
 {
     let mut groups = Groups::new(alloc);
     let mut rest = items;
@@ -68,7 +70,8 @@ pub fn aggregate_items(
     field: Option<&Name>,
     items: &[Item],
 ) -> Result<Rows, AllocError>
-    ensures { IfOk result (λ t. t ≡ aggregate {R = by_bytes} (option_copied field.entry) (item_rows (in_groups (option_copied by.entry) items.now))) }
+    ensures { IfOk result (λ t. t ≡ aggregate {R = by_bytes} (option_copied field.entry)
+        (item_rows (in_groups (option_copied by.entry) items.now))) }
 {
     let groups = group_items(alloc, by, field, items)?;
     shown(alloc, field.is_none(), &groups)
@@ -80,7 +83,8 @@ fn group_rows(
     field: Option<&Name>,
     rows: &Rows,
 ) -> Result<Groups, AllocError>
-    ensures { IfOk result (λ m. m ≡ fold (add_to {R = by_bytes} (option_copied field.entry)) fin.empty (rows_in_groups by.now (fin.entries rows.now))) }
+    ensures { IfOk result (λ m. m ≡ fold (add_to {R = by_bytes} (option_copied field.entry))
+        fin.empty (rows_in_groups by.now (fin.entries rows.now))) }
 {
     let list = rows.list(alloc)?;
     let mut groups = Groups::new(alloc);
@@ -101,7 +105,8 @@ pub fn aggregate_rows(
     field: Option<&Name>,
     rows: &Rows,
 ) -> Result<Rows, AllocError>
-    ensures { IfOk result (λ t. t ≡ aggregate {R = by_bytes} (option_copied field.entry) (rows_in_groups by.now (fin.entries rows.now))) }
+    ensures { IfOk result (λ t. t ≡ aggregate {R = by_bytes} (option_copied field.entry)
+        (rows_in_groups by.now (fin.entries rows.now))) }
 {
     let groups = group_rows(alloc, by, field, rows)?;
     shown(alloc, field.is_none(), &groups)
@@ -109,7 +114,8 @@ pub fn aggregate_rows(
 
 // One more item in each of these windows.
 fn count_in(spans: &mut Spans, group: &Key, starts: &[u64], row: &Row) -> Result<(), AllocError>
-    ensures { OnOk result (spans.new ≡ fold (add_to {R = by_window} None) spans.old (map (λ s. ((group.now, s), row.now)) starts.now)) }
+    ensures { OnOk result (spans.new ≡ fold (add_to {R = by_window} None) spans.old
+        (map (λ s. ((group.now, s), row.now)) starts.now)) }
 {
     let mut rest = starts;
     while let [start, more @ ..] = rest {
@@ -131,7 +137,9 @@ pub fn count_windows(
 ) -> Result<Spans, AllocError>
     requires some { 1 ≤ advance }
     requires most { advance ≤ size }
-    ensures { IfOk result (λ m. m ≡ fold (add_to {R = by_window} None) fin.empty (in_windows (record { size = size; advance = advance; grace = 0 }) (in_groups (option_copied by.entry) items.now))) }
+    ensures { IfOk result (λ m. m ≡ fold (add_to {R = by_window} None) fin.empty
+        (in_windows (record { size = size; advance = advance; grace = 0 })
+        (in_groups (option_copied by.entry) items.now))) }
 {
     let mut spans = Spans::new(alloc);
     let mut rest = items;

@@ -69,7 +69,8 @@ pub fn spans_at<'a>(found: &'a [Answer], n: usize, empty: &'a Spans) -> &'a Span
 }
 
 fn filter_stream(alloc: Global, op: &Op, items: &[Item]) -> Result<Answer, AllocError>
-    ensures { IfOk result (λ x. x ≡ answered (option_map (λ t. Items (some_of (filter_item t) items.now)) (has_test (op_view op.now)))) }
+    ensures { IfOk result (λ x. x ≡ answered (option_map
+        (λ t. Items (some_of (filter_item t) items.now)) (has_test (op_view op.now)))) }
 {
     match test_in(op) {
         Some(test) => Ok(Answer::Items(Seq::of(filtered_items(alloc, test, items)?))),
@@ -78,7 +79,8 @@ fn filter_stream(alloc: Global, op: &Op, items: &[Item]) -> Result<Answer, Alloc
 }
 
 fn map_stream(alloc: Global, op: &Op, items: &[Item]) -> Result<Answer, AllocError>
-    ensures { IfOk result (λ x. x ≡ answered (option_map (λ s. Items (some_of (map_item s) items.now)) (has_set (op_view op.now)))) }
+    ensures { IfOk result (λ x. x ≡ answered (option_map
+        (λ s. Items (some_of (map_item s) items.now)) (has_set (op_view op.now)))) }
 {
     match set_in(op) {
         Some(set) => Ok(Answer::Items(Seq::of(mapped_items(alloc, set, items)?))),
@@ -87,7 +89,8 @@ fn map_stream(alloc: Global, op: &Op, items: &[Item]) -> Result<Answer, AllocErr
 }
 
 fn rekey_stream(alloc: Global, op: &Op, items: &[Item]) -> Result<Answer, AllocError>
-    ensures { IfOk result (λ x. x ≡ answered (option_map (λ k. Items (some_of (rekey_item k) items.now)) (has_key (op_view op.now)))) }
+    ensures { IfOk result (λ x. x ≡ answered (option_map
+        (λ k. Items (some_of (rekey_item k) items.now)) (has_key (op_view op.now)))) }
 {
     match key_in(op) {
         Some(name) => Ok(Answer::Items(Seq::of(rekeyed_items(alloc, name, items)?))),
@@ -96,7 +99,9 @@ fn rekey_stream(alloc: Global, op: &Op, items: &[Item]) -> Result<Answer, AllocE
 }
 
 fn filter_table(alloc: Global, op: &Op, rows: &Rows) -> Result<Answer, AllocError>
-    ensures { IfOk result (λ x. x ≡ answered (option_map (λ t. TableFound (map_values (λ v. cond (holds t v) (Some v) None) rows.now)) (has_test (op_view op.now)))) }
+    ensures { IfOk result (λ x. x ≡ answered (option_map
+        (λ t. TableFound (map_values (λ v. cond (holds t v) (Some v) None) rows.now))
+        (has_test (op_view op.now)))) }
 {
     match test_in(op) {
         Some(test) => Ok(Answer::Table(filtered_rows(alloc, test, rows)?)),
@@ -105,7 +110,9 @@ fn filter_table(alloc: Global, op: &Op, rows: &Rows) -> Result<Answer, AllocErro
 }
 
 fn map_table(alloc: Global, op: &Op, rows: &Rows) -> Result<Answer, AllocError>
-    ensures { IfOk result (λ x. x ≡ answered (option_map (λ s. TableFound (map_values (λ v. project s (Some v) None) rows.now)) (has_set (op_view op.now)))) }
+    ensures { IfOk result (λ x. x ≡ answered (option_map
+        (λ s. TableFound (map_values (λ v. project s (Some v) None) rows.now))
+        (has_set (op_view op.now)))) }
 {
     match set_in(op) {
         Some(set) => Ok(Answer::Table(mapped_rows(alloc, set, rows)?)),
@@ -114,7 +121,9 @@ fn map_table(alloc: Global, op: &Op, rows: &Rows) -> Result<Answer, AllocError>
 }
 
 fn aggregate_stream(alloc: Global, op: &Op, items: &[Item]) -> Result<Answer, AllocError>
-    ensures { IfOk result (λ x. x ≡ answered (option_map (λ g. TableFound (aggregate {R = by_bytes} g.1 (item_rows (grouped g.0 items.now)))) (has_group (op_view op.now)))) }
+    ensures { IfOk result (λ x. x ≡ answered (option_map
+        (λ g. TableFound (aggregate {R = by_bytes} g.1 (item_rows (grouped g.0 items.now))))
+        (has_group (op_view op.now)))) }
 {
     match group_in(op) {
         Some((by, field)) => Ok(Answer::Table(aggregate_items(alloc, by, field, items)?)),
@@ -123,7 +132,9 @@ fn aggregate_stream(alloc: Global, op: &Op, items: &[Item]) -> Result<Answer, Al
 }
 
 fn aggregate_table(alloc: Global, op: &Op, rows: &Rows) -> Result<Answer, AllocError>
-    ensures { IfOk result (λ x. x ≡ answered (option_map (λ g. TableFound (aggregate {R = by_bytes} g.1 (grouped_rows (unwrap_or g.0 []) (fin.entries rows.now)))) (has_group (op_view op.now)))) }
+    ensures { IfOk result (λ x. x ≡ answered (option_map
+        (λ g. TableFound (aggregate {R = by_bytes} g.1
+        (grouped_rows (unwrap_or g.0 []) (fin.entries rows.now)))) (has_group (op_view op.now)))) }
 {
     match group_in(op) {
         Some((Some(by), field)) => Ok(Answer::Table(aggregate_rows(
@@ -138,7 +149,9 @@ fn aggregate_table(alloc: Global, op: &Op, rows: &Rows) -> Result<Answer, AllocE
 }
 
 fn count_stream(alloc: Global, op: &Op, items: &[Item]) -> Result<Answer, AllocError>
-    ensures { IfOk result (λ x. x ≡ answered (option_map (λ g. Windows (fold (add_to {R = by_window} None) fin.empty (in_windows g.1 (grouped g.0 items.now)))) (has_window (op_view op.now)))) }
+    ensures { IfOk result (λ x. x ≡ answered (option_map
+        (λ g. Windows (fold (add_to {R = by_window} None) fin.empty
+        (in_windows g.1 (grouped g.0 items.now)))) (has_window (op_view op.now)))) }
 {
     match window_in(op) {
         Some((by, hops)) => Ok(Answer::Windows(count_windows(
@@ -153,7 +166,8 @@ fn count_stream(alloc: Global, op: &Op, items: &[Item]) -> Result<Answer, AllocE
 }
 
 fn join_tables(alloc: Global, op: &Op, left: &Rows, right: &Rows) -> Result<Answer, AllocError>
-    ensures { IfOk result (λ x. x ≡ answered (option_map (λ j. TableFound (key_join j.0 j.1 left.now right.now)) (has_join (op_view op.now)))) }
+    ensures { IfOk result (λ x. x ≡ answered (option_map
+        (λ j. TableFound (key_join j.0 j.1 left.now right.now)) (has_join (op_view op.now)))) }
 {
     match join_in(op) {
         Some((kind, set)) => Ok(Answer::Table(joined_rows(alloc, kind, set, left, right)?)),
@@ -162,7 +176,9 @@ fn join_tables(alloc: Global, op: &Op, left: &Rows, right: &Rows) -> Result<Answ
 }
 
 fn join_foreign(alloc: Global, op: &Op, left: &Rows, right: &Rows) -> Result<Answer, AllocError>
-    ensures { IfOk result (λ x. x ≡ answered (option_map (λ j. TableFound (foreign_join j.0 j.1.0 j.1.1 left.now right.now)) (has_foreign (op_view op.now)))) }
+    ensures { IfOk result (λ x. x ≡ answered (option_map
+        (λ j. TableFound (foreign_join j.0 j.1.0 j.1.1 left.now right.now))
+        (has_foreign (op_view op.now)))) }
 {
     match foreign_in(op) {
         Some((fk, (kind, set))) => Ok(Answer::Table(foreign_rows(
@@ -179,7 +195,8 @@ fn stream_answer(
     records: &[JobRecord],
     found: &[Answer],
 ) -> Result<Answer, AllocError>
-    ensures { IfOk result (λ x. x ≡ stream_found records.now (answers_of found.now) (op_view node.now.op) node.now.wiring) }
+    ensures { IfOk result (λ x. x ≡ stream_found records.now (answers_of found.now)
+        (op_view node.now.op) node.now.wiring) }
 {
     let op = &node.op;
     match node.wiring {
@@ -203,7 +220,8 @@ fn table_answer(
     records: &[JobRecord],
     found: &[Answer],
 ) -> Result<Answer, AllocError>
-    ensures { IfOk result (λ x. x ≡ table_found records.now (answers_of found.now) (op_view node.now.op) node.now.wiring) }
+    ensures { IfOk result (λ x. x ≡ table_found records.now (answers_of found.now)
+        (op_view node.now.op) node.now.wiring) }
 {
     let op = &node.op;
     let empty = Rows::new(alloc);
@@ -236,7 +254,9 @@ fn find_next(
     records: &[JobRecord],
     found: &mut Vec<Answer>,
 ) -> Result<(), AllocError>
-    ensures next { OnOk result (answers_of found.new.items ≡ answer_maybe records.now (answers_of found.old.items) (length found.old.items) (node_kind node.now)) }
+    ensures next { OnOk result (answers_of found.new.items
+        ≡ answer_maybe records.now (answers_of found.old.items) (length found.old.items)
+        (node_kind node.now)) }
     ensures longer { OnOk result (length found.new.items ≡ suc (length found.old.items)) }
 {
     let answer = stream_answer(alloc, node, records, found)?;
@@ -251,7 +271,8 @@ pub fn find_answers(
     nodes: &[Node],
     records: &[JobRecord],
 ) -> Result<Vec<Answer>, AllocError>
-    ensures { IfOk result (λ v. answers_of v.items ≡ answer_all records.now no_answers 0 (map node_kind nodes.now)) }
+    ensures { IfOk result (λ v. answers_of v.items
+        ≡ answer_all records.now no_answers 0 (map node_kind nodes.now)) }
 {
     let mut found = Vec::new(alloc);
     let mut rest = nodes;

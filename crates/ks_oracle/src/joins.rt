@@ -24,7 +24,9 @@ fn join_keys(
     joined: &mut Rows,
     entries: &[(Key, Row)],
 ) -> Result<(), AllocError>
-    ensures { OnOk result (joined.new ≡ fold (λ t k. write by_bytes t k (joined_row kind (set_of set.now) (fin.get left.now k) (fin.get right.now k))) joined.old (map (λ e. e.0) entries.now)) }
+    ensures { OnOk result (joined.new ≡ fold (λ t k. write by_bytes t k
+        (joined_row kind (set_of set.now) (fin.get left.now k) (fin.get right.now k))) joined.old
+        (map (λ e. e.0) entries.now)) }
 {
     let mut rest = entries;
     while let [(key, _), more @ ..] = rest {
@@ -76,7 +78,8 @@ fn foreign_row(
     row: &Row,
     right: &Rows,
 ) -> Result<Option<Row>, AllocError>
-    ensures { IfOk result (λ o. o ≡ joined_row kind (set_of set.now) (Some row.now) (right_row right.now (field_key fk.now row.now))) }
+    ensures { IfOk result (λ o. o ≡ joined_row kind (set_of set.now) (Some row.now)
+        (right_row right.now (field_key fk.now row.now))) }
 {
     match key_of_field(alloc, row, fk.as_str().as_bytes())? {
         Some(key) => join_rows(alloc, kind, set, Some(row), right.get(&key)),

@@ -47,7 +47,8 @@ pub fn key_in(op: &Op) -> Option<&Name>
 
 /// The group and the field of an aggregate; a count has no field.
 pub fn group_in(op: &Op) -> Option<(Option<&Name>, Option<&Name>)>
-    ensures { option_map (λ g. (option_copied g.0, option_copied g.1)) result ≡ has_group (op_view op.now) }
+    ensures { option_map (λ g. (option_copied g.0, option_copied g.1)) result
+        ≡ has_group (op_view op.now) }
 {
     match op {
         Op::Count { by, .. } => Some((by.as_ref(), None)),
@@ -66,7 +67,8 @@ pub fn join_in(op: &Op) -> Option<(JoinKind, &Proj)>
 }
 
 pub fn foreign_in(op: &Op) -> Option<(&Name, (JoinKind, &Proj))>
-    ensures { option_map (λ j. (j.0.now, (j.1.0, set_of j.1.1.now))) result ≡ has_foreign (op_view op.now) }
+    ensures { option_map (λ j. (j.0.now, (j.1.0, set_of j.1.1.now))) result
+        ≡ has_foreign (op_view op.now) }
 {
     match op {
         Op::FkJoin { fk, kind, set, .. } => Some((fk, (*kind, set))),
@@ -103,7 +105,8 @@ fn hops_of(size: i64, advance: Option<i64>, grace: Option<i64>) -> Hops
 
 /// The group of a windowed count, and its windows, where the advance is at least 1 and at most the size.
 pub fn window_in(op: &Op) -> Option<(Option<&Name>, Hops)>
-    ensures window { option_map (λ g. (option_copied g.0, hops_view g.1)) result ≡ has_window (op_view op.now) }
+    ensures window { option_map (λ g. (option_copied g.0, hops_view g.1)) result
+        ≡ has_window (op_view op.now) }
     ensures good { IfSome result (λ g. (1 ≤ g.1.advance) × (g.1.advance ≤ g.1.size)) }
 {
     match op {

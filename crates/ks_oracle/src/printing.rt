@@ -36,7 +36,8 @@ fn plain_rows(alloc: Global, rows: &Rows) -> Result<Vec<TableRow>, AllocError>
 }
 
 fn window_rows(alloc: Global, spans: &Spans) -> Result<Vec<TableRow>, AllocError>
-    ensures { IfOk result (λ v. v.items ≡ map window_row (map (λ e. (e.0, row_of true e.1)) (fin.entries spans.now))) }
+    ensures { IfOk result (λ v. v.items ≡ map window_row
+        (map (λ e. (e.0, row_of true e.1)) (fin.entries spans.now))) }
 {
     let list = spans.list(alloc)?;
     let mut printed = Vec::new(alloc);
@@ -53,7 +54,8 @@ fn window_rows(alloc: Global, spans: &Spans) -> Result<Vec<TableRow>, AllocError
 }
 
 fn counted_rows(alloc: Global, found: &[Answer], n: usize) -> Result<Vec<TableRow>, AllocError>
-    ensures { IfOk result (λ v. v.items ≡ map window_row (fin.entries ((answers_of found.now).windows n))) }
+    ensures { IfOk result (λ v. v.items ≡ map window_row
+        (fin.entries ((answers_of found.now).windows n))) }
 {
     let empty = Spans::new(alloc);
     window_rows(alloc, spans_at(found, n, &empty))
@@ -123,7 +125,8 @@ pub fn tables_named(
     found: &[Answer],
     names: &[Blob],
 ) -> Result<Vec<Table>, AllocError>
-    ensures { IfOk result (λ v. v.items ≡ some_of (named nodes.now (answers_of found.now)) names.now) }
+    ensures { IfOk result (λ v. v.items ≡ some_of (named nodes.now (answers_of found.now))
+        names.now) }
 {
     let mut tables = Vec::new(alloc);
     let mut rest = names;

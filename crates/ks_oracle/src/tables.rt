@@ -15,7 +15,8 @@ use std::alloc::{AllocError, Global};
 
 // What a record does to its topic's table; nothing where it has no key.
 fn change_row(rows: &mut Rows, input: &JobRecord) -> Result<(), AllocError>
-    ensures { OnOk result (rows.new ≡ fold (λ m r. write by_bytes m r.0 r.1) rows.old (table_changes (input.now ∷ []))) }
+    ensures { OnOk result (rows.new ≡ fold (λ m r. write by_bytes m r.0 r.1) rows.old
+        (table_changes (input.now ∷ []))) }
 {
     let Some(key) = input.key() else {
         return Ok(());
@@ -44,7 +45,8 @@ pub fn latest_rows(alloc: Global, topic: u16, records: &[JobRecord]) -> Result<R
 }
 
 pub fn filtered_rows(alloc: Global, test: &Pred, rows: &Rows) -> Result<Rows, AllocError>
-    ensures { IfOk result (λ t. t ≡ map_values (λ v. cond (holds (test_of test.now) v) (Some v) None) rows.now) }
+    ensures { IfOk result (λ t. t ≡ map_values
+        (λ v. cond (holds (test_of test.now) v) (Some v) None) rows.now) }
 {
     let list = rows.list(alloc)?;
     let mut kept = Rows::new(alloc);
@@ -57,7 +59,8 @@ pub fn filtered_rows(alloc: Global, test: &Pred, rows: &Rows) -> Result<Rows, Al
 }
 
 pub fn mapped_rows(alloc: Global, set: &Proj, rows: &Rows) -> Result<Rows, AllocError>
-    ensures { IfOk result (λ t. t ≡ map_values (λ v. project (set_of set.now) (Some v) None) rows.now) }
+    ensures { IfOk result (λ t. t ≡ map_values (λ v. project (set_of set.now) (Some v) None)
+        rows.now) }
 {
     let list = rows.list(alloc)?;
     let mut made = Rows::new(alloc);

@@ -24,8 +24,10 @@ pub fn assign_group(
     requires threads { 1 ≤ placing.now.threads }
     ensures good { IfOk result (λ o. IfSome o (IsGoodBy (changelog_numbers (plan_in topology.now))
         (tasks (plan_in topology.now)) placing.now status.now)) }
-    ensures none { IfOk result (λ o. o ≡ None → clients_of placing.now.threads status.now.members ≡ []) }
-    ensures some { IfOk result (λ o. o ≢ None → clients_of placing.now.threads status.now.members ≢ []) }
+    ensures none { IfOk result (λ o. o ≡ None → clients_of placing.now.threads status.now.members
+        ≡ []) }
+    ensures some { IfOk result (λ o. o ≢ None → clients_of placing.now.threads status.now.members
+        ≢ []) }
 {
     let clients = clients_of(alloc, placing.threads, status.members.as_slice())?;
     if clients.is_empty() {

@@ -116,11 +116,12 @@ usual_grace = 86400000
 abbrev pub window_of : ℤ → Option ℤ → Option ℤ → Window
 window_of size advance grace = record { size = natural size; advance = or_number advance (natural size); grace = or_number grace usual_grace }
 
--- its items' keys aren't those of the topic that its input was read from: they are grouped anew, or a select_key stands between
+-- whether an aggregate over the stream x goes through a repartition topic: it has a group, or a select_key stands between x and its
+-- source
 abbrev pub goes_through : Option Name → Known → Bool
 goes_through by x = is_some by || x.rekeyed
 
--- a filter, a map and a count or sum of what x is, the node numbered f: a stream or a table
+-- a filter, a map and a count or sum over x, the node numbered f: of a stream where x is one, else of a table
 abbrev pub filter_of : Known → ℕ → Test → Kind
 filter_of x f test = cond (is_stream x.kind) (StreamFilter f test) (TableFilter f test)
 

@@ -21,8 +21,10 @@ fn count_in(
     time: u64,
     window: &HoppingWindow,
 ) -> Result<(u64, Vec<Rec>), AllocError>
-    ensures late { IfOk result (λ r. r.0 ≡ (counted window.now (stores_in changelogs.now number) key.now time).late) }
-    ensures recs { IfOk result (λ r. r.1.items ≡ (counted window.now (stores_in changelogs.now number) key.now time).recs) }
+    ensures late { IfOk result (λ r. r.0 ≡ (counted window.now (stores_in changelogs.now number)
+        key.now time).late) }
+    ensures recs { IfOk result (λ r. r.1.items
+        ≡ (counted window.now (stores_in changelogs.now number) key.now time).recs) }
 {
     let mut rest = changelogs;
     while let [changelog, more @ ..] = rest {
@@ -42,8 +44,11 @@ pub fn count_of(
     node: &ProcessorNode<'_>,
     values: &NodeValues<'_, '_>,
 ) -> Result<(u64, Vec<Rec>), AllocError>
-    ensures late { IfOk result (λ r. r.0 ≡ (counts_at (stores_in step.now.changelogs.now) (arrival_of step.now.stamped.now) (items_in values.now) (node_view node.now)).late) }
-    ensures recs { IfOk result (λ r. r.1.items ≡ (counts_at (stores_in step.now.changelogs.now) (arrival_of step.now.stamped.now) (items_in values.now) (node_view node.now)).recs) }
+    ensures late { IfOk result (λ r. r.0 ≡ (counts_at (stores_in step.now.changelogs.now)
+        (arrival_of step.now.stamped.now) (items_in values.now) (node_view node.now)).late) }
+    ensures recs { IfOk result (λ r. r.1.items
+        ≡ (counts_at (stores_in step.now.changelogs.now) (arrival_of step.now.stamped.now)
+        (items_in values.now) (node_view node.now)).recs) }
 {
     let topics = node.topics;
     match &node.processor {

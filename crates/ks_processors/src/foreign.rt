@@ -82,7 +82,8 @@ fn direct_value<'a>(
     before: &Option<Row>,
     now: &Option<Row>,
 ) -> Result<NewValue<'a>, AllocError>
-    ensures { IfOk result (λ v. value_view v ≡ direct join.now.foreign_key.now join.now.kind (set_of join.now.set.now) before.now now.now (stored_in old.entry)) }
+    ensures { IfOk result (λ v. value_view v ≡ direct join.now.foreign_key.now join.now.kind
+        (set_of join.now.set.now) before.now now.now (stored_in old.entry)) }
 {
     if is_direct(alloc, join.foreign_key, before, now)? {
         Ok(value_of_row(left_alone(alloc, join, now)?))
@@ -99,7 +100,9 @@ fn responded_value<'a, H: Hash128>(
     values: &NodeValues<'_, '_>,
     stamped: &StampedRecord<'_>,
 ) -> Result<NewValue<'a>, AllocError>
-    ensures { IfOk result (λ v. value_view v ≡ responded (rules_of H.hash_of) join.now.kind (set_of join.now.set.now) (row_in (news_in values.now) join.now.left) (arrived (arrival_of stamped.now) (Responses number)) (stored_in old.entry)) }
+    ensures { IfOk result (λ v. value_view v ≡ responded (rules_of H.hash_of) join.now.kind
+        (set_of join.now.set.now) (row_in (news_in values.now) join.now.left)
+        (arrived (arrival_of stamped.now) (Responses number)) (stored_in old.entry)) }
 {
     if !is_same_topic(stamped.topic, Topic::Responses(number)) {
         return Ok(NewValue::Unchanged(old));
@@ -124,7 +127,10 @@ pub fn foreign_value<'a, H: Hash128>(
     values: &NodeValues<'_, '_>,
     stamped: &StampedRecord<'_>,
 ) -> Result<NewValue<'a>, AllocError>
-    ensures { IfOk result (λ v. value_view v ≡ foreign_stored (rules_of H.hash_of) join.now.foreign_key.now join.now.kind (set_of join.now.set.now) (olds_in values.now) (news_in values.now) join.now.left (arrived (arrival_of stamped.now) (Responses number)) (stored_in old.entry)) }
+    ensures { IfOk result (λ v. value_view v ≡ foreign_stored (rules_of H.hash_of)
+        join.now.foreign_key.now join.now.kind (set_of join.now.set.now) (olds_in values.now)
+        (news_in values.now) join.now.left (arrived (arrival_of stamped.now) (Responses number))
+        (stored_in old.entry)) }
 {
     if is_changed(alloc, values, join.left)? {
         let before = old_row(alloc, values, join.left)?;
@@ -144,7 +150,8 @@ fn push_subscriptions(
     asked: &[(Key, Subscription)],
     time: u64,
 ) -> Result<(), AllocError>
-    ensures { OnOk result (out.new.items ≡ out.old.items ++ map (asked_by (node_view node.now) time) asked.now) }
+    ensures { OnOk result (out.new.items ≡ out.old.items
+        ++ map (asked_by (node_view node.now) time) asked.now) }
 {
     let topics = node.topics;
     for (foreign, subscription) in asked {
@@ -162,7 +169,9 @@ fn push_responses(
     responses: &[(Key, Response)],
     time: u64,
 ) -> Result<(), AllocError>
-    ensures { OnOk result (out.new.items ≡ out.old.items ++ map (sent_by (node_view node.now) time) (send_responses node.now.topics.number responses.now)) }
+    ensures { OnOk result (out.new.items ≡ out.old.items
+        ++ map (sent_by (node_view node.now) time)
+        (send_responses node.now.topics.number responses.now)) }
 {
     let topics = node.topics;
     for (left, response) in responses {
@@ -189,7 +198,10 @@ fn push_left<H: Hash128>(
     change: &Change,
     time: u64,
 ) -> Result<(), AllocError>
-    ensures { OnOk result (out.new.items ≡ out.old.items ++ map (sent_by (node_view node.now) time) (send_subscriptions node.now.topics.number change.now.key (asked_of (rules_of H.hash_of).hash name.now change.now.old change.now.new))) }
+    ensures { OnOk result (out.new.items ≡ out.old.items
+        ++ map (sent_by (node_view node.now) time)
+        (send_subscriptions node.now.topics.number change.now.key
+        (asked_of (rules_of H.hash_of).hash name.now change.now.old change.now.new))) }
 {
     let (asked, _) = subscriptions::<H>(alloc, name, change)?;
     push_subscriptions(alloc, out, node, &asked, time)
@@ -201,7 +213,8 @@ fn responses_in(
     number: u16,
     change: &Change,
 ) -> Result<Vec<(Key, Response)>, AllocError>
-    ensures { IfOk result (λ v. v.items ≡ answer_all change.now.new (kept_under change.now.key (stores_in changelogs.now number))) }
+    ensures { IfOk result (λ v. v.items ≡ answer_all change.now.new
+        (kept_under change.now.key (stores_in changelogs.now number))) }
 {
     let mut rest = changelogs;
     while let [changelog, more @ ..] = rest {
@@ -220,7 +233,8 @@ fn responses_to(
     node: &ProcessorNode<'_>,
     change: &Change,
 ) -> Result<Vec<(Key, Response)>, AllocError>
-    ensures { IfOk result (λ v. v.items ≡ answer_all change.now.new (hashes_at (stores_in changelogs.now) (node_view node.now) change.now.key)) }
+    ensures { IfOk result (λ v. v.items ≡ answer_all change.now.new
+        (hashes_at (stores_in changelogs.now) (node_view node.now) change.now.key)) }
 {
     if node.topics.has_right {
         responses_in(alloc, changelogs, node.topics.hash_changelog, change)
@@ -238,7 +252,11 @@ fn push_right(
     change: &Change,
     time: u64,
 ) -> Result<(), AllocError>
-    ensures { OnOk result (out.new.items ≡ out.old.items ++ map (sent_by (node_view node.now) time) (send_responses node.now.topics.number (answer_all change.now.new (hashes_at (stores_in changelogs.now) (node_view node.now) change.now.key)))) }
+    ensures { OnOk result (out.new.items ≡ out.old.items
+        ++ map (sent_by (node_view node.now) time)
+        (send_responses node.now.topics.number
+        (answer_all change.now.new (hashes_at (stores_in changelogs.now) (node_view node.now)
+        change.now.key)))) }
 {
     let responses = responses_to(alloc, changelogs, node, change)?;
     push_responses(alloc, out, node, &responses, time)
@@ -253,7 +271,10 @@ fn push_left_if<H: Hash128>(
     key: &Key,
     time: u64,
 ) -> Result<(), AllocError>
-    ensures { OnOk result (out.new.items ≡ out.old.items ++ map (sent_by (node_view node.now) time) (left_sends (rules_of H.hash_of) (node_view node.now) join.now.foreign_key.now key.now (row_in (olds_in values.now) join.now.left) (row_in (news_in values.now) join.now.left))) }
+    ensures { OnOk result (out.new.items ≡ out.old.items
+        ++ map (sent_by (node_view node.now) time)
+        (left_sends (rules_of H.hash_of) (node_view node.now) join.now.foreign_key.now key.now
+        (row_in (olds_in values.now) join.now.left) (row_in (news_in values.now) join.now.left))) }
 {
     if is_changed(alloc, values, join.left)? {
         let change = change_at(alloc, values, key.clone()?, join.left)?;
@@ -272,7 +293,10 @@ fn push_right_if(
     values: &NodeValues<'_, '_>,
     key: &Key,
 ) -> Result<(), AllocError>
-    ensures { OnOk result (out.new.items ≡ out.old.items ++ map (sent_by (node_view node.now) step.now.stamped.now.time) (right_sends (stores_in step.now.changelogs.now) (node_view node.now) key.now (row_in (olds_in values.now) right) (row_in (news_in values.now) right))) }
+    ensures { OnOk result (out.new.items ≡ out.old.items
+        ++ map (sent_by (node_view node.now) step.now.stamped.now.time)
+        (right_sends (stores_in step.now.changelogs.now) (node_view node.now) key.now
+        (row_in (olds_in values.now) right) (row_in (news_in values.now) right))) }
 {
     if is_changed(alloc, values, right)? {
         let change = change_at(alloc, values, key.clone()?, right)?;
@@ -299,7 +323,11 @@ pub fn push_join<H: Hash128>(
     join: &ForeignKeyJoin<'_>,
     values: &NodeValues<'_, '_>,
 ) -> Result<(), AllocError>
-    ensures { OnOk result (out.new.items ≡ out.old.items ++ map (sent_by (node_view node.now) step.now.stamped.now.time) (join_here (rules_of H.hash_of) (stores_in step.now.changelogs.now) (node_view node.now) join.now.foreign_key.now join.now.left join.now.right (olds_in values.now) (news_in values.now) (step_key (message_of step.now.stamped.now.payload)))) }
+    ensures { OnOk result (out.new.items ≡ out.old.items
+        ++ map (sent_by (node_view node.now) step.now.stamped.now.time)
+        (join_here (rules_of H.hash_of) (stores_in step.now.changelogs.now) (node_view node.now)
+        join.now.foreign_key.now join.now.left join.now.right (olds_in values.now)
+        (news_in values.now) (step_key (message_of step.now.stamped.now.payload)))) }
 {
     let Some(key) = step.stamped.key() else {
         return Ok(());
@@ -317,7 +345,9 @@ fn right_row(
     right: u8,
     foreign: &Key,
 ) -> Result<Option<Row>, AllocError>
-    ensures { IfOk result (λ r. r ≡ option_map shown (in_list (old_list (stores_in step.now.changelogs.now) (Some foreign.now) (map node_view step.now.nodes.now)) right)) }
+    ensures { IfOk result (λ r. r ≡ option_map shown
+        (in_list (old_list (stores_in step.now.changelogs.now) (Some foreign.now)
+        (map node_view step.now.nodes.now)) right)) }
 {
     match step.nodes.get(right as usize) {
         Some(node) => stored_row(alloc, stored_value(step.changelogs, foreign, node)),
@@ -333,7 +363,9 @@ fn push_response(
     response: Option<Response>,
     time: u64,
 ) -> Result<(), AllocError>
-    ensures { OnOk result (out.new.items ≡ out.old.items ++ map (sent_by (node_view node.now) time) (send_responses node.now.topics.number (answer_of left.now response))) }
+    ensures { OnOk result (out.new.items ≡ out.old.items
+        ++ map (sent_by (node_view node.now) time)
+        (send_responses node.now.topics.number (answer_of left.now response))) }
 {
     let Some(response) = response else {
         return Ok(());
@@ -359,7 +391,11 @@ pub fn push_answer(
     node: &ProcessorNode<'_>,
     right: u8,
 ) -> Result<(), AllocError>
-    ensures { OnOk result (out.new.items ≡ out.old.items ++ map (sent_by (node_view node.now) step.now.stamped.now.time) (answer_here (map node_view step.now.nodes.now) (stores_in step.now.changelogs.now) node.now.topics.number right (arrived (arrival_of step.now.stamped.now) (Subscriptions node.now.topics.number)))) }
+    ensures { OnOk result (out.new.items ≡ out.old.items
+        ++ map (sent_by (node_view node.now) step.now.stamped.now.time)
+        (answer_here (map node_view step.now.nodes.now) (stores_in step.now.changelogs.now)
+        node.now.topics.number right (arrived (arrival_of step.now.stamped.now)
+        (Subscriptions node.now.topics.number)))) }
 {
     if !is_same_topic(step.stamped.topic, Topic::Subscriptions(node.topics.number)) {
         return Ok(());
@@ -403,7 +439,8 @@ fn stored_hash(
     foreign: &Key,
     left: &Key,
 ) -> Result<Option<u128>, AllocError>
-    ensures { IfOk result (λ h. h ≡ hash_found (stores_in changelogs.now) (node_view node.now) foreign.now left.now) }
+    ensures { IfOk result (λ h. h ≡ hash_found (stores_in changelogs.now) (node_view node.now)
+        foreign.now left.now) }
 {
     if !node.topics.has_right {
         return Ok(None);
@@ -443,7 +480,9 @@ fn push_new_hash(
     left: &Key,
     hash: Option<u128>,
 ) -> Result<(), AllocError>
-    ensures { OnOk result (out.new.items ≡ out.old.items ++ hash_told (node_view node.now) step.now.partition step.now.stamped.now.time (KeptHash foreign.now left.now hash) ∷ []) }
+    ensures { OnOk result (out.new.items ≡ out.old.items
+        ++ hash_told (node_view node.now) step.now.partition step.now.stamped.now.time
+        (KeptHash foreign.now left.now hash) ∷ []) }
 {
     let key = write_subscription_key(alloc, foreign, left)?;
     let value = hash_value(alloc, hash)?;
@@ -469,7 +508,10 @@ fn push_other_hash(
     foreign: &Key,
     subscription: &Subscription,
 ) -> Result<(), AllocError>
-    ensures { OnOk result (out.new.items ≡ out.old.items ++ map (hash_told (node_view node.now) step.now.partition step.now.stamped.now.time) (hash_here (stores_in step.now.changelogs.now) (node_view node.now) (Some (Asked foreign.now subscription.now.left (subscription_of subscription.now))))) }
+    ensures { OnOk result (out.new.items ≡ out.old.items
+        ++ map (hash_told (node_view node.now) step.now.partition step.now.stamped.now.time)
+        (hash_here (stores_in step.now.changelogs.now) (node_view node.now)
+        (Some (Asked foreign.now subscription.now.left (subscription_of subscription.now))))) }
 {
     let old = stored_hash(alloc, step.changelogs, node, foreign, subscription.left())?;
     let new = subscribed_hash(subscription);
@@ -486,7 +528,9 @@ pub fn push_hash(
     step: &Step<'_>,
     node: &ProcessorNode<'_>,
 ) -> Result<(), AllocError>
-    ensures { OnOk result (out.new.items ≡ out.old.items ++ hashed_by step.now.partition (stores_in step.now.changelogs.now) (arrival_of step.now.stamped.now) (node_view node.now)) }
+    ensures { OnOk result (out.new.items ≡ out.old.items
+        ++ hashed_by step.now.partition (stores_in step.now.changelogs.now)
+        (arrival_of step.now.stamped.now) (node_view node.now)) }
 {
     if !is_same_topic(step.stamped.topic, Topic::Subscriptions(node.topics.number)) {
         return Ok(());

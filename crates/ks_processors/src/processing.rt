@@ -26,7 +26,8 @@ fn changed_at(
     values: &NodeValues<'_, '_>,
     number: u8,
 ) -> Result<Option<Option<Blob>>, AllocError>
-    ensures { IfOk result (λ o. o ≡ changed_bytes (olds_in values.now number) (news_in values.now number)) }
+    ensures { IfOk result (λ o. o ≡ changed_bytes (olds_in values.now number)
+        (news_in values.now number)) }
 {
     match values.news.get(number as usize) {
         Some(new) => changed_value(alloc, old_value(values.olds, number), new),
@@ -42,7 +43,9 @@ fn push_change(
     node: &ProcessorNode<'_>,
     values: &NodeValues<'_, '_>,
 ) -> Result<(), AllocError>
-    ensures { OnOk result (out.new.items ≡ out.old.items ++ change_by step.now.partition (arrival_of step.now.stamped.now) (olds_in values.now) (news_in values.now) (node_view node.now)) }
+    ensures { OnOk result (out.new.items ≡ out.old.items
+        ++ change_by step.now.partition (arrival_of step.now.stamped.now) (olds_in values.now)
+        (news_in values.now) (node_view node.now)) }
 {
     let Some(key) = step.stamped.key() else {
         return Ok(());
@@ -75,8 +78,13 @@ fn push_records(
     node: &ProcessorNode<'_>,
     values: &NodeValues<'_, '_>,
 ) -> Result<u64, AllocError>
-    ensures out { OnOk result (out.new.items ≡ out.old.items ++ recs_by step.now.partition (stores_in step.now.changelogs.now) (arrival_of step.now.stamped.now) (items_in values.now) (olds_in values.now) (news_in values.now) (node_view node.now)) }
-    ensures late { IfOk result (λ n. n ≡ capped (late + (counts_at (stores_in step.now.changelogs.now) (arrival_of step.now.stamped.now) (items_in values.now) (node_view node.now)).late)) }
+    ensures out { OnOk result (out.new.items ≡ out.old.items
+        ++ recs_by step.now.partition (stores_in step.now.changelogs.now)
+        (arrival_of step.now.stamped.now) (items_in values.now) (olds_in values.now)
+        (news_in values.now) (node_view node.now)) }
+    ensures late { IfOk result (λ n. n ≡ capped
+        (late + (counts_at (stores_in step.now.changelogs.now) (arrival_of step.now.stamped.now)
+        (items_in values.now) (node_view node.now)).late)) }
 {
     push_change(alloc, out, step, node, values)?;
     let (more, recs) = count_of(alloc, step, node, values)?;
@@ -92,8 +100,13 @@ fn push_all_records(
     nodes: &[ProcessorNode<'_>],
     values: &NodeValues<'_, '_>,
 ) -> Result<u64, AllocError>
-    ensures out { OnOk result (out.new.items ≡ out.old.items ++ all_recs step.now.partition (stores_in step.now.changelogs.now) (arrival_of step.now.stamped.now) (items_in values.now) (olds_in values.now) (news_in values.now) (map node_view nodes.now)) }
-    ensures late { IfOk result (λ n. n ≡ capped (late_of (stores_in step.now.changelogs.now) (arrival_of step.now.stamped.now) (items_in values.now) (map node_view nodes.now))) }
+    ensures out { OnOk result (out.new.items ≡ out.old.items
+        ++ all_recs step.now.partition (stores_in step.now.changelogs.now)
+        (arrival_of step.now.stamped.now) (items_in values.now) (olds_in values.now)
+        (news_in values.now) (map node_view nodes.now)) }
+    ensures late { IfOk result (λ n. n ≡ capped
+        (late_of (stores_in step.now.changelogs.now) (arrival_of step.now.stamped.now)
+        (items_in values.now) (map node_view nodes.now))) }
 {
     let mut late = 0;
     let mut rest = nodes;
@@ -111,8 +124,13 @@ fn output_of<H: Hash128>(
     step: &Step<'_>,
     values: &NodeValues<'_, '_>,
 ) -> Result<StepOutput, AllocError>
-    ensures records { IfOk result (λ m. m.records.items ≡ made_with (rules_of H.hash_of) (map node_view step.now.nodes.now) (stores_in step.now.changelogs.now) step.now.partition (arrival_of step.now.stamped.now) (items_in values.now) (olds_in values.now) (news_in values.now)) }
-    ensures late { IfOk result (λ m. m.late ≡ capped (late_of (stores_in step.now.changelogs.now) (arrival_of step.now.stamped.now) (items_in values.now) (map node_view step.now.nodes.now))) }
+    ensures records { IfOk result (λ m. m.records.items
+        ≡ made_with (rules_of H.hash_of) (map node_view step.now.nodes.now)
+        (stores_in step.now.changelogs.now) step.now.partition (arrival_of step.now.stamped.now)
+        (items_in values.now) (olds_in values.now) (news_in values.now)) }
+    ensures late { IfOk result (λ m. m.late ≡ capped
+        (late_of (stores_in step.now.changelogs.now) (arrival_of step.now.stamped.now)
+        (items_in values.now) (map node_view step.now.nodes.now))) }
 {
     let mut records = sends_of::<H>(alloc, step, values)?;
     let late = push_all_records(alloc, &mut records, step, step.nodes, values)?;
@@ -125,8 +143,14 @@ fn process_stored<'i, 's, H: Hash128>(
     items: &'i [Option<Item>],
     olds: &'i [Option<StoredValue<'s>>],
 ) -> Result<StepOutput, AllocError>
-    ensures records { IfOk result (λ m. m.records.items ≡ made_at (rules_of H.hash_of) (map node_view step.now.nodes.now) (stores_in step.now.changelogs.now) step.now.partition (arrival_of step.now.stamped.now) (item_in (views items.now)) (old_values olds.now) (step_key (message_of step.now.stamped.now.payload))) }
-    ensures late { IfOk result (λ m. m.late ≡ capped (late_of (stores_in step.now.changelogs.now) (arrival_of step.now.stamped.now) (item_in (views items.now)) (map node_view step.now.nodes.now))) }
+    ensures records { IfOk result (λ m. m.records.items
+        ≡ made_at (rules_of H.hash_of) (map node_view step.now.nodes.now)
+        (stores_in step.now.changelogs.now) step.now.partition (arrival_of step.now.stamped.now)
+        (item_in (views items.now)) (old_values olds.now)
+        (step_key (message_of step.now.stamped.now.payload))) }
+    ensures late { IfOk result (λ m. m.late ≡ capped
+        (late_of (stores_in step.now.changelogs.now) (arrival_of step.now.stamped.now)
+        (item_in (views items.now)) (map node_view step.now.nodes.now))) }
 {
     let news = next_values::<H>(alloc, step.nodes, items, olds, step.stamped)?;
     let values = NodeValues {
@@ -142,8 +166,15 @@ fn process_items<'i, 's, H: Hash128>(
     step: &Step<'s>,
     items: &'i [Option<Item>],
 ) -> Result<StepOutput, AllocError>
-    ensures records { IfOk result (λ m. m.records.items ≡ made_at (rules_of H.hash_of) (map node_view step.now.nodes.now) (stores_in step.now.changelogs.now) step.now.partition (arrival_of step.now.stamped.now) (item_in (views items.now)) (in_list (old_list (stores_in step.now.changelogs.now) (step_key (message_of step.now.stamped.now.payload)) (map node_view step.now.nodes.now))) (step_key (message_of step.now.stamped.now.payload))) }
-    ensures late { IfOk result (λ m. m.late ≡ capped (late_of (stores_in step.now.changelogs.now) (arrival_of step.now.stamped.now) (item_in (views items.now)) (map node_view step.now.nodes.now))) }
+    ensures records { IfOk result (λ m. m.records.items
+        ≡ made_at (rules_of H.hash_of) (map node_view step.now.nodes.now)
+        (stores_in step.now.changelogs.now) step.now.partition (arrival_of step.now.stamped.now)
+        (item_in (views items.now)) (in_list (old_list (stores_in step.now.changelogs.now)
+        (step_key (message_of step.now.stamped.now.payload)) (map node_view step.now.nodes.now)))
+        (step_key (message_of step.now.stamped.now.payload))) }
+    ensures late { IfOk result (λ m. m.late ≡ capped
+        (late_of (stores_in step.now.changelogs.now) (arrival_of step.now.stamped.now)
+        (item_in (views items.now)) (map node_view step.now.nodes.now))) }
 {
     let olds = stored_values(alloc, step.changelogs, step.nodes, step.stamped)?;
     process_stored::<H>(alloc, step, items, olds.as_slice())
@@ -152,8 +183,12 @@ fn process_items<'i, 's, H: Hash128>(
 /// All that the nodes make of a record in one step: what is sent, then the changelog records, and how many pairs of an item and a window
 /// were late, up to the greatest number. Rows are hashed by H. Want of memory is the one error.
 pub fn process<'s, H: Hash128>(alloc: Global, step: &Step<'s>) -> Result<StepOutput, AllocError>
-    ensures records { IfOk result (λ m. m.records.items ≡ made_of (rules_of H.hash_of) (map node_view step.now.nodes.now) (stores_in step.now.changelogs.now) step.now.partition (arrival_of step.now.stamped.now)) }
-    ensures late { IfOk result (λ m. m.late ≡ capped (late_in (map node_view step.now.nodes.now) (stores_in step.now.changelogs.now) (arrival_of step.now.stamped.now))) }
+    ensures records { IfOk result (λ m. m.records.items
+        ≡ made_of (rules_of H.hash_of) (map node_view step.now.nodes.now)
+        (stores_in step.now.changelogs.now) step.now.partition (arrival_of step.now.stamped.now)) }
+    ensures late { IfOk result (λ m. m.late ≡ capped
+        (late_in (map node_view step.now.nodes.now) (stores_in step.now.changelogs.now)
+        (arrival_of step.now.stamped.now))) }
 {
     let items = items_of(alloc, step.nodes, step.stamped)?;
     process_items::<H>(alloc, step, items.as_slice())

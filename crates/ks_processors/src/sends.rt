@@ -37,8 +37,10 @@ pub fn send_to(
     value: Blob,
     time: u64,
 ) -> Result<(PartId, Rec), AllocError>
-    ensures part { IfOk result (λ x. x.0 ≡ record { topic = topic; part = part_in key.now partitions }) }
-    ensures rec { IfOk result (λ x. x.1 ≡ record { key = Some key.now; value = Some value; ts = time }) }
+    ensures part { IfOk result (λ x. x.0 ≡ record
+        { topic = topic; part = part_in key.now partitions }) }
+    ensures rec { IfOk result (λ x. x.1 ≡ record
+        { key = Some key.now; value = Some value; ts = time }) }
 {
     let bytes = key.as_str().as_bytes();
     let part = PartId {
@@ -62,7 +64,9 @@ fn push_deltas(
     deltas: &[(Key, Delta)],
     time: u64,
 ) -> Result<(), AllocError>
-    ensures { OnOk result (out.new.items ≡ out.old.items ++ map (sent_by (node_view node.now) time) (send_deltas node.now.topics.number deltas.now)) }
+    ensures { OnOk result (out.new.items ≡ out.old.items
+        ++ map (sent_by (node_view node.now) time)
+        (send_deltas node.now.topics.number deltas.now)) }
 {
     let topics = node.topics;
     for (group, delta) in deltas {
@@ -97,7 +101,9 @@ fn push_item(
     item: &Item,
     time: u64,
 ) -> Result<(), AllocError>
-    ensures { OnOk result (out.new.items ≡ out.old.items ++ map (sent_by (node_view node.now) time) (regroup by.now node.now.topics.number (Some (item_view item.now)))) }
+    ensures { OnOk result (out.new.items ≡ out.old.items
+        ++ map (sent_by (node_view node.now) time)
+        (regroup by.now node.now.topics.number (Some (item_view item.now)))) }
 {
     let Some(group) = group_of(alloc, by, item)? else {
         return Ok(());
@@ -132,7 +138,10 @@ fn push_row_change(
     change: &Change,
     time: u64,
 ) -> Result<(), AllocError>
-    ensures { OnOk result (out.new.items ≡ out.old.items ++ map (sent_by (node_view node.now) time) (regroup_rows by.now (option_copied field.entry) node.now.topics.number change.now.old change.now.new)) }
+    ensures { OnOk result (out.new.items ≡ out.old.items
+        ++ map (sent_by (node_view node.now) time)
+        (regroup_rows by.now (option_copied field.entry) node.now.topics.number change.now.old
+        change.now.new)) }
 {
     let deltas = table_parts(alloc, by, field, change)?;
     push_deltas(alloc, out, node, &deltas, time)
@@ -149,7 +158,10 @@ fn push_table_change(
     values: &NodeValues<'_, '_>,
     time: u64,
 ) -> Result<(), AllocError>
-    ensures { OnOk result (out.new.items ≡ out.old.items ++ map (sent_by (node_view node.now) time) (regroup_rows by.now (option_copied field.entry) node.now.topics.number (row_in (olds_in values.now) from) (row_in (news_in values.now) from))) }
+    ensures { OnOk result (out.new.items ≡ out.old.items
+        ++ map (sent_by (node_view node.now) time)
+        (regroup_rows by.now (option_copied field.entry) node.now.topics.number
+        (row_in (olds_in values.now) from) (row_in (news_in values.now) from))) }
 {
     let is_other = is_changed(alloc, values, from)?;
     if is_other {
@@ -168,7 +180,10 @@ fn push_sends<H: Hash128>(
     node: &ProcessorNode<'_>,
     values: &NodeValues<'_, '_>,
 ) -> Result<(), AllocError>
-    ensures { OnOk result (out.new.items ≡ out.old.items ++ sends_by (rules_of H.hash_of) (map node_view step.now.nodes.now) (stores_in step.now.changelogs.now) (arrival_of step.now.stamped.now) (items_in values.now) (olds_in values.now) (news_in values.now) (node_view node.now)) }
+    ensures { OnOk result (out.new.items ≡ out.old.items
+        ++ sends_by (rules_of H.hash_of) (map node_view step.now.nodes.now)
+        (stores_in step.now.changelogs.now) (arrival_of step.now.stamped.now) (items_in values.now)
+        (olds_in values.now) (news_in values.now) (node_view node.now)) }
 {
     let time = step.stamped.time;
     match &node.processor {
@@ -207,7 +222,10 @@ pub fn sends_of<H: Hash128>(
     step: &Step<'_>,
     values: &NodeValues<'_, '_>,
 ) -> Result<Vec<(PartId, Rec)>, AllocError>
-    ensures { IfOk result (λ v. v.items ≡ all_sends (rules_of H.hash_of) (map node_view step.now.nodes.now) (stores_in step.now.changelogs.now) (arrival_of step.now.stamped.now) (items_in values.now) (olds_in values.now) (news_in values.now) (map node_view step.now.nodes.now)) }
+    ensures { IfOk result (λ v. v.items ≡ all_sends (rules_of H.hash_of)
+        (map node_view step.now.nodes.now) (stores_in step.now.changelogs.now)
+        (arrival_of step.now.stamped.now) (items_in values.now) (olds_in values.now)
+        (news_in values.now) (map node_view step.now.nodes.now)) }
 {
     let mut out = Vec::new(alloc);
     for node in step.nodes {

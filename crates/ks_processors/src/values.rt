@@ -33,7 +33,8 @@ fn stored_values_at<'a>(
     nodes: &[ProcessorNode<'_>],
     key: &Key,
 ) -> Result<Vec<Option<StoredValue<'a>>>, AllocError>
-    ensures { IfOk result (λ v. map stored_in v.items ≡ map (stored_at (stores_in changelogs.now) key.now) (map node_view nodes.now)) }
+    ensures { IfOk result (λ v. map stored_in v.items
+        ≡ map (stored_at (stores_in changelogs.now) key.now) (map node_view nodes.now)) }
 {
     let mut olds = Vec::new(alloc);
     for node in nodes {
@@ -49,7 +50,9 @@ pub fn stored_values<'a>(
     nodes: &[ProcessorNode<'_>],
     stamped: &StampedRecord<'_>,
 ) -> Result<Vec<Option<StoredValue<'a>>>, AllocError>
-    ensures { IfOk result (λ v. map stored_in v.items ≡ old_list (stores_in changelogs.now) (step_key (message_of stamped.now.payload)) (map node_view nodes.now)) }
+    ensures { IfOk result (λ v. map stored_in v.items
+        ≡ old_list (stores_in changelogs.now) (step_key (message_of stamped.now.payload))
+        (map node_view nodes.now)) }
 {
     match stamped.key() {
         Some(key) => stored_values_at(alloc, changelogs, nodes, key),
@@ -83,7 +86,8 @@ fn source_value<'a>(
     old: Option<StoredValue<'a>>,
     stamped: &'a StampedRecord<'a>,
 ) -> NewValue<'a>
-    ensures { value_view result ≡ taken_row (stored_in old.entry) (arrived (arrival_of stamped.now) (Input topic)) }
+    ensures { value_view result ≡ taken_row (stored_in old.entry)
+        (arrived (arrival_of stamped.now) (Input topic)) }
 {
     if !is_same_topic(stamped.topic, Topic::Input(topic)) {
         return NewValue::Unchanged(old);
@@ -101,7 +105,8 @@ fn filter_value<'a>(
     old: Option<StoredValue<'a>>,
     values: &NodeValues<'_, '_>,
 ) -> Result<NewValue<'a>, AllocError>
-    ensures { IfOk result (λ v. value_view v ≡ filter_stored (test_of test.now) (olds_in values.now) (news_in values.now) from (stored_in old.entry)) }
+    ensures { IfOk result (λ v. value_view v ≡ filter_stored (test_of test.now) (olds_in values.now)
+        (news_in values.now) from (stored_in old.entry)) }
 {
     if !is_changed(alloc, values, from)? {
         return Ok(NewValue::Unchanged(old));
@@ -119,7 +124,8 @@ fn map_value<'a>(
     values: &NodeValues<'_, '_>,
 ) -> Result<NewValue<'a>, AllocError>
     requires { stored_in old ≡ olds_in values.now number }
-    ensures { IfOk result (λ v. value_view v ≡ map_stored (set_of set.now) (olds_in values.now) (news_in values.now) from (olds_in values.now number)) }
+    ensures { IfOk result (λ v. value_view v ≡ map_stored (set_of set.now) (olds_in values.now)
+        (news_in values.now) from (olds_in values.now number)) }
 {
     if !is_changed(alloc, values, from)? {
         return Ok(NewValue::Unchanged(old));
@@ -134,7 +140,9 @@ fn join_value<'a>(
     old: Option<StoredValue<'a>>,
     values: &NodeValues<'_, '_>,
 ) -> Result<NewValue<'a>, AllocError>
-    ensures { IfOk result (λ v. value_view v ≡ join_stored join.now.kind (set_of join.now.set.now) (olds_in values.now) (news_in values.now) join.now.left join.now.right (stored_in old.entry)) }
+    ensures { IfOk result (λ v. value_view v ≡ join_stored join.now.kind (set_of join.now.set.now)
+        (olds_in values.now) (news_in values.now) join.now.left join.now.right
+        (stored_in old.entry)) }
 {
     let left_changed = is_changed(alloc, values, join.left)?;
     let right_changed = is_changed(alloc, values, join.right)?;
@@ -154,7 +162,8 @@ fn table_aggregate_value<'a>(
     old: Option<StoredValue<'a>>,
     stamped: &StampedRecord<'_>,
 ) -> NewValue<'a>
-    ensures { value_view result ≡ applied (option_copied field.entry) (stored_in old.entry) (arrived (arrival_of stamped.now) (Repartition number)) }
+    ensures { value_view result ≡ applied (option_copied field.entry) (stored_in old.entry)
+        (arrived (arrival_of stamped.now) (Repartition number)) }
 {
     if !is_same_topic(stamped.topic, Topic::Repartition(number)) {
         return NewValue::Unchanged(old);
@@ -176,7 +185,8 @@ fn stream_aggregate_value<'a>(
     old: Option<StoredValue<'a>>,
     item: &Option<Item>,
 ) -> NewValue<'a>
-    ensures { value_view result ≡ added (option_copied field.entry) (stored_in old.entry) (option_map item_view item.now) }
+    ensures { value_view result ≡ added (option_copied field.entry) (stored_in old.entry)
+        (option_map item_view item.now) }
 {
     match item {
         Some(item) => NewValue::Aggregate {
@@ -196,7 +206,9 @@ fn new_value<'a, H: Hash128>(
     stamped: &'a StampedRecord<'a>,
 ) -> Result<NewValue<'a>, AllocError>
     requires { stored_in old ≡ olds_in values.now node.now.topics.number }
-    ensures { IfOk result (λ v. value_view v ≡ value_at (rules_of H.hash_of) (arrival_of stamped.now) (items_in values.now) (olds_in values.now) (news_in values.now) node.now.topics.number (kind_of node.now.processor)) }
+    ensures { IfOk result (λ v. value_view v ≡ value_at (rules_of H.hash_of)
+        (arrival_of stamped.now) (items_in values.now) (olds_in values.now) (news_in values.now)
+        node.now.topics.number (kind_of node.now.processor)) }
 {
     let number = node.topics.number;
     match &node.processor {
@@ -231,7 +243,10 @@ fn push_new_value<'a, 's, H: Hash128>(
     olds: &'s [Option<StoredValue<'a>>],
     stamped: &'a StampedRecord<'a>,
 ) -> Result<(), AllocError>
-    ensures { OnOk result (map value_view news.new.items ≡ map value_view news.old.items ++ value_at (rules_of H.hash_of) (arrival_of stamped.now) (item_in (views items.now)) (old_values olds.now) (new_values olds.now news.old.items) node.now.topics.number (kind_of node.now.processor) ∷ []) }
+    ensures { OnOk result (map value_view news.new.items ≡ map value_view news.old.items
+        ++ value_at (rules_of H.hash_of) (arrival_of stamped.now) (item_in (views items.now))
+        (old_values olds.now) (new_values olds.now news.old.items) node.now.topics.number
+        (kind_of node.now.processor) ∷ []) }
 {
     let old = old_value(olds, node.topics.number);
     let values = NodeValues {
@@ -251,7 +266,9 @@ fn new_values_at<'a, 's, H: Hash128>(
     olds: &'s [Option<StoredValue<'a>>],
     stamped: &'a StampedRecord<'a>,
 ) -> Result<Vec<NewValue<'a>>, AllocError>
-    ensures { IfOk result (λ v. map value_view v.items ≡ new_from (rules_of H.hash_of) (arrival_of stamped.now) (item_in (views items.now)) (old_values olds.now) [] (map node_view nodes.now)) }
+    ensures { IfOk result (λ v. map value_view v.items
+        ≡ new_from (rules_of H.hash_of) (arrival_of stamped.now) (item_in (views items.now))
+        (old_values olds.now) [] (map node_view nodes.now)) }
 {
     let mut news = Vec::new(alloc);
     let mut rest = nodes;
@@ -271,7 +288,10 @@ pub fn next_values<'a, 's, H: Hash128>(
     olds: &'s [Option<StoredValue<'a>>],
     stamped: &'a StampedRecord<'a>,
 ) -> Result<Vec<NewValue<'a>>, AllocError>
-    ensures { IfOk result (λ v. map value_view v.items ≡ new_list (rules_of H.hash_of) (arrival_of stamped.now) (item_in (views items.now)) (old_values olds.now) (step_key (message_of stamped.now.payload)) (map node_view nodes.now)) }
+    ensures { IfOk result (λ v. map value_view v.items
+        ≡ new_list (rules_of H.hash_of) (arrival_of stamped.now) (item_in (views items.now))
+        (old_values olds.now) (step_key (message_of stamped.now.payload))
+        (map node_view nodes.now)) }
 {
     match stamped.key() {
         Some(_) => new_values_at::<H>(alloc, nodes, items, olds, stamped),

@@ -10,6 +10,8 @@ ghost use Rattle.ks_record_line.specs.Ordered.{IsOrdered, MembersOrdered, unknow
 /// Of several unknown members the least by bytes is named: an object's members are in order in every reading.
 pub fn least_unknown_is_named()
     ensures ordered { (text : List ℕ) (d : Data) → read text ≡ Some d → IsOrdered d }
-    ensures rising { (form : Form) (ms : Members) → MembersOrdered ms → rises (unknown_names form ms) ≡ true }
-    ensures named { (form : Form) (ms : Members) → all_known form ms ≡ first_named (unknown_names form ms) }
+    ensures rising { (form : Form) (ms : Members) → MembersOrdered ms
+        → rises (unknown_names form ms) ≡ true }
+    ensures named { (form : Form) (ms : Members) → all_known form ms
+        ≡ first_named (unknown_names form ms) }
 {}

@@ -27,7 +27,8 @@ fn or_first<H: Hash128, W: Work>(
 ) -> Result<Option<Collision>, AllocError>
     requires { IsPart (setup_of W.plan cluster.now) part }
     ensures { IfOk result (λ o. option_map pair_of o ≡ option_or (option_map pair_of found)
-        (first_in (row_hash H.hash_of) (kind_as shown) (decided_records (state_of W.plan cluster.now) part))) }
+        (first_in (row_hash H.hash_of) (kind_as shown)
+        (decided_records (state_of W.plan cluster.now) part))) }
 {
     if let Some(found) = found {
         return Ok(Some(found));
@@ -44,7 +45,8 @@ pub fn first_in_parts<H: Hash128, W: Work>(
     topic: u16,
     parts: u8,
 ) -> Result<Option<Collision>, AllocError>
-    requires parts { (part : ℕ) → part + 1 ≤ parts → IsPart (setup_of W.plan cluster.now) (part_in topic part) }
+    requires parts { (part : ℕ) → part + 1 ≤ parts
+        → IsPart (setup_of W.plan cluster.now) (part_in topic part) }
     ensures { IfOk result (λ o. option_map pair_of o ≡ first_of (row_hash H.hash_of) (kind_as shown)
         (state_of W.plan cluster.now) topic (up_to parts)) }
 {

@@ -50,9 +50,11 @@ fn first_in_changelog<H: Hash128, W: Work>(
     topology: &Topology,
     place: u8,
 ) -> Result<Option<Collision>, AllocError>
-    requires counts { cluster.now.counts ≡ map (parts_of_topic (plan_in topology.now)) (topics_of (plan_in topology.now)) }
+    requires counts { cluster.now.counts ≡ map (parts_of_topic (plan_in topology.now))
+        (topics_of (plan_in topology.now)) }
     requires changelog { HasChangelog (plan_in topology.now) place }
-    ensures { IfOk result (λ o. option_map pair_of o ≡ in_parts (row_hash H.hash_of) (plan_in topology.now)
+    ensures { IfOk result (λ o. option_map pair_of o
+        ≡ in_parts (row_hash H.hash_of) (plan_in topology.now)
         (state_of W.plan cluster.now) place (up_to (parts_of (plan_in topology.now) place))) }
 {
     let node = node_at(topology, place as usize);
@@ -69,10 +71,12 @@ fn first_of_node<H: Hash128, W: Work>(
     topology: &Topology,
     place: usize,
 ) -> Result<Option<JoinCollision>, AllocError>
-    requires counts { cluster.now.counts ≡ map (parts_of_topic (plan_in topology.now)) (topics_of (plan_in topology.now)) }
+    requires counts { cluster.now.counts ≡ map (parts_of_topic (plan_in topology.now))
+        (topics_of (plan_in topology.now)) }
     requires node { place + 1 ≤ length (plan_in topology.now).kinds }
     ensures { IfOk result (λ o. option_map join_pair o ≡ option_map (named (draft_of topology.now))
-        (of_node (row_hash H.hash_of) (plan_in topology.now) (state_of W.plan cluster.now) place (kind_at (plan_in topology.now) place))) }
+        (of_node (row_hash H.hash_of) (plan_in topology.now) (state_of W.plan cluster.now) place
+        (kind_at (plan_in topology.now) place))) }
 {
     let node = node_at(topology, place);
     let Some(left) = left_of(node.wiring) else {
@@ -94,7 +98,8 @@ pub fn first_in_joins<H: Hash128, W: Work>(
     cluster: &Cluster<W>,
     topology: &Topology,
 ) -> Result<Option<JoinCollision>, AllocError>
-    requires { cluster.now.counts ≡ map (parts_of_topic (plan_in topology.now)) (topics_of (plan_in topology.now)) }
+    requires { cluster.now.counts ≡ map (parts_of_topic (plan_in topology.now))
+        (topics_of (plan_in topology.now)) }
     ensures { IfOk result (λ o. option_map join_pair o ≡ option_map (named (draft_of topology.now))
         (first_pair (row_hash H.hash_of) (plan_in topology.now) (state_of W.plan cluster.now))) }
 {

@@ -84,7 +84,8 @@ fn push_lag<W: Work>(
     requires of { IsOf topology.now (setup_of W.plan cluster.now) }
     requires task { has_task task (setup_of W.plan cluster.now).tasks ≡ true }
     ensures { OnOk result (lags.new.items ≡ lags.old.items
-        ++ task_lags (setup_of W.plan cluster.now) (state_of W.plan cluster.now) topic (task ∷ [])) }
+        ++ task_lags (setup_of W.plan cluster.now) (state_of W.plan cluster.now) topic
+        (task ∷ [])) }
 {
     if !has_number(topology.inputs(task.sub), topic) {
         return Ok(());
@@ -102,7 +103,8 @@ fn push_lags<W: Work>(
     lags: &mut Vec<Lag>,
 ) -> Result<(), AllocError>
     requires { IsOf topology.now (setup_of W.plan cluster.now) }
-    ensures { OnOk result (lags.new.items ≡ lags.old.items ++ task_lags (setup_of W.plan cluster.now)
+    ensures { OnOk result (lags.new.items ≡ lags.old.items
+        ++ task_lags (setup_of W.plan cluster.now)
         (state_of W.plan cluster.now) topic (setup_of W.plan cluster.now).tasks) }
 {
     let mut rest = topology.tasks();

@@ -33,14 +33,19 @@ pub fn report<H: Hash128, W: Work>(
     topology: &Topology,
 ) -> Result<Report, AllocError>
     requires of { IsOf topology.now (setup_of W.plan cluster.now) }
-    requires counts { cluster.now.counts ≡ map (parts_of_topic (plan_in topology.now)) (topics_of (plan_in topology.now)) }
-    ensures settled { IfOk result (λ r. r.settled ≡ true → IsSettled (setup_of W.plan cluster.now) (state_of W.plan cluster.now)) }
-    ensures unsettled { IfOk result (λ r. IsSettled (setup_of W.plan cluster.now) (state_of W.plan cluster.now) → r.settled ≡ true) }
+    requires counts { cluster.now.counts ≡ map (parts_of_topic (plan_in topology.now))
+        (topics_of (plan_in topology.now)) }
+    ensures settled { IfOk result (λ r. r.settled ≡ true
+        → IsSettled (setup_of W.plan cluster.now) (state_of W.plan cluster.now)) }
+    ensures unsettled { IfOk result (λ r. IsSettled (setup_of W.plan cluster.now)
+        (state_of W.plan cluster.now) → r.settled ≡ true) }
     ensures lags { IfOk result (λ r. r.lags.items ≡ lags_of (setup_of W.plan cluster.now)
         (state_of W.plan cluster.now) (drain_numbers (plan_in topology.now))) }
-    ensures pending { IfOk result (λ r. r.pending ≡ pending_producers (state_of W.plan cluster.now)) }
+    ensures pending { IfOk result (λ r. r.pending
+        ≡ pending_producers (state_of W.plan cluster.now)) }
     ensures late { IfOk result (λ r. r.late ≡ (state_of W.plan cluster.now).late) }
-    ensures collision { IfOk result (λ r. option_map join_pair r.collision ≡ option_map (named (draft_of topology.now))
+    ensures collision { IfOk result (λ r. option_map join_pair r.collision
+        ≡ option_map (named (draft_of topology.now))
         (first_pair (row_hash H.hash_of) (plan_in topology.now) (state_of W.plan cluster.now))) }
 {
     let lags = lags_in(alloc, cluster, topology)?;

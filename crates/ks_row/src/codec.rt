@@ -32,7 +32,8 @@ fn push_field(out: &mut Vec<u8>, field: &Field) -> Result<(), AllocError>
 
 #[tactic(auto, unfolding(crate::specs::Spelling::member_bytes))]
 fn push_member(out: &mut Vec<u8>, name: &Name, field: &Field) -> Result<(), AllocError>
-    ensures bytes { OnOk result (out.new.items ≡ out.old.items ++ member_bytes (name.now, field.now)) }
+    ensures bytes { OnOk result (out.new.items ≡ out.old.items
+        ++ member_bytes (name.now, field.now)) }
     ensures fits { OnOk result (FitsMember (name.now, field.now)) }
 {
     let bytes = name.as_str().as_bytes();
@@ -61,7 +62,8 @@ pub fn decode(alloc: Global, bytes: &[u8]) -> Result<Option<Row>, AllocError>
     // What is read is spelled so.
     ensures found { IfOk result (λ o. IfSome o (λ r. FitsRow r × (bytes.now ≡ spelling r))) }
     // What is spelled so is read.
-    ensures only { (ms : List Member) → FitsRow ms → bytes.now ≡ spelling ms → IfOk result (λ o. o ≡ Some ms) }
+    ensures only { (ms : List Member) → FitsRow ms → bytes.now ≡ spelling ms
+        → IfOk result (λ o. o ≡ Some ms) }
     ensures exact { IfOk result (λ o. o ≡ row_from bytes.now) }
 {
     read_row(alloc, bytes)

@@ -120,7 +120,8 @@ fn read_members(
     count: u8,
     bytes: &[u8],
 ) -> Result<Option<(Vec<(Name, Field)>, &[u8])>, AllocError>
-    ensures { IfOk result (λ o. option_map (λ x. (x.0.items, x.1.now)) o ≡ members_at count bytes.now) }
+    ensures { IfOk result (λ o. option_map (λ x. (x.0.items, x.1.now)) o
+        ≡ members_at count bytes.now) }
 {
     let mut members = Vec::new(alloc);
     let mut rest = bytes;

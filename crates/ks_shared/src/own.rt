@@ -38,9 +38,11 @@ pub(crate) fn add_own<W: Work>(
     part: PartId,
     last: &mut u64,
 ) -> Result<Result<(), Barred>, AllocError>
-    requires { Meets (setup_of W.plan cluster.old) (state_of W.plan cluster.old) (Add w epoch part) }
+    requires { Meets (setup_of W.plan cluster.old) (state_of W.plan cluster.old)
+        (Add w epoch part) }
     ensures ok { IfOk result
-        (λ r. IsOwn W.plan cluster.old cluster.new w last.old last.new (Add w epoch part) (λ u. Done) r) }
+        (λ r. IsOwn W.plan cluster.old cluster.new w last.old last.new (Add w epoch part)
+        (λ u. Done) r) }
     ensures err { OnErr result (cluster.new ≡ cluster.old) }
     ensures last_stays { OnErr result (last.new ≡ last.old) }
 {
@@ -131,7 +133,8 @@ pub(crate) fn decide_own<W: Work>(
     requires meets { Meets (setup_of W.plan cluster.old) (state_of W.plan cluster.old)
         (Decide w epoch commit) }
     requires faithful { touched w cluster.old.journal ≡ last.old
-        → CommitsFaithfully (setup_of W.plan cluster.old) (state_of W.plan cluster.old) (Decide w epoch commit) }
+        → CommitsFaithfully (setup_of W.plan cluster.old) (state_of W.plan cluster.old)
+        (Decide w epoch commit) }
     ensures ok { IfOk result (λ r. IsOwn W.plan cluster.old cluster.new w last.old last.new
         (Decide w epoch commit) (λ u. Done) r) }
     ensures err { OnErr result (cluster.new ≡ cluster.old) }

@@ -143,7 +143,8 @@ impl<W: Work> Shared<W> {
         requires meets { Meets (setup_in W.plan pass.old.frame)
             (at (setup_in W.plan pass.old.frame) pass.old.seen) (Produce part rec.now) }
         ensures { Called W.plan pass.old pass.new
-            (λ before after. IfOk result (λ n. AddsEntry W.plan before after (Produce part rec.now) (Number n))
+            (λ before after. IfOk result (λ n. AddsEntry W.plan before after (Produce part rec.now)
+            (Number n))
             × OnErr result (after ≡ before)) }
     {
         let mut state = self.growing.enter(rt, pass);
@@ -167,7 +168,8 @@ impl<W: Work> Shared<W> {
         requires meets { Meets (setup_in W.plan pass.old.frame)
             (at (setup_in W.plan pass.old.frame) pass.old.seen) (MarkNext w) }
         ensures { Called W.plan pass.old pass.new
-            (λ before after. IfOk result (λ m. AddsEntry W.plan before after (MarkNext w) (Marked m))
+            (λ before after. IfOk result (λ m. AddsEntry W.plan before after (MarkNext w)
+            (Marked m))
             × OnErr result (after ≡ before)) }
     {
         let mut state = self.growing.enter(rt, pass);
@@ -264,7 +266,8 @@ impl<W: Work> Shared<W> {
         requires meets { Meets (setup_in W.plan pass.old.frame)
             (at (setup_in W.plan pass.old.frame) pass.old.seen) (Probe w generation) }
         ensures { Called W.plan pass.old pass.new
-            (λ before after. IfOk result (λ r. AddsEntry W.plan before after (Probe w generation) (number_or r))
+            (λ before after. IfOk result (λ r. AddsEntry W.plan before after (Probe w generation)
+            (number_or r))
             × OnErr result (after ≡ before)) }
     {
         let mut state = self.growing.enter(rt, pass);
@@ -292,7 +295,8 @@ impl<W: Work> Shared<W> {
         requires good { IsGoodAt (good_in W.good pass.old.frame) (setup_in W.plan pass.old.frame)
             pass.old.seen generation a.now }
         ensures { Called W.plan pass.old pass.new
-            (λ before after. IfOk result (λ r. AddsEntry W.plan before after (Assign w generation a.now) (truth_or r))
+            (λ before after. IfOk result (λ r. AddsEntry W.plan before after
+            (Assign w generation a.now) (truth_or r))
             × OnErr result (after ≡ before)) }
     {
         let mut state = self.growing.enter(rt, pass);
@@ -347,7 +351,8 @@ impl<W: Work> Shared<W> {
             (at (setup_in W.plan pass.old.frame) pass.old.seen) (Add w epoch part) }
         ensures { Called W.plan pass.old pass.new
             (λ before after.
-            IfOk result (λ r. IsOwn W.plan before after w last.old last.new (Add w epoch part) (λ u. Done) r)
+            IfOk result (λ r. IsOwn W.plan before after w last.old last.new (Add w epoch part)
+            (λ u. Done) r)
             × OnErr result (after ≡ before) × OnErr result (last.new ≡ last.old)) }
     {
         let mut state = self.growing.enter(rt, pass);
@@ -480,9 +485,11 @@ impl<W: Work> Shared<W> {
         requires free { pass.old.holds ≡ false }
         requires meets { Meets (setup_in W.plan pass.old.frame)
             (at (setup_in W.plan pass.old.frame) pass.old.seen) (Park instance replica.id) }
-        requires follows { IsReplicaOf (setup_in W.plan pass.old.frame) pass.old.seen replica.id replica }
+        requires follows { IsReplicaOf (setup_in W.plan pass.old.frame) pass.old.seen replica.id
+            replica }
         ensures { Called W.plan pass.old pass.new
-            (λ before after. OnOk result (AddsEntry W.plan before after (Park instance replica.id) Done)
+            (λ before after. OnOk result (AddsEntry W.plan before after (Park instance replica.id)
+            Done)
             × IfErr result (λ e. (e.value ≡ replica) × (after ≡ before))) }
     {
         let mut state = self.growing.enter(rt, pass);
@@ -509,7 +516,8 @@ impl<W: Work> Shared<W> {
             (at (setup_in W.plan pass.old.frame) pass.old.seen) (Unpark instance task) }
         ensures { Called W.plan pass.old pass.new
             (λ before after.
-            IfOk result (λ o. AddsEntry W.plan before after (Unpark instance task) (Truth (is_some o)))
+            IfOk result (λ o. AddsEntry W.plan before after (Unpark instance task)
+            (Truth (is_some o)))
             × IfOk result (λ o. IfSome o (IsReplicaOf (setup_of W.plan after) after.journal task))
             × OnErr result (after ≡ before)) }
     {

@@ -83,8 +83,10 @@ impl<W: Work> SharedState<W> {
         part: PartId,
         rec: &Rec,
     ) -> Result<u64, AllocError>
-        requires { Meets (setup_of W.plan self.old) (state_of W.plan self.old) (Produce part rec.now) }
-        ensures ok { IfOk result (λ n. AddsEntry W.plan self.old self.new (Produce part rec.now) (Number n)) }
+        requires { Meets (setup_of W.plan self.old) (state_of W.plan self.old)
+            (Produce part rec.now) }
+        ensures ok { IfOk result (λ n. AddsEntry W.plan self.old self.new (Produce part rec.now)
+            (Number n)) }
         ensures err { OnErr result (self.new ≡ self.old) }
         ensures grew { Grew self.old self.new }
     {
@@ -153,8 +155,10 @@ impl<W: Work> SharedState<W> {
         w: u8,
         generation: u64,
     ) -> Result<Result<u64, Refused>, AllocError>
-        requires { Meets (setup_of W.plan self.old) (state_of W.plan self.old) (Probe w generation) }
-        ensures ok { IfOk result (λ r. AddsEntry W.plan self.old self.new (Probe w generation) (number_or r)) }
+        requires { Meets (setup_of W.plan self.old) (state_of W.plan self.old)
+            (Probe w generation) }
+        ensures ok { IfOk result (λ r. AddsEntry W.plan self.old self.new (Probe w generation)
+            (number_or r)) }
         ensures err { OnErr result (self.new ≡ self.old) }
         ensures grows { Grows self.old self.new }
     {
@@ -170,10 +174,12 @@ impl<W: Work> SharedState<W> {
         generation: u64,
         a: &Assignment,
     ) -> Result<Result<bool, Refused>, AllocError>
-        requires meets { Meets (setup_of W.plan self.old) (state_of W.plan self.old) (Assign w generation a.now) }
+        requires meets { Meets (setup_of W.plan self.old) (state_of W.plan self.old)
+            (Assign w generation a.now) }
         requires good { IsGoodAt (W.good self.old.work) (setup_of W.plan self.old)
             self.old.journal generation a.now }
-        ensures ok { IfOk result (λ r. AddsEntry W.plan self.old self.new (Assign w generation a.now) (truth_or r)) }
+        ensures ok { IfOk result (λ r. AddsEntry W.plan self.old self.new
+            (Assign w generation a.now) (truth_or r)) }
         ensures err { OnErr result (self.new ≡ self.old) }
         ensures grows { Grows self.old self.new }
     {
@@ -206,7 +212,8 @@ impl<W: Work> SharedState<W> {
     ) -> Result<Result<(), Barred>, AllocError>
         requires { Meets (setup_of W.plan self.old) (state_of W.plan self.old) (Add w epoch part) }
         ensures ok { IfOk result
-            (λ r. IsOwn W.plan self.old self.new w last.old last.new (Add w epoch part) (λ u. Done) r) }
+            (λ r. IsOwn W.plan self.old self.new w last.old last.new (Add w epoch part) (λ u. Done)
+            r) }
         ensures err { OnErr result (self.new ≡ self.old) }
         ensures last_stays { OnErr result (last.new ≡ last.old) }
         ensures grows { Grows self.old self.new }
@@ -294,9 +301,11 @@ impl<W: Work> SharedState<W> {
         commit: bool,
         last: &mut u64,
     ) -> Result<Result<(), Barred>, AllocError>
-        requires meets { Meets (setup_of W.plan self.old) (state_of W.plan self.old) (Decide w epoch commit) }
+        requires meets { Meets (setup_of W.plan self.old) (state_of W.plan self.old)
+            (Decide w epoch commit) }
         requires faithful { touched w self.old.journal ≡ last.old
-            → CommitsFaithfully (setup_of W.plan self.old) (state_of W.plan self.old) (Decide w epoch commit) }
+            → CommitsFaithfully (setup_of W.plan self.old) (state_of W.plan self.old)
+            (Decide w epoch commit) }
         ensures ok { IfOk result (λ r. IsOwn W.plan self.old self.new w last.old last.new
             (Decide w epoch commit) (λ u. Done) r) }
         ensures err { OnErr result (self.new ≡ self.old) }
@@ -318,7 +327,8 @@ impl<W: Work> SharedState<W> {
         requires { MayFetch (setup_of W.plan self.now) (state_of W.plan self.now) part from max }
         ensures records { IfOk result
             (λ r. r.0.items ≡ (fetched (state_of W.plan self.now) part from max).0) }
-        ensures next { IfOk result (λ r. r.1 ≡ (fetched (state_of W.plan self.now) part from max).1) }
+        ensures next { IfOk result (λ r. r.1 ≡ (fetched (state_of W.plan self.now) part from
+            max).1) }
     {
         self.cluster.fetch(alloc, part, from, max)
     }
@@ -333,7 +343,8 @@ impl<W: Work> SharedState<W> {
         requires worker { w ≤ 16 }
         requires task { has_task task (setup_of W.plan self.now).tasks ≡ true }
         ensures offsets { IfOk result (λ r. IfOk r
-            (λ v. v.items ≡ committed_offsets (setup_of W.plan self.now) (state_of W.plan self.now) task)) }
+            (λ v. v.items ≡ committed_offsets (setup_of W.plan self.now) (state_of W.plan self.now)
+            task)) }
         ensures refused { IfOk result
             (λ r. Refuses (committed_refusal (state_of W.plan self.now) w generation task) r) }
     {
@@ -348,7 +359,8 @@ impl<W: Work> SharedState<W> {
     }
 
     pub(crate) fn status(&self, alloc: Global) -> Result<Status, AllocError>
-        ensures { IfOk result (λ r. r ≡ status (setup_of W.plan self.now) (state_of W.plan self.now)) }
+        ensures { IfOk result (λ r. r ≡ status (setup_of W.plan self.now)
+            (state_of W.plan self.now)) }
     {
         self.cluster.status(alloc)
     }
@@ -360,9 +372,12 @@ impl<W: Work> SharedState<W> {
         instance: u8,
         replica: Replica,
     ) -> Result<(), AllocFailed<Replica>>
-        requires meets { Meets (setup_of W.plan self.old) (state_of W.plan self.old) (Park instance replica.id) }
-        requires follows { IsReplicaOf (setup_of W.plan self.old) self.old.journal replica.id replica }
-        ensures ok { OnOk result (AddsEntry W.plan self.old self.new (Park instance replica.id) Done) }
+        requires meets { Meets (setup_of W.plan self.old) (state_of W.plan self.old)
+            (Park instance replica.id) }
+        requires follows { IsReplicaOf (setup_of W.plan self.old) self.old.journal replica.id
+            replica }
+        ensures ok { OnOk result (AddsEntry W.plan self.old self.new (Park instance replica.id)
+            Done) }
         ensures err { IfErr result (λ e. (e.value ≡ replica) × (self.new ≡ self.old)) }
         ensures grows { Grows self.old self.new }
     {
@@ -385,7 +400,8 @@ impl<W: Work> SharedState<W> {
         instance: u8,
         task: TaskId,
     ) -> Result<Option<Replica>, AllocError>
-        requires { Meets (setup_of W.plan self.old) (state_of W.plan self.old) (Unpark instance task) }
+        requires { Meets (setup_of W.plan self.old) (state_of W.plan self.old)
+            (Unpark instance task) }
         ensures ok { IfOk result
             (λ o. AddsEntry W.plan self.old self.new (Unpark instance task) (Truth (is_some o))) }
         ensures follows { IfOk result

@@ -10,7 +10,8 @@ use std::alloc::{AllocError, Global};
 
 /// New changelogs, with empty stores.
 pub fn new_changelogs(alloc: Global, numbers: &[u16]) -> Result<Vec<Changelog>, AllocError>
-    ensures { IfOk result (λ v. v.items ≡ map (λ number. record { topic = number; position = 0; store = empty_store }) numbers.now) }
+    ensures { IfOk result (λ v. v.items ≡ map
+        (λ number. record { topic = number; position = 0; store = empty_store }) numbers.now) }
 {
     let mut changelogs = Vec::new(alloc);
     for number in numbers {
@@ -60,7 +61,8 @@ pub fn feed_changelogs(
     recs: &[(u64, Rec)],
     next: u64,
 ) -> Result<(), AllocError>
-    ensures { OnOk result (changelogs.new.items ≡ map (fed topic recs.now next) changelogs.old.items) }
+    ensures { OnOk result (changelogs.new.items
+        ≡ map (fed topic recs.now next) changelogs.old.items) }
 {
     for i in 0..changelogs.len() {
         feed_changelog(&mut changelogs[i], topic, recs, next)?;

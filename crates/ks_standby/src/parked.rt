@@ -65,7 +65,8 @@ impl Parked {
     /// Takes a replica from the shelf; none exactly where none is parked there. Takes no memory.
     pub fn take(&mut self, instance: u8, task: TaskId) -> Option<Replica>
         ensures gives { result ≡ parked self.old instance task }
-        ensures rest { (i : ℕ) (t : Task) → parked self.new i t ≡ with_replica instance task None (parked self.old) i t }
+        ensures rest { (i : ℕ) (t : Task) → parked self.new i t
+            ≡ with_replica instance task None (parked self.old) i t }
     {
         let at = find(&self.places, instance, task);
         if at < self.places.len() {
@@ -78,8 +79,10 @@ impl Parked {
     /// Puts a replica on the shelf, under its own task, in place of one that stood there; then no memory is taken. On want of memory
     /// the replica comes back, and the shelf is as before.
     pub fn put(&mut self, instance: u8, replica: Replica) -> Result<(), AllocFailed<Replica>>
-        ensures ok { OnOk result ((i : ℕ) (t : Task) → parked self.new i t ≡ with_replica instance replica.id (Some replica) (parked self.old) i t) }
-        ensures err { IfErr result (λ e. (e.value ≡ replica) × (self.new.places.items ≡ self.old.places.items)) }
+        ensures ok { OnOk result ((i : ℕ) (t : Task) → parked self.new i t
+            ≡ with_replica instance replica.id (Some replica) (parked self.old) i t) }
+        ensures err { IfErr result (λ e. (e.value ≡ replica)
+            × (self.new.places.items ≡ self.old.places.items)) }
     {
         let task = replica.id();
         let at = find(&self.places, instance, task);
@@ -132,7 +135,8 @@ impl Parked {
     /// Sets a replica in its place, in place of one that stood there. Takes no memory.
     pub fn set(&mut self, instance: u8, replica: Replica)
         requires { HasPlace self.old instance replica.id }
-        ensures { (i : ℕ) (t : Task) → parked self.new i t ≡ with_replica instance replica.id (Some replica) (parked self.old) i t }
+        ensures { (i : ℕ) (t : Task) → parked self.new i t
+            ≡ with_replica instance replica.id (Some replica) (parked self.old) i t }
     {
         let at = find(&self.places, instance, replica.id());
         drop(fill(&mut self.places[at], Some(replica)));

@@ -37,9 +37,12 @@ impl Replica {
     /// these. After want of memory the replica is to be dropped.
     pub fn feed(&mut self, topic: u16, recs: &[(u64, Rec)], next: u64) -> Result<(), AllocError>
         requires { has_topic topic (changelogs_of self.old) ≡ true }
-        ensures view { OnOk result (replica_view self.new ≡ fed_replica (replica_view self.old) topic recs.now next) }
+        ensures view { OnOk result (replica_view self.new
+            ≡ fed_replica (replica_view self.old) topic recs.now next) }
         ensures changelogs { OnOk result (changelogs_of self.new ≡ changelogs_of self.old) }
-        ensures follows { OnOk result ((setup : Setup) (journal : List Entry) → GivesFetched setup journal (replica_view self.old) topic recs.now next → FollowsOn setup journal (replica_view self.old) (replica_view self.new)) }
+        ensures follows { OnOk result ((setup : Setup) (journal : List Entry)
+            → GivesFetched setup journal (replica_view self.old) topic recs.now next
+            → FollowsOn setup journal (replica_view self.old) (replica_view self.new)) }
     {
         feed_changelogs(&mut self.changelogs, topic, recs, next)
     }

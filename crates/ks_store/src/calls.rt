@@ -45,7 +45,8 @@ fn run_call<S: KvStore>(
     call: &StoreCall,
 ) -> Result<StoreReply, AllocError>
     ensures reply { IfOk result (λ r. r ≡ reply_to (S.contents store.old) call.now) }
-    ensures contents { OnOk result (S.contents store.new ≡ store_after (S.contents store.old) call.now) }
+    ensures contents { OnOk result (S.contents store.new
+        ≡ store_after (S.contents store.old) call.now) }
     ensures err { OnErr result (S.contents store.new ≡ S.contents store.old) }
 {
     match call {
@@ -76,7 +77,8 @@ pub fn run_calls<S: KvStore>(
     calls: &[StoreCall],
 ) -> Result<Vec<StoreReply>, AllocError>
     ensures replies { IfOk result (λ v. v.items ≡ replies_to (S.contents store.old) calls.now) }
-    ensures contents { OnOk result (S.contents store.new ≡ after_calls (S.contents store.old) calls.now) }
+    ensures contents { OnOk result (S.contents store.new
+        ≡ after_calls (S.contents store.old) calls.now) }
     ensures err { OnErr result ((n : ℕ) × (n ≤ length calls.now)
         × (S.contents store.new ≡ after_calls (S.contents store.old) (take n calls.now))) }
 {

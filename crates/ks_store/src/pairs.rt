@@ -22,7 +22,8 @@ pub fn value_at<'a>(pairs: &'a Pairs, key: &[u8]) -> Option<&'a [u8]>
 }
 
 pub fn set_at(pairs: &mut Pairs, key: Vec<u8>, value: Vec<u8>) -> Result<(), AllocError>
-    ensures ok { OnOk result (pairs_of pairs.new.entries ≡ put by_bytes key.items value.items (pairs_of pairs.old.entries)) }
+    ensures ok { OnOk result (pairs_of pairs.new.entries
+        ≡ put by_bytes key.items value.items (pairs_of pairs.old.entries)) }
     ensures err { OnErr result (pairs_of pairs.new.entries ≡ pairs_of pairs.old.entries) }
     ensures rises { Rises (pairs_of pairs.new.entries) }
 {
@@ -32,7 +33,9 @@ pub fn set_at(pairs: &mut Pairs, key: Vec<u8>, value: Vec<u8>) -> Result<(), All
 
 pub fn take_away(pairs: &mut Pairs, key: &[u8])
     requires { Rises (pairs_of pairs.old.entries) }
-    ensures gone { pairs_of pairs.new.entries ≡ where_key by_bytes (λ k. not (eq_by_cmp by_bytes key.now k)) (pairs_of pairs.old.entries) }
+    ensures gone { pairs_of pairs.new.entries
+        ≡ where_key by_bytes (λ k. not (eq_by_cmp by_bytes key.now k))
+        (pairs_of pairs.old.entries) }
     ensures rises { Rises (pairs_of pairs.new.entries) }
 {
     pairs.remove(key);
@@ -43,7 +46,8 @@ pub fn pairs_with(
     pairs: &Pairs,
     front: &[u8],
 ) -> Result<Vec<(Blob, Blob)>, AllocError>
-    ensures { IfOk result (λ v. v.items ≡ filter (λ e. starts_with ◌==◌ e.0 front.now) (pairs_of pairs.now.entries)) }
+    ensures { IfOk result (λ v. v.items ≡ filter (λ e. starts_with ◌==◌ e.0 front.now)
+        (pairs_of pairs.now.entries)) }
 {
     let mut found = Vec::new(alloc);
     for (key, value) in pairs {
@@ -62,7 +66,8 @@ pub fn pairs_from(
     pairs: &Pairs,
     front: &[u8],
 ) -> Result<Vec<(Blob, Blob)>, AllocError>
-    ensures { IfOk result (λ v. v.items ≡ filter (λ e. starts_with ◌==◌ e.0 front.now) (pairs_of pairs.now.entries)) }
+    ensures { IfOk result (λ v. v.items ≡ filter (λ e. starts_with ◌==◌ e.0 front.now)
+        (pairs_of pairs.now.entries)) }
 {
     let start = Vec::from_slice(alloc, front)?;
     let mut found = Vec::new(alloc);

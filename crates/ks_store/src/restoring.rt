@@ -9,7 +9,8 @@ use ks_row::Rec;
 use std::alloc::AllocError;
 
 fn apply<S: KvStore>(store: &mut S, rec: &Rec) -> Result<(), AllocError>
-    ensures ok { OnOk result (S.contents store.new ≡ applied (S.contents store.old) rec.now.key rec.now.value) }
+    ensures ok { OnOk result (S.contents store.new
+        ≡ applied (S.contents store.old) rec.now.key rec.now.value) }
     ensures err { OnErr result (S.contents store.new ≡ S.contents store.old) }
 {
     match (&rec.key, &rec.value) {
@@ -26,8 +27,11 @@ fn apply<S: KvStore>(store: &mut S, rec: &Rec) -> Result<(), AllocError>
 /// key, one without a key changes nothing. After want of memory the first of them were applied, and the store is to be
 /// dropped.
 pub fn restore<S: KvStore>(store: &mut S, recs: &[(u64, Rec)]) -> Result<(), AllocError>
-    ensures ok { OnOk result (S.contents store.new ≡ latest_from (S.contents store.old) (records_of recs.now)) }
-    ensures err { OnErr result ((n : ℕ) × (n ≤ length recs.now) × (S.contents store.new ≡ latest_from (S.contents store.old) (take n (records_of recs.now)))) }
+    ensures ok { OnOk result (S.contents store.new
+        ≡ latest_from (S.contents store.old) (records_of recs.now)) }
+    ensures err { OnErr result ((n : ℕ) × (n ≤ length recs.now)
+        × (S.contents store.new ≡ latest_from (S.contents store.old)
+        (take n (records_of recs.now)))) }
 {
     for (_, rec) in recs {
         apply(store, rec)?;

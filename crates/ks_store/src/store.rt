@@ -18,7 +18,8 @@ pub trait KvStore {
 
     /// Sets the value of a key; after want of memory the map is as before.
     fn put(&mut self, key: &[u8], value: &[u8]) -> Result<(), AllocError>
-        ensures ok { OnOk result (contents self.new ≡ map.insert (contents self.old) key.now value.now) }
+        ensures ok { OnOk result (contents self.new
+            ≡ map.insert (contents self.old) key.now value.now) }
         ensures err { OnErr result (contents self.new ≡ contents self.old) };
 
     /// Takes a key away with its value; where there is no such key nothing changes. Takes no memory.

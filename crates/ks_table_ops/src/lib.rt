@@ -12,7 +12,8 @@ use std::alloc::{AllocError, Global};
 
 /// The row itself where it meets the predicate; none where there is no row or it doesn't.
 pub fn filter_row(test: &Pred, row: Option<&Row>) -> Result<Option<Row>, AllocError>
-    ensures { IfOk result (λ r. r ≡ option_and_then (λ v. cond (is_met (test_of test.now) v) (Some v) None) (option_copied row.entry)) }
+    ensures { IfOk result (λ r. r ≡ option_and_then
+        (λ v. cond (is_met (test_of test.now) v) (Some v) None) (option_copied row.entry)) }
 {
     let Some(row) = row else {
         return Ok(None);
@@ -26,7 +27,8 @@ pub fn filter_row(test: &Pred, row: Option<&Row>) -> Result<Option<Row>, AllocEr
 
 /// The projected row; none where there is no row, or no field is left.
 pub fn map_row(alloc: Global, set: &Proj, row: Option<&Row>) -> Result<Option<Row>, AllocError>
-    ensures { IfOk result (λ r. r ≡ option_and_then (λ v. projected (set_of set.now) (Some v) None) (option_copied row.entry)) }
+    ensures { IfOk result (λ r. r ≡ option_and_then (λ v. projected (set_of set.now) (Some v) None)
+        (option_copied row.entry)) }
 {
     let Some(row) = row else {
         return Ok(None);
@@ -54,7 +56,8 @@ pub fn join_rows(
     left: Option<&Row>,
     right: Option<&Row>,
 ) -> Result<Option<Row>, AllocError>
-    ensures { IfOk result (λ r. r ≡ joined kind (set_of set.now) (option_copied left.entry) (option_copied right.entry)) }
+    ensures { IfOk result (λ r. r ≡ joined kind (set_of set.now) (option_copied left.entry)
+        (option_copied right.entry)) }
 {
     if is_asked(kind, left.is_some(), right.is_some()) {
         project(alloc, set, left, right)

@@ -21,8 +21,11 @@ fn first_of(later: &VecDeque<TableRow>, earlier: &VecDeque<TableRow>) -> Orderin
 
 // The next row; of two at one key the later, and the earlier goes.
 fn take_first(later: &mut VecDeque<TableRow>, earlier: &mut VecDeque<TableRow>) -> Option<TableRow>
-    ensures rows { MatchOption result (merged_rows later.old.items earlier.old.items ≡ []) (λ row. merged_rows later.old.items earlier.old.items ≡ row ∷ merged_rows later.new.items earlier.new.items) }
-    ensures fewer { IfSome result (λ row. deque_len later.new + deque_len earlier.new < deque_len later.old + deque_len earlier.old) }
+    ensures rows { MatchOption result (merged_rows later.old.items earlier.old.items ≡ [])
+        (λ row. merged_rows later.old.items earlier.old.items ≡ row
+        ∷ merged_rows later.new.items earlier.new.items) }
+    ensures fewer { IfSome result (λ row. deque_len later.new + deque_len earlier.new
+        < deque_len later.old + deque_len earlier.old) }
 {
     match first_of(later, earlier) {
         Ordering::Less => later.pop_front(),

@@ -87,7 +87,8 @@ fn push_pair(
     pair: &(Blob, Blob),
     rows: &mut Vec<TableRow>,
 ) -> Result<(), AllocError>
-    ensures { OnOk result (rows.new.items ≡ push_row rows.old.items (key_from pair.now.0) (row_by (op_as shown) pair.now.1)) }
+    ensures { OnOk result (rows.new.items ≡ push_row rows.old.items (key_from pair.now.0)
+        (row_by (op_as shown) pair.now.1)) }
 {
     let key = Key::of(alloc, pair.0.as_slice())?;
     let row = read_row(alloc, shown, pair.1.as_slice())?;
@@ -134,7 +135,9 @@ fn rows_in<W: Work>(
     part: u8,
 ) -> Result<Vec<TableRow>, AllocError>
     requires { IsPart (setup_of W.plan cluster.now) (part_in topic part) }
-    ensures { IfOk result (λ v. v.items ≡ map plain_row (put_pairs (op_as shown) [] (pairs_in (state_of W.plan cluster.now) (part_in topic part)))) }
+    ensures { IfOk result (λ v. v.items ≡ map plain_row
+        (put_pairs (op_as shown) [] (pairs_in (state_of W.plan cluster.now)
+        (part_in topic part)))) }
 {
     let pairs = kept_in(alloc, cluster, PartId { topic, part })?;
     let mut rows = Vec::with_capacity(alloc, pairs.len())?;
@@ -153,8 +156,10 @@ fn rows_from<R: Threads + Sync, W: Work + Sync>(
     count: u8,
 ) -> Result<Vec<TableRow>, AllocError>
     requires last { from + count ≤ 255 }
-    requires parts { (part : ℕ) → part + 1 ≤ from + count → IsPart (setup_of W.plan cluster.now) (part_in topic part) }
-    ensures { IfOk result (λ v. v.items ≡ map plain_row (with_parts (op_as shown) (state_of W.plan cluster.now) topic [] (parts_from from count))) }
+    requires parts { (part : ℕ) → part + 1 ≤ from + count
+        → IsPart (setup_of W.plan cluster.now) (part_in topic part) }
+    ensures { IfOk result (λ v. v.items ≡ map plain_row
+        (with_parts (op_as shown) (state_of W.plan cluster.now) topic [] (parts_from from count))) }
 {
     if count == 0 {
         return Ok(Vec::new(alloc));
@@ -167,12 +172,20 @@ fn rows_from<R: Threads + Sync, W: Work + Sync>(
     let (earlier, later) = join(
         rt,
         || -> Result<Vec<TableRow>, AllocError>
-            requires { IsSync R.row × IsSync W.row × (from + half ≤ 255) × ((part : ℕ) → part + 1 ≤ from + half → IsPart (setup_of W.plan cluster.now) (part_in topic part)) }
-            ensures { IfOk result (λ v. v.items ≡ map plain_row (with_parts (op_as shown) (state_of W.plan cluster.entry.now) topic [] (parts_from from half))) }
+            requires { IsSync R.row × IsSync W.row × (from + half ≤ 255)
+                × ((part : ℕ) → part + 1 ≤ from + half
+                → IsPart (setup_of W.plan cluster.now) (part_in topic part)) }
+            ensures { IfOk result (λ v. v.items
+                ≡ map plain_row (with_parts (op_as shown) (state_of W.plan cluster.entry.now) topic
+                [] (parts_from from half))) }
         { rows_from(rt, alloc, cluster, shown, topic, from, half) },
         || -> Result<Vec<TableRow>, AllocError>
-            requires { IsSync R.row × IsSync W.row × (middle + rest ≤ 255) × ((part : ℕ) → part + 1 ≤ middle + rest → IsPart (setup_of W.plan cluster.now) (part_in topic part)) }
-            ensures { IfOk result (λ v. v.items ≡ map plain_row (with_parts (op_as shown) (state_of W.plan cluster.entry.now) topic [] (parts_from middle rest))) }
+            requires { IsSync R.row × IsSync W.row × (middle + rest ≤ 255)
+                × ((part : ℕ) → part + 1 ≤ middle + rest
+                → IsPart (setup_of W.plan cluster.now) (part_in topic part)) }
+            ensures { IfOk result (λ v. v.items
+                ≡ map plain_row (with_parts (op_as shown) (state_of W.plan cluster.entry.now) topic
+                [] (parts_from middle rest))) }
         { rows_from(rt, alloc, cluster, shown, topic, middle, rest) },
     );
     merged(alloc, earlier?, later?)
@@ -188,8 +201,10 @@ pub fn rows_kept<R: Threads + Sync, W: Work + Sync>(
     topic: u16,
     parts: u8,
 ) -> Result<Vec<TableRow>, AllocError>
-    requires parts { (part : ℕ) → part + 1 ≤ parts → IsPart (setup_of W.plan cluster.now) (part_in topic part) }
-    ensures { IfOk result (λ v. v.items ≡ map plain_row (with_parts (op_view op.now) (state_of W.plan cluster.now) topic [] (up_to parts))) }
+    requires parts { (part : ℕ) → part + 1 ≤ parts
+        → IsPart (setup_of W.plan cluster.now) (part_in topic part) }
+    ensures { IfOk result (λ v. v.items ≡ map plain_row
+        (with_parts (op_view op.now) (state_of W.plan cluster.now) topic [] (up_to parts))) }
 {
     rows_from(rt, alloc, cluster, shown_by(op), topic, 0, parts)
 }

@@ -54,8 +54,10 @@ fn node_rows<R: Threads + Sync, W: Work + Sync>(
     node: &Node,
     topic: u16,
 ) -> Result<Vec<TableRow>, AllocError>
-    requires parts { (part : ℕ) → part + 1 ≤ node.now.parts → IsPart (setup_of W.plan cluster.now) (part_in topic part) }
-    ensures { IfOk result (λ v. v.items ≡ shown_rows (op_view node.now.op) (state_of W.plan cluster.now) topic node.now.parts) }
+    requires parts { (part : ℕ) → part + 1 ≤ node.now.parts
+        → IsPart (setup_of W.plan cluster.now) (part_in topic part) }
+    ensures { IfOk result (λ v. v.items ≡ shown_rows (op_view node.now.op)
+        (state_of W.plan cluster.now) topic node.now.parts) }
 {
     match &node.op {
         Op::WindowedCount { .. } => windows_kept(alloc, cluster, topic, node.parts),
@@ -70,9 +72,11 @@ fn table_of<R: Threads + Sync, W: Work + Sync>(
     cluster: &Cluster<W>,
     name: &[u8],
 ) -> Result<Table, AllocError>
-    requires counts { cluster.now.counts ≡ map (parts_of_topic (plan_in topology.now)) (topics_of (plan_in topology.now)) }
+    requires counts { cluster.now.counts ≡ map (parts_of_topic (plan_in topology.now))
+        (topics_of (plan_in topology.now)) }
     requires printed { IsPrinted (draft_of topology.now) name.now }
-    ensures { IfOk result (λ t. t ≡ folded_table (draft_of topology.now) (state_of W.plan cluster.now) name.now) }
+    ensures { IfOk result (λ t. t ≡ folded_table (draft_of topology.now)
+        (state_of W.plan cluster.now) name.now) }
 {
     let (node, topic) = find_kept(topology, name);
     let rows = node_rows(rt, alloc, cluster, node, topic)?;
@@ -91,8 +95,10 @@ pub fn tables<R: Threads + Sync, W: Work + Sync>(
     topology: &Topology,
     cluster: &Cluster<W>,
 ) -> Result<Vec<Table>, AllocError>
-    requires counts { cluster.now.counts ≡ map (parts_of_topic (plan_in topology.now)) (topics_of (plan_in topology.now)) }
-    ensures { IfOk result (λ v. v.items ≡ folded_tables (draft_of topology.now) (state_of W.plan cluster.now)) }
+    requires counts { cluster.now.counts ≡ map (parts_of_topic (plan_in topology.now))
+        (topics_of (plan_in topology.now)) }
+    ensures { IfOk result (λ v. v.items ≡ folded_tables (draft_of topology.now)
+        (state_of W.plan cluster.now)) }
 {
     let names = topology.print();
     let mut tables = Vec::new(alloc);

@@ -70,8 +70,10 @@ fn put_parts<W: Work>(
     parts: u8,
     windows: &mut BTreeMap<(Key, u64), Row>,
 ) -> Result<(), AllocError>
-    requires { (part : ℕ) → part + 1 ≤ parts → IsPart (setup_of W.plan cluster.now) (part_in topic part) }
-    ensures { OnOk result (windows.new.entries ≡ with_parts (state_of W.plan cluster.now) topic windows.old.entries (up_to parts)) }
+    requires { (part : ℕ) → part + 1 ≤ parts → IsPart (setup_of W.plan cluster.now)
+        (part_in topic part) }
+    ensures { OnOk result (windows.new.entries
+        ≡ with_parts (state_of W.plan cluster.now) topic windows.old.entries (up_to parts)) }
 {
     for part in 0..parts {
         let pairs = kept_in(alloc, cluster, PartId { topic, part })?;
@@ -103,8 +105,10 @@ pub fn windows_kept<W: Work>(
     topic: u16,
     parts: u8,
 ) -> Result<Vec<TableRow>, AllocError>
-    requires parts { (part : ℕ) → part + 1 ≤ parts → IsPart (setup_of W.plan cluster.now) (part_in topic part) }
-    ensures { IfOk result (λ v. v.items ≡ map window_row (with_parts (state_of W.plan cluster.now) topic [] (up_to parts))) }
+    requires parts { (part : ℕ) → part + 1 ≤ parts
+        → IsPart (setup_of W.plan cluster.now) (part_in topic part) }
+    ensures { IfOk result (λ v. v.items ≡ map window_row
+        (with_parts (state_of W.plan cluster.now) topic [] (up_to parts))) }
 {
     let mut windows = BTreeMap::new(alloc);
     put_parts(alloc, cluster, topic, parts, &mut windows)?;

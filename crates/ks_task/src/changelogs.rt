@@ -60,7 +60,8 @@ pub fn keep_records(
     part: u8,
     made: &[(PartId, Rec)],
 ) -> Result<(), AllocError>
-    ensures ok { OnOk result (changelogs.new.items ≡ map (log_after part made.now) changelogs.old.items) }
+    ensures ok { OnOk result (changelogs.new.items
+        ≡ map (log_after part made.now) changelogs.old.items) }
     ensures numbers { numbers_of changelogs.new.items ≡ numbers_of changelogs.old.items }
 {
     for i in 0..changelogs.len() {

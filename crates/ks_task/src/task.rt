@@ -59,7 +59,8 @@ fn read_from<'a>(
     topic: u16,
     rec: &'a Rec,
 ) -> Result<Option<StampedRecord<'a>>, AllocError>
-    ensures { IfOk result (λ o. option_map arrival_of o ≡ arrival_at (kinds_in (map node_view nodes.now)) (slice_get purposes.now topic) rec.now) }
+    ensures { IfOk result (λ o. option_map arrival_of o
+        ≡ arrival_at (kinds_in (map node_view nodes.now)) (slice_get purposes.now topic) rec.now) }
 {
     match purposes.get(topic as usize) {
         Some(purpose) => read_record(alloc, nodes, *purpose, rec),
@@ -76,8 +77,14 @@ fn process_record<'s, H: Hash128>(
     at: PartId,
     rec: &'s Rec,
 ) -> Result<StepOutput, AllocError>
-    ensures late { IfOk result (λ m. m.late ≡ capped (late_or_none (map node_view nodes.now) (stores_in changelogs.now) (arrival_at (kinds_in (map node_view nodes.now)) (slice_get purposes.now at.topic) rec.now))) }
-    ensures records { IfOk result (λ m. m.records.items ≡ made_or_none (rules_of H.hash_of) (map node_view nodes.now) (stores_in changelogs.now) at.part (arrival_at (kinds_in (map node_view nodes.now)) (slice_get purposes.now at.topic) rec.now)) }
+    ensures late { IfOk result (λ m. m.late ≡ capped
+        (late_or_none (map node_view nodes.now) (stores_in changelogs.now)
+        (arrival_at (kinds_in (map node_view nodes.now)) (slice_get purposes.now at.topic)
+        rec.now))) }
+    ensures records { IfOk result (λ m. m.records.items
+        ≡ made_or_none (rules_of H.hash_of) (map node_view nodes.now) (stores_in changelogs.now)
+        at.part (arrival_at (kinds_in (map node_view nodes.now)) (slice_get purposes.now at.topic)
+        rec.now)) }
 {
     match read_from(alloc, purposes, nodes, at.topic, rec)? {
         Some(stamped) => {
@@ -164,8 +171,16 @@ impl Task {
         rec: &Rec,
     ) -> Result<StepOutput, AllocError>
         requires { IsTaskOf (draft_of topology.now) self.now }
-        ensures late { IfOk result (λ m. m.late ≡ capped (late_or_none (nodes_of (plan_in topology.now) self.now.id.sub) (stores_in self.now.changelogs.items) (arrival_at (plan_in topology.now).kinds (topic_at (plan_in topology.now) topic) rec.now))) }
-        ensures records { IfOk result (λ m. m.records.items ≡ made_or_none (rules_of H.hash_of) (nodes_of (plan_in topology.now) self.now.id.sub) (stores_in self.now.changelogs.items) self.now.id.part (arrival_at (plan_in topology.now).kinds (topic_at (plan_in topology.now) topic) rec.now)) }
+        ensures late { IfOk result (λ m. m.late
+            ≡ capped (late_or_none (nodes_of (plan_in topology.now) self.now.id.sub)
+            (stores_in self.now.changelogs.items)
+            (arrival_at (plan_in topology.now).kinds (topic_at (plan_in topology.now) topic)
+            rec.now))) }
+        ensures records { IfOk result (λ m. m.records.items
+            ≡ made_or_none (rules_of H.hash_of) (nodes_of (plan_in topology.now) self.now.id.sub)
+            (stores_in self.now.changelogs.items) self.now.id.part
+            (arrival_at (plan_in topology.now).kinds (topic_at (plan_in topology.now) topic)
+            rec.now)) }
     {
         let nodes = processor_nodes(alloc, &self.nodes, topology.nodes())?;
         let at = PartId {
@@ -186,9 +201,12 @@ impl Task {
         rec: &Rec,
     ) -> Result<(), AllocError>
         requires task { IsTaskOf (draft_of topology.now) self.old }
-        requires input { has_topic topic (input_numbers (plan_in topology.now) (task_view self.old).task.sub) ≡ true }
+        requires input { has_topic topic (input_numbers (plan_in topology.now)
+            (task_view self.old).task.sub) ≡ true }
         ensures task { OnOk result (IsTaskOf (draft_of topology.now) self.new) }
-        ensures view { OnOk result (task_view self.new ≡ take_view (work_of (rules_of H.hash_of) (plan_in topology.now)) (task_view self.old) topic offset rec.now) }
+        ensures view { OnOk result (task_view self.new
+            ≡ take_view (work_of (rules_of H.hash_of) (plan_in topology.now)) (task_view self.old)
+            topic offset rec.now) }
     {
         let Some(next) = offset.checked_add(1) else {
             return Err(AllocError);
@@ -208,7 +226,9 @@ impl Task {
     /// Passes over what is not readable of an input, up to `next`. Takes no memory.
     pub fn skip(&mut self, topic: u16, next: u64)
         ensures task { (d : DraftView) → IsTaskOf d self.old → IsTaskOf d self.new }
-        ensures view { (d : DraftView) → IsTaskOf d self.old → has_topic topic (input_numbers (plan_of d) (task_view self.old).task.sub) ≡ true → task_view self.new ≡ skip_view (task_view self.old) topic next }
+        ensures view { (d : DraftView) → IsTaskOf d self.old
+            → has_topic topic (input_numbers (plan_of d) (task_view self.old).task.sub) ≡ true
+            → task_view self.new ≡ skip_view (task_view self.old) topic next }
     {
         move_input(&mut self.inputs, topic, next);
     }
@@ -216,7 +236,9 @@ impl Task {
     /// The work since its last commit: outputs and changelog records by partition, the offsets of its inputs, the order in which it
     /// took their records.
     pub fn freeze(&self, alloc: Global) -> Result<Frozen, AllocError>
-        ensures { (d : DraftView) (hash : List ℕ → ℕ) → IsTaskOf d self.now → IfOk result (λ f. IsFrozen (work_of (rules_of hash) (plan_of d)) (task_view self.now) (work_view f)) }
+        ensures { (d : DraftView) (hash : List ℕ → ℕ) → IsTaskOf d self.now
+            → IfOk result (λ f. IsFrozen (work_of (rules_of hash) (plan_of d)) (task_view self.now)
+            (work_view f)) }
     {
         let outputs = group(alloc, &self.made)?;
         let offsets = offsets_of(alloc, &self.inputs)?;
@@ -234,7 +256,9 @@ impl Task {
     /// own changelogs, are its positions there. Takes no memory.
     pub fn committed(&mut self, ends: &[(u16, u64)])
         ensures task { (d : DraftView) → IsTaskOf d self.old → IsTaskOf d self.new }
-        ensures view { (d : DraftView) → IsTaskOf d self.old → task_view self.new ≡ committed_view (task_view self.old) (own_ends (changelog_numbers (plan_of d) (task_view self.old).task.sub) ends.now) }
+        ensures view { (d : DraftView) → IsTaskOf d self.old → task_view self.new
+            ≡ committed_view (task_view self.old)
+            (own_ends (changelog_numbers (plan_of d) (task_view self.old).task.sub) ends.now) }
     {
         commit_inputs(&mut self.inputs);
         end_changelogs(&mut self.changelogs, ends);

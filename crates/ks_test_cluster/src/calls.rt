@@ -185,7 +185,8 @@ fn append(
 fn end(alloc: Global, cluster: &Cluster<Copying>, topic: u16) -> Result<u64, AllocError>
     requires ours { IsOurs cluster.now }
     requires topic { topic < 2 }
-    ensures { IfOk result (λ n. n ≡ end_of (state_of (λ _. setup.plan) cluster.now) (record { topic = topic; part = 0 })) }
+    ensures { IfOk result (λ n. n ≡ end_of (state_of (λ _. setup.plan) cluster.now)
+        (record { topic = topic; part = 0 })) }
 {
     let ends = cluster.ends(alloc, &[PartId { topic, part: 0 }])?;
     Ok(ends[0])
@@ -346,7 +347,8 @@ fn expire(alloc: Global, cluster: &mut Cluster<Copying>, w: u8) -> Result<bool, 
     requires ours { IsOurs cluster.old }
     requires worker { w ≤ 16 }
     ensures ours { OnOk result (IsOurs cluster.new) }
-    ensures expired { OnOk result (((state_of (λ _. setup.plan) cluster.new).producer w).undecided ≡ None) }
+    ensures expired { OnOk result (((state_of (λ _. setup.plan) cluster.new).producer w).undecided
+        ≡ None) }
 {
     cluster.expire(alloc, w)
 }

@@ -20,7 +20,8 @@ pub struct Locked {
 pub fn new_locked(alloc: Global) -> Result<Locked, AllocError>
     ensures passes { IfOk result (λ l. l.shared.growing.passes ≡ 3) }
     ensures first { IfOk result (λ l. IsOurs l.shared.growing.id l.first × (l.first.number ≡ 0)) }
-    ensures second { IfOk result (λ l. IsOurs l.shared.growing.id l.second × (l.second.number ≡ 1)) }
+    ensures second { IfOk result (λ l. IsOurs l.shared.growing.id l.second
+        × (l.second.number ≡ 1)) }
     ensures third { IfOk result (λ l. IsOurs l.shared.growing.id l.third × (l.third.number ≡ 2)) }
 {
     let cluster = new_cluster(alloc)?;

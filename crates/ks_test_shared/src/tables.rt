@@ -120,7 +120,8 @@ fn run_all<R: Wait + Abort>(
     requires first { IsOurs shared.now.growing.id first.old }
     requires second { IsOurs shared.now.growing.id second.old }
     ensures first { IsOurs shared.now.growing.id first.new × (first.new.number ≡ first.old.number) }
-    ensures second { IsOurs shared.now.growing.id second.new × (second.new.number ≡ second.old.number) }
+    ensures second { IsOurs shared.now.growing.id second.new
+        × (second.new.number ≡ second.old.number) }
 {
     let mut last = 0;
     let mut other = 0;

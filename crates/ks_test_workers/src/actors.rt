@@ -55,7 +55,8 @@ impl<W: Work, G: Gate> Actor<W, G> {
     ) -> Result<(), AllocError>
         requires may { MayRun W.plan W.good H.hash_of shared.now.growing.id (draft_of topology.now)
             self.old.worker.placing self.old.left self.old.worker.state }
-        ensures may { OnOk result (MayRun W.plan W.good H.hash_of shared.now.growing.id (draft_of topology.now)
+        ensures may { OnOk result (MayRun W.plan W.good H.hash_of shared.now.growing.id
+            (draft_of topology.now)
             self.new.worker.placing self.new.left self.new.worker.state) }
         ensures pass { pass_key self.new.worker.state.session.client.pass
             ≡ pass_key self.old.worker.state.session.client.pass }
@@ -81,7 +82,8 @@ impl<W: Work, G: Gate> Actor<W, G> {
     ) -> Result<(), AllocError>
         requires may { MayRun W.plan W.good H.hash_of shared.now.growing.id (draft_of topology.now)
             self.old.worker.placing self.old.left self.old.worker.state }
-        ensures may { OnOk result (MayRun W.plan W.good H.hash_of shared.now.growing.id (draft_of topology.now)
+        ensures may { OnOk result (MayRun W.plan W.good H.hash_of shared.now.growing.id
+            (draft_of topology.now)
             self.new.worker.placing self.new.left self.new.worker.state) }
         ensures pass { pass_key self.new.worker.state.session.client.pass
             ≡ pass_key self.old.worker.state.session.client.pass }

@@ -122,8 +122,10 @@ fn make_move<H: Hash128, R: Wait, W: Work, G: Gate>(
     actor: &mut Actor<W, G>,
     does: Does,
 ) -> Result<String, AllocError>
-    requires may { MayPlay W.plan W.good H.hash_of shared.now.growing.id (draft_of topology.now) actor.old }
-    ensures may { OnOk result (MayPlay W.plan W.good H.hash_of shared.now.growing.id (draft_of topology.now) actor.new) }
+    requires may { MayPlay W.plan W.good H.hash_of shared.now.growing.id (draft_of topology.now)
+        actor.old }
+    ensures may { OnOk result (MayPlay W.plan W.good H.hash_of shared.now.growing.id
+        (draft_of topology.now) actor.new) }
     ensures pass { pass_key actor.new.worker.state.session.client.pass
         ≡ pass_key actor.old.worker.state.session.client.pass }
 {
@@ -144,12 +146,16 @@ fn move_one_of<H: Hash128, R: Wait, W: Work, G: Gate>(
     who: Who,
     does: Does,
 ) -> Result<String, AllocError>
-    requires one { MayPlay W.plan W.good H.hash_of shared.now.growing.id (draft_of topology.now) pair.old.one }
-    requires two { MayPlay W.plan W.good H.hash_of shared.now.growing.id (draft_of topology.now) pair.old.two }
+    requires one { MayPlay W.plan W.good H.hash_of shared.now.growing.id (draft_of topology.now)
+        pair.old.one }
+    requires two { MayPlay W.plan W.good H.hash_of shared.now.growing.id (draft_of topology.now)
+        pair.old.two }
     ensures may_one { OnOk result (
-        MayPlay W.plan W.good H.hash_of shared.now.growing.id (draft_of topology.now) pair.new.one) }
+        MayPlay W.plan W.good H.hash_of shared.now.growing.id (draft_of topology.now)
+        pair.new.one) }
     ensures may_two { OnOk result (
-        MayPlay W.plan W.good H.hash_of shared.now.growing.id (draft_of topology.now) pair.new.two) }
+        MayPlay W.plan W.good H.hash_of shared.now.growing.id (draft_of topology.now)
+        pair.new.two) }
     ensures one { pass_key pair.new.one.worker.state.session.client.pass
         ≡ pass_key pair.old.one.worker.state.session.client.pass }
     ensures two { pass_key pair.new.two.worker.state.session.client.pass
@@ -176,8 +182,10 @@ fn play_moves<H: Hash128, R: Wait + Abort, W: Work, G: Gate>(
     pair: &mut Pair<W, G>,
     moves: &[Move],
 ) -> Result<(), Fail>
-    requires one { MayPlay W.plan W.good H.hash_of shared.now.growing.id (draft_of topology.now) pair.old.one }
-    requires two { MayPlay W.plan W.good H.hash_of shared.now.growing.id (draft_of topology.now) pair.old.two }
+    requires one { MayPlay W.plan W.good H.hash_of shared.now.growing.id (draft_of topology.now)
+        pair.old.one }
+    requires two { MayPlay W.plan W.good H.hash_of shared.now.growing.id (draft_of topology.now)
+        pair.old.two }
     ensures one { pass_key pair.new.one.worker.state.session.client.pass
         ≡ pass_key pair.old.one.worker.state.session.client.pass }
     ensures two { pass_key pair.new.two.worker.state.session.client.pass
@@ -224,7 +232,8 @@ pub fn play<H: Hash128, R: Wait + Abort, W: Work>(
     items: Vec<JobItem>,
     scene: &Scene,
 ) -> Result<Cluster<W>, Fail>
-    requires ready { IsReady W.plan W.good H.hash_of (draft_of topology.now) scene.now.placing cluster
+    requires ready { IsReady W.plan W.good H.hash_of (draft_of topology.now) scene.now.placing
+        cluster
         counts.now (item_views items.items) }
     ensures { IfOk result (λ c. frame_of c ≡ frame_of cluster) }
 {

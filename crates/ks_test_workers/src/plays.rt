@@ -66,10 +66,13 @@ fn end_play<H: Hash128 + Sync, R: Threads + Wait + Sync, W: Work + Sync>(
     topology: &Topology,
     mut cluster: Cluster<W>,
 ) -> Result<Played, AllocError>
-    requires setup { setup_of W.plan cluster ≡ topology_setup (rules_of H.hash_of) (plan_in topology.now) }
+    requires setup { setup_of W.plan cluster ≡ topology_setup (rules_of H.hash_of)
+        (plan_in topology.now) }
     requires parts { HaveParts (plan_in topology.now) }
-    requires alone { IsGoodForAll (W.good cluster.work) (drain_worker ∷ []) (everything drain_worker cluster.tasks) }
-    requires counts { cluster.counts ≡ map (parts_of_topic (plan_in topology.now)) (topics_of (plan_in topology.now)) }
+    requires alone { IsGoodForAll (W.good cluster.work) (drain_worker ∷ [])
+        (everything drain_worker cluster.tasks) }
+    requires counts { cluster.counts ≡ map (parts_of_topic (plan_in topology.now))
+        (topics_of (plan_in topology.now)) }
 {
     let lines = lines(alloc, cluster.journal())?;
     drain::<H, R, W>(rt, alloc, topology, &mut cluster)?;
@@ -96,7 +99,8 @@ fn play_tasks<H: Hash128 + Sync, R: Threads + Wait + Sync + Abort, W: Work + Syn
     requires good { W.good work ≡ placed_by (plan_in topology.now) (Some scene.now.placing) }
     requires threads { 1 ≤ scene.now.placing.threads }
     requires partitions { HavePartitions (draft_of topology.now).topics }
-    requires records { AreRecords (length (draft_of topology.now).topics) (item_views records.items) }
+    requires records { AreRecords (length (draft_of topology.now).topics)
+        (item_views records.items) }
 {
     let _nodes = topology.nodes();
     everything_is_good();

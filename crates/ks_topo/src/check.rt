@@ -71,7 +71,9 @@ fn set_len(op: &Op) -> usize
 }
 
 fn check_name(alloc: Global, before: &[NodeDraft], node: &NodeDraft) -> Result<(), Stop>
-    ensures { Finds result (first_fitting (one_line (has_name (names_of (nodes_view before.now)) node.now.name) (DuplicateName node.now.name))) }
+    ensures { Finds result (first_fitting (one_line
+        (has_name (names_of (nodes_view before.now)) node.now.name)
+        (DuplicateName node.now.name))) }
 {
     let name = node.name.as_str().as_bytes();
     if is_node(before, name) {
@@ -81,7 +83,8 @@ fn check_name(alloc: Global, before: &[NodeDraft], node: &NodeDraft) -> Result<(
 }
 
 fn check_fields(alloc: Global, op: &Op) -> Result<(), Stop>
-    ensures { Finds result (first_fitting (one_line (nat_lt 64 (set_length (op_view op.now))) (TooMany (codes "fields") 64))) }
+    ensures { Finds result (first_fitting (one_line (nat_lt 64 (set_length (op_view op.now)))
+        (TooMany (codes "fields") 64))) }
 {
     if set_len(op) > 64 {
         return Err(Stop::Fault(too_many(alloc, "fields", 64)?));
@@ -90,7 +93,8 @@ fn check_fields(alloc: Global, op: &Op) -> Result<(), Stop>
 }
 
 fn check_topic(alloc: Global, topics: &[(Name, i64)], op: &Op) -> Result<(), Stop>
-    ensures { Finds result (first_fitting (unknown_lines (names_of_topics topics.now) (topics_in (op_view op.now)))) }
+    ensures { Finds result (first_fitting (unknown_lines (names_of_topics topics.now)
+        (topics_in (op_view op.now)))) }
 {
     match op {
         Op::Stream { topic } | Op::Table { topic } => {
@@ -104,7 +108,8 @@ fn check_topic(alloc: Global, topics: &[(Name, i64)], op: &Op) -> Result<(), Sto
 }
 
 fn check_new_topic(alloc: Global, before: &[NodeDraft], op: &Op) -> Result<(), Stop>
-    ensures { Finds result (first_fitting (taken_lines (sources_of (nodes_view before.now)) (topics_in (op_view op.now)))) }
+    ensures { Finds result (first_fitting (taken_lines (sources_of (nodes_view before.now))
+        (topics_in (op_view op.now)))) }
 {
     match op {
         Op::Stream { topic } | Op::Table { topic } => {
@@ -125,7 +130,8 @@ struct Inputs<'a> {
 }
 
 fn inputs_of(op: &Op) -> Inputs<'_>
-    ensures { option_to_list (option_copied result.first) ++ option_to_list (option_copied result.second) ≡ inputs_in (op_view op.now) }
+    ensures { option_to_list (option_copied result.first)
+        ++ option_to_list (option_copied result.second) ≡ inputs_in (op_view op.now) }
 {
     let none = Inputs {
         first: None,
@@ -150,7 +156,8 @@ fn inputs_of(op: &Op) -> Inputs<'_>
 }
 
 fn check_input(alloc: Global, before: &[NodeDraft], name: Option<&Blob>) -> Result<(), Stop>
-    ensures { Finds result (first_fitting (unknown_lines (names_of (nodes_view before.now)) (option_to_list (option_copied name.entry)))) }
+    ensures { Finds result (first_fitting (unknown_lines (names_of (nodes_view before.now))
+        (option_to_list (option_copied name.entry)))) }
 {
     if let Some(name) = name {
         if !is_node(before, name.as_slice()) {
@@ -161,7 +168,8 @@ fn check_input(alloc: Global, before: &[NodeDraft], name: Option<&Blob>) -> Resu
 }
 
 fn check_inputs(alloc: Global, before: &[NodeDraft], op: &Op) -> Result<(), Stop>
-    ensures { Finds result (first_fitting (unknown_lines (names_of (nodes_view before.now)) (inputs_in (op_view op.now)))) }
+    ensures { Finds result (first_fitting (unknown_lines (names_of (nodes_view before.now))
+        (inputs_in (op_view op.now)))) }
 {
     let inputs = inputs_of(op);
     check_input(alloc, before, inputs.first)?;
@@ -206,7 +214,8 @@ fn check_sink(
     input: Option<&Blob>,
 ) -> Result<(), Stop>
     requires { IsEarlier earlier }
-    ensures { Finds result (first_fitting (sinks_among (known_of earlier.entry) node.now (option_to_list (option_copied input.entry)))) }
+    ensures { Finds result (first_fitting (sinks_among (known_of earlier.entry) node.now
+        (option_to_list (option_copied input.entry)))) }
 {
     if let Some(input) = input {
         if gives_windows(wiring_of(earlier, input)) {
@@ -219,7 +228,8 @@ fn check_sink(
 
 fn check_sinks(alloc: Global, earlier: Earlier<'_>, node: &NodeDraft) -> Result<(), Stop>
     requires { IsEarlier earlier }
-    ensures { Finds result (first_fitting (sink_lines (known_of earlier.entry) (node_view node.now))) }
+    ensures { Finds result (first_fitting (sink_lines (known_of earlier.entry)
+        (node_view node.now))) }
 {
     let inputs = inputs_of(&node.op);
     check_sink(alloc, earlier, &node.name, inputs.first)?;
@@ -244,7 +254,8 @@ fn check_kind(
     input: Option<&Blob>,
 ) -> Result<(), Stop>
     requires { IsEarlier earlier }
-    ensures { Finds result (first_fitting (kinds_among (known_of earlier.entry) (node_view node.now) (option_to_list (option_copied input.entry)))) }
+    ensures { Finds result (first_fitting (kinds_among (known_of earlier.entry) (node_view node.now)
+        (option_to_list (option_copied input.entry)))) }
 {
     if let Some(input) = input {
         if is_wrong(&node.op, wiring_of(earlier, input)) {
@@ -256,7 +267,8 @@ fn check_kind(
 
 fn check_kinds(alloc: Global, earlier: Earlier<'_>, node: &NodeDraft) -> Result<(), Stop>
     requires { IsEarlier earlier }
-    ensures { Finds result (first_fitting (kind_lines (known_of earlier.entry) (node_view node.now))) }
+    ensures { Finds result (first_fitting (kind_lines (known_of earlier.entry)
+        (node_view node.now))) }
 {
     let inputs = inputs_of(&node.op);
     check_kind(alloc, earlier, node, inputs.first)?;
@@ -280,7 +292,8 @@ fn parts_of(earlier: Earlier<'_>, parts: &[u8], name: &Blob) -> u8
 
 fn check_sides(earlier: Earlier<'_>, parts: &[u8], op: &Op) -> Result<(), Stop>
     requires { IsEarlier earlier }
-    ensures { Finds result (first_fitting (sides_among parts.now (known_of earlier.entry) (op_view op.now))) }
+    ensures { Finds result (first_fitting (sides_among parts.now (known_of earlier.entry)
+        (op_view op.now))) }
 {
     match op {
         Op::Join { left, right, .. } => {
@@ -348,7 +361,8 @@ fn check_internal(
     node: &Name,
     wiring: Wiring,
 ) -> Result<(), Stop>
-    ensures { Finds result (first_fitting (taken_lines (names_of_topics topics.now) (internal_names app.now node.now wiring))) }
+    ensures { Finds result (first_fitting (taken_lines (names_of_topics topics.now)
+        (internal_names app.now node.now wiring))) }
 {
     let mut internal = Vec::new(alloc);
     push_through(&mut internal, 0, wiring)?;
@@ -371,8 +385,10 @@ pub fn check_node(
     node: &NodeDraft,
 ) -> Result<Resolved, Stop>
     requires { IsEarlier earlier }
-    ensures found { Finds result (first_of (node_lines app.now earlier.entry.topics.now parts.now (nodes_view earlier.entry.nodes.now) (node_view node.now))) }
-    ensures resolved { IfOk result (λ r. r ≡ resolved_op earlier.entry.topics.now (nodes_view earlier.entry.nodes.now) (op_view node.now.op)) }
+    ensures found { Finds result (first_of (node_lines app.now earlier.entry.topics.now parts.now
+        (nodes_view earlier.entry.nodes.now) (node_view node.now))) }
+    ensures resolved { IfOk result (λ r. r ≡ resolved_op earlier.entry.topics.now
+        (nodes_view earlier.entry.nodes.now) (op_view node.now.op)) }
 {
     check_name(alloc, earlier.nodes, node)?;
     check_fields(alloc, &node.op)?;

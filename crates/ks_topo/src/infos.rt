@@ -131,7 +131,8 @@ pub fn topic_infos(
     topics: &[Topic],
 ) -> Result<Vec<TopicInfo>, AllocError>
     requires { sorted.now ≡ sorted_topics (draft_view draft.now) }
-    ensures { IfOk result (λ v. v.items ≡ map (wired_topic_info (draft_view draft.now) shape.now) topics.now) }
+    ensures { IfOk result (λ v. v.items ≡ map (wired_topic_info (draft_view draft.now) shape.now)
+        topics.now) }
 {
     let mut infos = Vec::new(alloc);
     for topic in topics {
@@ -166,8 +167,10 @@ fn store_of(shape: &Shape, all: &[Topic], node: u8) -> Option<u16>
 
 #[tactic(auto, using(crate::proofs::Showing::places_push, crate::proofs::Showing::views_push))]
 fn push_node(nodes: &mut Vec<Node>, node: Node) -> Result<(), AllocError>
-    ensures places { OnOk result (map node_place nodes.new.items ≡ map node_place nodes.old.items ++ node_place node ∷ []) }
-    ensures views { OnOk result (map built_view nodes.new.items ≡ map built_view nodes.old.items ++ built_view node ∷ []) }
+    ensures places { OnOk result (map node_place nodes.new.items ≡ map node_place nodes.old.items
+        ++ node_place node ∷ []) }
+    ensures views { OnOk result (map built_view nodes.new.items ≡ map built_view nodes.old.items
+        ++ built_view node ∷ []) }
 {
     nodes.push(node)?;
     Ok(())
@@ -182,7 +185,8 @@ pub fn built_nodes(
 ) -> Result<Vec<Node>, AllocError>
     requires topics { length all.now ≤ 400 }
     requires nodes { length drafts.items ≤ 64 }
-    ensures places { IfOk result (λ v. map node_place v.items ≡ places_from (wired_place shape.now all.now) 0 drafts.items) }
+    ensures places { IfOk result (λ v. map node_place v.items
+        ≡ places_from (wired_place shape.now all.now) 0 drafts.items) }
     ensures views { IfOk result (λ v. map built_view v.items ≡ nodes_view drafts.items) }
 {
     let mut nodes = Vec::new(alloc);

@@ -62,9 +62,12 @@ fn judge_node(
     requires within { i < length draft.now.nodes }
     requires nodes { length draft.now.nodes ≤ 64 }
     requires topics { length draft.now.topics ≤ 64 }
-    requires known { known.now ≡ resolved_from draft.now.topics (nodes_view (take i draft.now.nodes)) }
-    ensures found { Finds result (fault_at draft.now parts.now (take i draft.now.nodes) (drop i draft.now.nodes)) }
-    ensures resolved { IfOk result (λ r. IsNode draft.now.topics (take i draft.now.nodes) (drop i draft.now.nodes) r) }
+    requires known { known.now ≡ resolved_from draft.now.topics
+        (nodes_view (take i draft.now.nodes)) }
+    ensures found { Finds result (fault_at draft.now parts.now (take i draft.now.nodes)
+        (drop i draft.now.nodes)) }
+    ensures resolved { IfOk result (λ r. IsNode draft.now.topics (take i draft.now.nodes)
+        (drop i draft.now.nodes) r) }
 {
     let nodes = draft.nodes.as_slice();
     let earlier = Earlier {
@@ -79,8 +82,10 @@ fn judge_nodes(alloc: Global, draft: &Draft, counts: &[u8]) -> Result<Vec<Resolv
     requires nodes { length draft.now.nodes ≤ 64 }
     requires topics { length draft.now.topics ≤ 64 }
     requires counts { counts.now ≡ (plan_of (draft_view draft.now)).counts }
-    ensures found { Finds result (nodes_fault (draft_view draft.now) [] (nodes_view draft.now.nodes)) }
-    ensures known { IfOk result (λ ks. ks.items ≡ resolved_from draft.now.topics (nodes_view draft.now.nodes)) }
+    ensures found { Finds result (nodes_fault (draft_view draft.now) []
+        (nodes_view draft.now.nodes)) }
+    ensures known { IfOk result (λ ks. ks.items
+        ≡ resolved_from draft.now.topics (nodes_view draft.now.nodes)) }
 {
     let mut known = Vec::new(alloc);
     let mut parts = Vec::new(alloc);
@@ -94,7 +99,8 @@ fn judge_nodes(alloc: Global, draft: &Draft, counts: &[u8]) -> Result<Vec<Resolv
 
 fn check_print(alloc: Global, all: Earlier<'_>, before: &[Blob], name: &Blob) -> Result<(), Stop>
     requires { IsEarlier all }
-    ensures { Finds result (first_fitting (print_lines all.entry.topics.now (nodes_view all.entry.nodes.now) before.now name.now)) }
+    ensures { Finds result (first_fitting (print_lines all.entry.topics.now
+        (nodes_view all.entry.nodes.now) before.now name.now)) }
 {
     if !is_node(all.nodes, name.as_slice()) {
         return Err(Stop::Fault(unknown(alloc, name.as_slice())?));
@@ -110,7 +116,8 @@ fn check_print(alloc: Global, all: Earlier<'_>, before: &[Blob], name: &Blob) ->
 
 fn judge_print(alloc: Global, all: Earlier<'_>, print: &[Blob]) -> Result<(), Stop>
     requires { IsEarlier all }
-    ensures { Finds result (printed_fault all.entry.topics.now (nodes_view all.entry.nodes.now) [] print.now) }
+    ensures { Finds result (printed_fault all.entry.topics.now (nodes_view all.entry.nodes.now) []
+        print.now) }
 {
     for i in 0..print.len() {
         check_print(alloc, all, &print[..i], &print[i])?;
@@ -124,7 +131,8 @@ pub fn judge_parts(alloc: Global, draft: &Draft, counts: &[u8]) -> Result<Vec<Re
     requires topics { length draft.now.topics ≤ 64 }
     requires counts { counts.now ≡ (plan_of (draft_view draft.now)).counts }
     ensures found { Finds result (parts_fault (draft_view draft.now)) }
-    ensures known { IfOk result (λ ks. ks.items ≡ resolved_from draft.now.topics (nodes_view draft.now.nodes)) }
+    ensures known { IfOk result (λ ks. ks.items
+        ≡ resolved_from draft.now.topics (nodes_view draft.now.nodes)) }
 {
     let known = judge_nodes(alloc, draft, counts)?;
     let all = Earlier {

@@ -114,13 +114,17 @@ fn show(
     requires sorted { sorted.now ≡ sorted_topics (draft_view draft.now) }
     requires nodes { length shape.now.wirings.items ≤ 64 }
     requires topics { length shape.now.counts.items ≤ 64 }
-    ensures infos { IfOk result (λ x. x.infos.items ≡ map (wired_topic_info (draft_view draft.now) shape.now) (wired_topics shape.now)) }
+    ensures infos { IfOk result (λ x. x.infos.items
+        ≡ map (wired_topic_info (draft_view draft.now) shape.now) (wired_topics shape.now)) }
     ensures all { IfOk result (λ x. x.all.items ≡ wired_topics shape.now) }
     ensures few { IfOk result (λ x. length x.all.items ≤ 400) }
     ensures tasks { IfOk result (λ x. x.tasks.items ≡ wired_tasks shape.now) }
-    ensures inputs { IfOk result (λ x. x.inputs.items ≡ numbers_read shape.now (wired_topics shape.now) (wired_drained shape.now)) }
-    ensures changelogs { IfOk result (λ x. x.changelogs.items ≡ numbers_read shape.now (wired_topics shape.now) (kept shape.now.wirings.items)) }
-    ensures drained { IfOk result (λ x. x.drained.items ≡ numbers_in (wired_topics shape.now) (wired_drained shape.now)) }
+    ensures inputs { IfOk result (λ x. x.inputs.items
+        ≡ numbers_read shape.now (wired_topics shape.now) (wired_drained shape.now)) }
+    ensures changelogs { IfOk result (λ x. x.changelogs.items
+        ≡ numbers_read shape.now (wired_topics shape.now) (kept shape.now.wirings.items)) }
+    ensures drained { IfOk result (λ x. x.drained.items
+        ≡ numbers_in (wired_topics shape.now) (wired_drained shape.now)) }
 {
     let topics = plan_topics(alloc, shape)?;
     let infos = topic_infos(alloc, draft, sorted, shape, &topics.all)?;

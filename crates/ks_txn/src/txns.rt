@@ -111,7 +111,9 @@ impl Txns {
     ) -> Result<Result<(), Refused>, AllocError>
         requires { w ≤ 16 }
         ensures ok { IfOk result (λ r. r ≡ done_by (start_fault (producer_at self.old w) epoch)) }
-        ensures producers { IfOk result (λ r. self.new ≡ changed_by (start_fault (producer_at self.old w) epoch) self.old w (added (producer_at self.old w) part)) }
+        ensures producers { IfOk result (λ r. self.new
+            ≡ changed_by (start_fault (producer_at self.old w) epoch) self.old w
+            (added (producer_at self.old w) part)) }
         ensures err { OnErr result (self.new ≡ self.old) }
     {
         let p = &mut self.producers[w as usize];
@@ -127,7 +129,8 @@ impl Txns {
     pub fn start(&mut self, w: u8, epoch: u64) -> Result<(), Refused>
         requires { w ≤ 16 }
         ensures answer { result ≡ done_by (start_fault (producer_at self.old w) epoch) }
-        ensures producers { self.new ≡ changed_by (start_fault (producer_at self.old w) epoch) self.old w (started (producer_at self.old w)) }
+        ensures producers { self.new ≡ changed_by (start_fault (producer_at self.old w) epoch)
+            self.old w (started (producer_at self.old w)) }
     {
         let p = &mut self.producers[w as usize];
         if let Some(refused) = p.start_refusal(epoch) {
@@ -155,7 +158,8 @@ impl Txns {
     pub fn decide(&mut self, w: u8, epoch: u64, commit: bool) -> Result<(), Refused>
         requires { w ≤ 16 }
         ensures answer { result ≡ done_by (decide_fault (producer_at self.old w) epoch) }
-        ensures producers { self.new ≡ changed_by (decide_fault (producer_at self.old w) epoch) self.old w (closed (producer_at self.old w) commit) }
+        ensures producers { self.new ≡ changed_by (decide_fault (producer_at self.old w) epoch)
+            self.old w (closed (producer_at self.old w) commit) }
     {
         let p = &mut self.producers[w as usize];
         if let Some(refused) = p.decide_refusal(epoch) {
@@ -177,7 +181,8 @@ impl Txns {
     pub fn marked(&mut self, w: u8)
         requires worker { w ≤ 16 }
         requires waits { 0 < length (producer_at self.old w).waiting }
-        ensures { self.new ≡ set self.old w (record (producer_at self.old w) { waiting = drop 1 (producer_at self.old w).waiting }) }
+        ensures { self.new ≡ set self.old w (record (producer_at self.old w)
+            { waiting = drop 1 (producer_at self.old w).waiting }) }
     {
         let p = &mut self.producers[w as usize];
         p.marked();

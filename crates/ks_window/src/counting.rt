@@ -113,8 +113,10 @@ fn keep<S: KvStore>(
     key: &[u8],
     value: &[u8],
 ) -> Result<(), AllocError>
-    ensures store { OnOk result (S.contents store.new ≡ fin.insert (S.contents store.old) key.now value.now) }
-    ensures recs { OnOk result (recs.new.items ≡ recs.old.items ++ kept_rec t key.now value.now ∷ []) }
+    ensures store { OnOk result (S.contents store.new
+        ≡ fin.insert (S.contents store.old) key.now value.now) }
+    ensures recs { OnOk result (recs.new.items ≡ recs.old.items ++ kept_rec t key.now value.now
+        ∷ []) }
 {
     store.put(key, value)?;
     push_rec(alloc, recs, t, key, value)
@@ -127,8 +129,10 @@ fn keep_greatest<S: KvStore>(
     t: u64,
     now: u64,
 ) -> Result<(), AllocError>
-    ensures store { OnOk result (S.contents store.new ≡ fin.insert (S.contents store.old) time_key (time_bytes now)) }
-    ensures recs { OnOk result (recs.new.items ≡ recs.old.items ++ kept_rec t time_key (time_bytes now) ∷ []) }
+    ensures store { OnOk result (S.contents store.new
+        ≡ fin.insert (S.contents store.old) time_key (time_bytes now)) }
+    ensures recs { OnOk result (recs.new.items ≡ recs.old.items
+        ++ kept_rec t time_key (time_bytes now) ∷ []) }
 {
     keep(alloc, store, recs, t, &TIME_KEY, &now.to_be_bytes())
 }
@@ -141,8 +145,10 @@ fn count_window<S: KvStore>(
     key: &Key,
     start: u64,
 ) -> Result<(), AllocError>
-    ensures store { OnOk result (S.contents store.new ≡ with_next (S.contents store.old) (window_key key.now start)) }
-    ensures recs { OnOk result (recs.new.items ≡ recs.old.items ++ next_rec t (S.contents store.old) (window_key key.now start) ∷ []) }
+    ensures store { OnOk result (S.contents store.new
+        ≡ with_next (S.contents store.old) (window_key key.now start)) }
+    ensures recs { OnOk result (recs.new.items ≡ recs.old.items
+        ++ next_rec t (S.contents store.old) (window_key key.now start) ∷ []) }
 {
     let place = write_window_key(alloc, key, start)?;
     let value = next_count(alloc, store, place.as_slice())?;
@@ -161,7 +167,11 @@ pub fn apply<S: KvStore>(
 ) -> Result<(u64, Vec<Rec>), AllocError>
     requires some { 1 ≤ window.now.advance }
     requires most { window.now.advance ≤ window.now.size }
-    ensures { IfOk result (λ r. record { store = S.contents store.new; late = r.0; recs = r.1.items } ≡ counted (shape window.now) (S.contents store.old) key.now t) }
+    ensures { IfOk result (λ r. record {
+      store = S.contents store.new;
+      late = r.0;
+      recs = r.1.items;
+    } ≡ counted (shape window.now) (S.contents store.old) key.now t) }
 {
     let before = time_of(store);
     let now = later_of(before, t);

@@ -21,7 +21,8 @@ fn push_count<S: KvStore>(
     key: &Key,
     start: u64,
 ) -> Result<(), AllocError>
-    ensures { OnOk result (recs.new.items ≡ recs.old.items ++ next_rec t (S.contents store.now) (window_key key.now start) ∷ []) }
+    ensures { OnOk result (recs.new.items ≡ recs.old.items
+        ++ next_rec t (S.contents store.now) (window_key key.now start) ∷ []) }
 {
     let place = write_window_key(alloc, key, start)?;
     let value = next_count(alloc, store, place.as_slice())?;
@@ -51,8 +52,10 @@ pub fn count<S: KvStore>(
 ) -> Result<(u64, Vec<Rec>), AllocError>
     requires some { 1 ≤ window.now.advance }
     requires most { window.now.advance ≤ window.now.size }
-    ensures late { IfOk result (λ r. r.0 ≡ (counted (shape window.now) (S.contents store.now) key.now t).late) }
-    ensures recs { IfOk result (λ r. r.1.items ≡ (counted (shape window.now) (S.contents store.now) key.now t).recs) }
+    ensures late { IfOk result (λ r. r.0 ≡ (counted (shape window.now) (S.contents store.now)
+        key.now t).late) }
+    ensures recs { IfOk result (λ r. r.1.items
+        ≡ (counted (shape window.now) (S.contents store.now) key.now t).recs) }
 {
     // The key is one: no two windows of it have one place in the store.
     let _text = key.as_str();

@@ -19,7 +19,8 @@ pub fn first_start(t: u64, size: u64, advance: u64) -> u64
 pub fn starts(alloc: Global, t: u64, size: u64, advance: u64) -> Result<Vec<u64>, AllocError>
     requires some { 1 ≤ advance }
     requires most { advance ≤ size }
-    ensures { IfOk result (λ v. v.items ≡ windows (record { size = size; advance = advance; grace = 0 }) t) }
+    ensures { IfOk result (λ v. v.items ≡ windows
+        (record { size = size; advance = advance; grace = 0 }) t) }
 {
     let first = t.saturating_sub(size - advance) / advance;
     let mut found = Vec::new(alloc);

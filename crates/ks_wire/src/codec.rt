@@ -15,8 +15,10 @@ use std::alloc::{AllocError, Global};
 
 /// The subscription that the bytes spell, all of them; none where they spell none.
 pub fn read_subscription(alloc: Global, bytes: &[u8]) -> Result<Option<Subscription>, AllocError>
-    ensures found { IfOk result (λ o. IfSome o (λ v. FitsSubscription v × (bytes.now ≡ subscription_bytes v))) }
-    ensures only { (v : SubscriptionValue) → FitsSubscription v → bytes.now ≡ subscription_bytes v → IfOk result (λ o. o ≡ Some v) }
+    ensures found { IfOk result (λ o. IfSome o
+        (λ v. FitsSubscription v × (bytes.now ≡ subscription_bytes v))) }
+    ensures only { (v : SubscriptionValue) → FitsSubscription v → bytes.now ≡ subscription_bytes v
+        → IfOk result (λ o. o ≡ Some v) }
     ensures exact { IfOk result (λ o. o ≡ subscription_from bytes.now) }
 {
     reading::subscription(alloc, bytes)
@@ -24,8 +26,10 @@ pub fn read_subscription(alloc: Global, bytes: &[u8]) -> Result<Option<Subscript
 
 /// The response that the bytes spell, all of them; none where they spell none.
 pub fn read_response(alloc: Global, bytes: &[u8]) -> Result<Option<Response>, AllocError>
-    ensures found { IfOk result (λ o. IfSome o (λ v. FitsResponse v × (bytes.now ≡ response_bytes v))) }
-    ensures only { (v : ResponseValue) → FitsResponse v → bytes.now ≡ response_bytes v → IfOk result (λ o. o ≡ Some v) }
+    ensures found { IfOk result (λ o. IfSome o
+        (λ v. FitsResponse v × (bytes.now ≡ response_bytes v))) }
+    ensures only { (v : ResponseValue) → FitsResponse v → bytes.now ≡ response_bytes v
+        → IfOk result (λ o. o ≡ Some v) }
     ensures exact { IfOk result (λ o. o ≡ response_from bytes.now) }
 {
     reading::response(alloc, bytes)
@@ -69,8 +73,10 @@ pub fn read_time(bytes: &[u8]) -> Option<u64>
 
 /// The foreign key and the left key that the bytes spell, all of them; none where they spell none.
 pub fn read_subscription_key(alloc: Global, bytes: &[u8]) -> Result<Option<(Key, Key)>, AllocError>
-    ensures found { IfOk result (λ o. IfSome o (λ v. FitsKeys v × (bytes.now ≡ subscription_key v.0 v.1))) }
-    ensures only { (v : List ℕ × List ℕ) → FitsKeys v → bytes.now ≡ subscription_key v.0 v.1 → IfOk result (λ o. o ≡ Some v) }
+    ensures found { IfOk result (λ o. IfSome o
+        (λ v. FitsKeys v × (bytes.now ≡ subscription_key v.0 v.1))) }
+    ensures only { (v : List ℕ × List ℕ) → FitsKeys v → bytes.now ≡ subscription_key v.0 v.1
+        → IfOk result (λ o. o ≡ Some v) }
     ensures exact { IfOk result (λ o. o ≡ subscription_key_from bytes.now) }
 {
     reading::subscription_key(alloc, bytes)
@@ -78,8 +84,10 @@ pub fn read_subscription_key(alloc: Global, bytes: &[u8]) -> Result<Option<(Key,
 
 /// The key and the start of the window that the bytes spell, all of them; none where they spell none.
 pub fn read_window_key(alloc: Global, bytes: &[u8]) -> Result<Option<(Key, u64)>, AllocError>
-    ensures found { IfOk result (λ o. IfSome o (λ v. FitsWindow v × (bytes.now ≡ window_key v.0 v.1))) }
-    ensures only { (v : List ℕ × ℕ) → FitsWindow v → bytes.now ≡ window_key v.0 v.1 → IfOk result (λ o. o ≡ Some v) }
+    ensures found { IfOk result (λ o. IfSome o
+        (λ v. FitsWindow v × (bytes.now ≡ window_key v.0 v.1))) }
+    ensures only { (v : List ℕ × ℕ) → FitsWindow v → bytes.now ≡ window_key v.0 v.1
+        → IfOk result (λ o. o ≡ Some v) }
     ensures exact { IfOk result (λ o. o ≡ window_key_from bytes.now) }
 {
     reading::window_key(alloc, bytes)
@@ -93,6 +101,7 @@ pub fn reading_undoes_writing()
     ensures agg { IsCodec agg_from agg_bytes FitsAgg }
     ensures hash { IsCodec hash_from hash_bytes (λ h. h < 2 ^ 128) }
     ensures time { IsCodec time_from time_bytes (λ t. t < 2 ^ 64) }
-    ensures subscription_keys { IsCodec subscription_key_from (λ p. subscription_key p.0 p.1) FitsKeys }
+    ensures subscription_keys { IsCodec subscription_key_from (λ p. subscription_key p.0 p.1)
+        FitsKeys }
     ensures window_keys { IsCodec window_key_from (λ p. window_key p.0 p.1) FitsWindow }
 {}

@@ -68,13 +68,15 @@ fn push_front(text: &mut String, order: u32) -> Result<(), AllocError>
 
 #[tactic(auto, unfolding(crate::specs::Load::order_value))]
 fn push_value(text: &mut String, customer: u32, amount: u32) -> Result<(), AllocError>
-    ensures { OnOk result (string_bytes text.new ≡ string_bytes text.old ++ order_value customer amount) }
+    ensures { OnOk result (string_bytes text.new ≡ string_bytes text.old
+        ++ order_value customer amount) }
 {
     write!(text, "{{\"cust\":\"c{customer}\",\"amt\":{amount}}}}}\n")
 }
 
 fn push_order(text: &mut String, order: u32, customer: u32, amount: u32) -> Result<(), AllocError>
-    ensures { OnOk result (string_bytes text.new ≡ string_bytes text.old ++ order_line order customer amount) }
+    ensures { OnOk result (string_bytes text.new ≡ string_bytes text.old
+        ++ order_line order customer amount) }
 {
     push_front(text, order)?;
     push_value(text, customer, amount)
@@ -89,7 +91,8 @@ fn push_deletion(text: &mut String, order: u32) -> Result<(), AllocError>
 
 #[tactic(auto, unfolding(crate::specs::Load::customer_line))]
 fn push_customer(text: &mut String, customer: u32, region: u32) -> Result<(), AllocError>
-    ensures { OnOk result (string_bytes text.new ≡ string_bytes text.old ++ customer_line customer region) }
+    ensures { OnOk result (string_bytes text.new ≡ string_bytes text.old
+        ++ customer_line customer region) }
 {
     write!(
         text,
@@ -109,7 +112,8 @@ fn push_record(text: &mut String, load: LoadRecord) -> Result<(), AllocError>
 
 // The line of a record, if there is one.
 fn push_any(text: &mut String, load: Option<LoadRecord>) -> Result<(), AllocError>
-    ensures { OnOk result (string_bytes text.new ≡ string_bytes text.old ++ flat_map record_line (records_of load)) }
+    ensures { OnOk result (string_bytes text.new ≡ string_bytes text.old
+        ++ flat_map record_line (records_of load)) }
 {
     match load {
         Some(load) => push_record(text, load),
@@ -126,7 +130,8 @@ fn push_section(
 ) -> Result<(), AllocError>
     requires customers { 0 < customers }
     requires few { count ≤ 150000 }
-    ensures { OnOk result (string_bytes text.new ≡ string_bytes text.old ++ flat_map record_line (section_records section customers 0 count)) }
+    ensures { OnOk result (string_bytes text.new ≡ string_bytes text.old
+        ++ flat_map record_line (section_records section customers 0 count)) }
 {
     for i in 0..count {
         push_any(text, record_in(section, customers, i))?;
@@ -140,7 +145,8 @@ fn push_records(text: &mut String, customers: u32, orders: u32) -> Result<(), Al
     requires customers { 0 < customers }
     requires few_customers { customers ≤ 150000 }
     requires few { orders ≤ 150000 }
-    ensures { OnOk result (string_bytes text.new ≡ string_bytes text.old ++ flat_map record_line (records_with customers orders)) }
+    ensures { OnOk result (string_bytes text.new ≡ string_bytes text.old
+        ++ flat_map record_line (records_with customers orders)) }
 {
     push_section(text, Section::Orders, customers, orders)?;
     push_section(text, Section::Customers, customers, customers)?;

@@ -13,7 +13,8 @@ use std::alloc::{AllocError, Global};
 fn number<'a>(alloc: Global, name: &'a str, low: i64, high: i64) -> Arg<'a>
     requires low { pos 0 ≤ℤ low }
     requires high { pos 0 ≤ℤ high }
-    ensures rule { (m n : ℕ) → low ≡ pos m → high ≡ pos n → rule_of result ≡ number_rule name.entry.now m n }
+    ensures rule { (m n : ℕ) → low ≡ pos m → high ≡ pos n → rule_of result
+        ≡ number_rule name.entry.now m n }
     ensures local { result.global ≡ false }
 {
     Arg::new(alloc, name)
@@ -34,7 +35,8 @@ fn switch<'a>(alloc: Global, name: &'a str) -> Arg<'a>
 fn plain<'a>(alloc: Global, name: &'a str, low: i64, high: i64) -> Arg<'a>
     requires low { pos 0 ≤ℤ low }
     requires high { pos 0 ≤ℤ high }
-    ensures rule { (m n : ℕ) → low ≡ pos m → high ≡ pos n → rule_of result ≡ plain_rule name.entry.now m n }
+    ensures rule { (m n : ℕ) → low ≡ pos m → high ≡ pos n → rule_of result
+        ≡ plain_rule name.entry.now m n }
     ensures local { result.global ≡ false }
 {
     Arg::new(alloc, name)
@@ -98,23 +100,28 @@ pub(crate) fn find_matches<'a>(
 
 /// A small number that was found, or else another.
 pub(crate) fn small_or(found: &ArgMatches<'_>, name: &str, otherwise: u8) -> u8
-    ensures { (low high : ℕ) → high < 2 ^ 8 → IfSome (one_text (found_of found.now) name.now) (λ t. is_number_in low high t ≡ true)
-        → result ≡ unwrap_or (option_map number_of (one_text (found_of found.now) name.now)) otherwise }
+    ensures { (low high : ℕ) → high < 2 ^ 8 → IfSome (one_text (found_of found.now) name.now)
+        (λ t. is_number_in low high t ≡ true)
+        → result ≡ unwrap_or (option_map number_of (one_text (found_of found.now) name.now))
+        otherwise }
 {
     found.get_one::<u8>(name).unwrap_or(otherwise)
 }
 
 /// A number that was found, or else another.
 pub(crate) fn number_or(found: &ArgMatches<'_>, name: &str, otherwise: u32) -> u32
-    ensures { (low high : ℕ) → high < 2 ^ 32 → IfSome (one_text (found_of found.now) name.now) (λ t. is_number_in low high t ≡ true)
-        → result ≡ unwrap_or (option_map number_of (one_text (found_of found.now) name.now)) otherwise }
+    ensures { (low high : ℕ) → high < 2 ^ 32 → IfSome (one_text (found_of found.now) name.now)
+        (λ t. is_number_in low high t ≡ true)
+        → result ≡ unwrap_or (option_map number_of (one_text (found_of found.now) name.now))
+        otherwise }
 {
     found.get_one::<u32>(name).unwrap_or(otherwise)
 }
 
 /// A large number, if it was found.
 pub(crate) fn large(found: &ArgMatches<'_>, name: &str) -> Option<u64>
-    ensures { (low high : ℕ) → high < 2 ^ 64 → IfSome (one_text (found_of found.now) name.now) (λ t. is_number_in low high t ≡ true)
+    ensures { (low high : ℕ) → high < 2 ^ 64 → IfSome (one_text (found_of found.now) name.now)
+        (λ t. is_number_in low high t ≡ true)
         → result ≡ option_map number_of (one_text (found_of found.now) name.now) }
 {
     found.get_one::<u64>(name)

@@ -110,11 +110,11 @@ answered_to k (Answered q r ∷ ms) = cond (same_bytes k q) (answers r ∷ answe
 answered_to k (m ∷ ms) = answered_to k ms
 
 -- ---- a state as a left key of the join sees it; the rows that the key has had are given
-abbrev pub Seen : Type 0
-Seen = Join Key Row Row Row
+abbrev pub KeyJoin : Type 0
+KeyJoin = Join Key Row Row Row
 
-abbrev pub seen : JoinAt → Key → List Row → State → Seen
-seen at k had st = record {
+abbrev pub key_join : JoinAt → Key → List Row → State → KeyJoin
+key_join at k had st = record {
   row = row_at st (left_task at k) at.left k;
   result = row_at st (left_task at k) at.node k;
   had = had;
