@@ -1,4 +1,5 @@
-//! The calls of a worker's client that read.
+//! The calls of a worker's client that read. Each passes a step of the turn first: `Halt::Cut`, where the gate cuts the worker off
+//! there. `Halt::OutOfMemory`: memory ran out.
 ghost use Rattle.std.specs.Prelude.{◌≡◌, ◌≤◌, true, IfOk};
 ghost use Rattle.std.specs.List.{All};
 ghost use Rattle.ks_history.specs.Reads.{MayFetch, fetched, committed_offsets, committed_refusal, ends_of, status};

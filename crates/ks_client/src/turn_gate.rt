@@ -48,7 +48,7 @@ impl<G: Gate> TurnGate<G> {
         self.step = 0;
     }
 
-    /// Whether the worker is cut off before the next step of its turn.
+    /// Goes on to the next step of the turn; `Cut`, where the gate cuts the worker off before it.
     pub fn pass_step(&mut self) -> Result<(), Halt>
         requires { HasRoomFor self.old }
         ensures counts { self.new ≡ counts_after self.old result }

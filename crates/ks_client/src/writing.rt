@@ -1,4 +1,5 @@
-//! The calls of a worker's client that write.
+//! The calls of a worker's client that write. Each passes a step of the turn first: `Halt::Cut`, where the gate cuts the worker off
+//! there, and then nothing is written. `Halt::OutOfMemory`: memory ran out; whether the call's entry was written isn't said.
 ghost use Rattle.std.specs.Prelude.{◌≡◌, ◌≤◌, true, IfOk, OnErr};
 ghost use Rattle.ks_history.specs.declared.journal.Request.TheVariants.{Init, MarkNext, Join, Expire, Hold, Probe, Assign};
 ghost use Rattle.ks_history.specs.declared.journal.Reply.TheVariants.{Done, Number, Truth, Mark as Marked};

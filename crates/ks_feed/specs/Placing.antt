@@ -1,4 +1,4 @@
--- The records of a job at their partitions (KIP-480: a record with a key goes to the partition of its hash).
+-- The records of a job at their partitions: a record with a key goes to the partition of its hash (Kafka's `DefaultPartitioner`).
 use Rattle.std.specs.Prelude.{ℕ, ◌<◌, ◌≤◌, List, length, Option, Some, None, slice_index}
 use Rattle.ks_row.specs.declared.record.Rec.{Rec}
 use Rattle.ks_row.specs.declared.record.PartId.{PartId}

@@ -202,7 +202,8 @@ fn judge_data(
     }
 }
 
-/// Judges a whole line; `end` is 1 where an LF ends it, and else 0.
+/// Judges a whole line: the place behind it, and its topology or record, none where it is blank; `end` is 1 where an LF ends it, and
+/// else 0. `Fault`: the first fault of the line, where it has one. `Memory`: memory ran out.
 #[tactic(auto, unfolding(crate::specs::Lines::judged, crate::specs::Lines::passes, crate::specs::Lines::is_too_long))]
 pub fn judge_line(
     alloc: Global,

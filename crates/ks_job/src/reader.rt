@@ -232,6 +232,7 @@ impl Model for JobReader {
 }
 
 impl JobReader {
+    /// A reader before the first byte of a job. Takes no memory.
     pub fn new(alloc: Global) -> JobReader
         ensures { result ≡ Some start }
     {
@@ -326,7 +327,8 @@ impl JobReader {
     }
 }
 
-/// Takes pieces one after another.
+/// Takes pieces one after another. A fault is no error of this call: the reader keeps it, and takes nothing that comes behind it.
+/// `AllocError`: memory ran out, as every later call then answers.
 pub fn feed_all(
     reader: &mut JobReader,
     pieces: &[Vec<u8>],

@@ -27,6 +27,7 @@ impl Model for TextSource {
 }
 
 impl TextSource {
+    /// A source that gives this text from its first byte on.
     pub fn new(text: Blob) -> TextSource
         ensures { result ≡ text }
     {

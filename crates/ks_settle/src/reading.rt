@@ -110,7 +110,7 @@ fn read_on<H: Hash128, W: Work>(
 }
 
 /// A task reads a topic to its end, where it is one of its inputs; what it then has to commit, if it has taken anything or passed
-/// over anything.
+/// over anything. `AllocError`: memory ran out; the task may have taken a part of the topic, and its owner lets it go.
 pub fn read_task<H: Hash128, W: Work>(
     alloc: Global,
     topology: &Topology,

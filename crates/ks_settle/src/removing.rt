@@ -13,7 +13,7 @@ use std::alloc::{AllocError, Global};
 const WORKERS: u8 = 17;
 
 /// Removes every worker from the group, which then has no member: what it had undecided is aborted, and its epoch is over (KIP-98:
-/// fencing).
+/// fencing). `AllocError`: memory ran out, with some of the workers removed; the journal has an entry for each of these.
 pub fn remove_workers<W: Work>(alloc: Global, cluster: &mut Cluster<W>) -> Result<(), AllocError>
     ensures decided { OnOk result ((w : ℕ) → w ≤ 16 →
         ((state_of W.plan cluster.new).producer w).undecided ≡ None) }
@@ -28,7 +28,8 @@ pub fn remove_workers<W: Work>(alloc: Global, cluster: &mut Cluster<W>) -> Resul
     Ok(())
 }
 
-/// Writes the waiting markers of every producer, so that the cluster stands between two transactions.
+/// Writes the waiting markers of every producer, so that the cluster stands between two transactions. `AllocError`: memory ran out,
+/// with some of the markers written; the journal has an entry for each of these.
 pub fn write_all_markers<W: Work>(alloc: Global, cluster: &mut Cluster<W>) -> Result<(), AllocError>
     requires network { IsNetwork (W.plan cluster.old.work) }
     requires decided { (w : ℕ) → w ≤ 16 →

@@ -120,8 +120,9 @@ fn restore<W: Work>(
     }
 }
 
-/// Every task of the topology, restored by the worker that has them all. Kafka Streams: what a `StoreChangelogReader` does before a
-/// task runs.
+/// Every task of the topology, restored by the worker that has them all: its stores are what the committed records of its changelogs
+/// leave, its positions the committed offsets. Kafka Streams: what a `StoreChangelogReader` does before a task runs. `AllocError`:
+/// memory ran out; the cluster is as it was.
 pub fn restore_tasks<W: Work>(
     alloc: Global,
     topology: &Topology,

@@ -234,7 +234,7 @@ impl Task {
     }
 
     /// The work since its last commit: outputs and changelog records by partition, the offsets of its inputs, the order in which it
-    /// took their records.
+    /// took their records. `AllocError`: memory ran out; the task is as it was.
     pub fn freeze(&self, alloc: Global) -> Result<Frozen, AllocError>
         ensures { (d : DraftView) (hash : List ℕ → ℕ) → IsTaskOf d self.now
             → IfOk result (λ f. IsFrozen (work_of (rules_of hash) (plan_of d)) (task_view self.now)

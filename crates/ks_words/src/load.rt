@@ -155,7 +155,8 @@ fn push_records(text: &mut String, customers: u32, orders: u32) -> Result<(), Al
     push_section(text, Section::Moves, customers, customers)
 }
 
-/// The load job of so many orders: its topology line, and then a line for each of its records. Want of memory is the one error.
+/// The load job of so many orders, 1 to 150,000: its topology line, and then a line for each of its records. Want of memory is the one
+/// error.
 pub fn load_job(alloc: Global, orders: u32) -> Result<Blob, AllocError>
     requires some { 0 < orders }
     requires few { orders ≤ 150000 }
