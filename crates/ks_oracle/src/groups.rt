@@ -47,12 +47,14 @@ impl Groups {
         }
     }
 
+    /// What a group has, if anything.
     pub fn get(&self, group: &Key) -> Option<Agg>
         ensures { result ≡ fin.get self.now group.now }
     {
         self.tree.get(group).copied()
     }
 
+    /// The group has this from now on.
     pub fn put(&mut self, group: Key, agg: Agg) -> Result<(), AllocError>
         ensures { OnOk result (self.new ≡ fin.insert self.old group agg) }
     {

@@ -26,12 +26,14 @@ impl Model for Item {
 }
 
 impl Item {
+    /// Its row.
     pub fn row(&self) -> &Row
         ensures { result.now ≡ self.now.row }
     {
         &self.row
     }
 
+    /// Its time, in milliseconds.
     pub fn time(&self) -> u64
         ensures { result ≡ self.now.time }
     {

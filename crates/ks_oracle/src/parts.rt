@@ -18,6 +18,7 @@ pub struct Hops {
     pub grace: u64,
 }
 
+/// The predicate of a filter.
 pub fn test_in(op: &Op) -> Option<&Pred>
     ensures { option_map (λ p. test_of p.now) result ≡ has_test (op_view op.now) }
 {
@@ -27,6 +28,7 @@ pub fn test_in(op: &Op) -> Option<&Pred>
     }
 }
 
+/// The projection of a `map_values`.
 pub fn set_in(op: &Op) -> Option<&Proj>
     ensures { option_map (λ s. set_of s.now) result ≡ has_set (op_view op.now) }
 {
@@ -36,6 +38,7 @@ pub fn set_in(op: &Op) -> Option<&Proj>
     }
 }
 
+/// The field of a `select_key`.
 pub fn key_in(op: &Op) -> Option<&Name>
     ensures { option_copied result ≡ has_key (op_view op.now) }
 {
@@ -57,6 +60,7 @@ pub fn group_in(op: &Op) -> Option<(Option<&Name>, Option<&Name>)>
     }
 }
 
+/// The kind and the projection of a join by key.
 pub fn join_in(op: &Op) -> Option<(JoinKind, &Proj)>
     ensures { option_map (λ j. (j.0, set_of j.1.now)) result ≡ has_join (op_view op.now) }
 {
@@ -66,6 +70,7 @@ pub fn join_in(op: &Op) -> Option<(JoinKind, &Proj)>
     }
 }
 
+/// The field of a join on a foreign key, its kind and its projection.
 pub fn foreign_in(op: &Op) -> Option<(&Name, (JoinKind, &Proj))>
     ensures { option_map (λ j. (j.0.now, (j.1.0, set_of j.1.1.now))) result
         ≡ has_foreign (op_view op.now) }

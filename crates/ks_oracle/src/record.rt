@@ -22,6 +22,7 @@ impl Model for JobRecord {
 }
 
 impl JobRecord {
+    /// A record of this topic; none of its parts is judged.
     pub fn new(topic: u16, key: Option<Key>, row: Option<Row>, time: u64) -> JobRecord
         ensures { result ≡ record { topic = topic; key = key; value = row; time = time } }
     {
@@ -33,24 +34,28 @@ impl JobRecord {
         }
     }
 
+    /// The number of its topic.
     pub fn topic(&self) -> u16
         ensures { result ≡ self.now.topic }
     {
         self.topic
     }
 
+    /// Its key, where it has one.
     pub fn key(&self) -> Option<&Key>
         ensures { option_copied result ≡ self.now.key }
     {
         self.key.as_ref()
     }
 
+    /// Its row; none where it deletes.
     pub fn row(&self) -> Option<&Row>
         ensures { option_copied result ≡ self.now.value }
     {
         self.row.as_ref()
     }
 
+    /// Its time, in milliseconds.
     pub fn time(&self) -> u64
         ensures { result ≡ self.now.time }
     {

@@ -49,6 +49,7 @@ impl Rows {
         }
     }
 
+    /// The row at a key.
     pub fn get(&self, key: &Key) -> Option<&Row>
         ensures { option_copied result ≡ fin.get self.now key.now }
     {

@@ -50,12 +50,14 @@ impl Spans {
         }
     }
 
+    /// What a window has, if anything.
     pub fn get(&self, window: &(Key, u64)) -> Option<Agg>
         ensures { result ≡ fin.get self.now window.now }
     {
         self.tree.get(window).copied()
     }
 
+    /// The window has this from now on.
     pub fn put(&mut self, window: (Key, u64), agg: Agg) -> Result<(), AllocError>
         ensures { OnOk result (self.new ≡ fin.insert self.old window agg) }
     {

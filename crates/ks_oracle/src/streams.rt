@@ -39,6 +39,7 @@ pub fn source_items(
     Ok(found)
 }
 
+/// The items whose rows meet the predicate.
 #[tactic(auto, using(crate::proofs::Lists::some_pushed))]
 pub fn filtered_items(alloc: Global, test: &Pred, items: &[Item]) -> Result<Vec<Item>, AllocError>
     ensures { IfOk result (λ v. v.items ≡ some_of (filter_item (test_of test.now)) items.now) }
@@ -52,6 +53,7 @@ pub fn filtered_items(alloc: Global, test: &Pred, items: &[Item]) -> Result<Vec<
     Ok(found)
 }
 
+/// The items with their projected rows, of those that have one.
 #[tactic(auto, using(crate::proofs::Lists::some_pushed))]
 pub fn mapped_items(alloc: Global, set: &Proj, items: &[Item]) -> Result<Vec<Item>, AllocError>
     ensures { IfOk result (λ v. v.items ≡ some_of (map_item (set_of set.now)) items.now) }
@@ -65,6 +67,7 @@ pub fn mapped_items(alloc: Global, set: &Proj, items: &[Item]) -> Result<Vec<Ite
     Ok(found)
 }
 
+/// The items under the keys that a field gives, of those that it gives one.
 #[tactic(auto, using(crate::proofs::Lists::some_pushed))]
 pub fn rekeyed_items(alloc: Global, name: &Name, items: &[Item]) -> Result<Vec<Item>, AllocError>
     ensures { IfOk result (λ v. v.items ≡ some_of (rekey_item name.now) items.now) }

@@ -44,6 +44,7 @@ pub fn latest_rows(alloc: Global, topic: u16, records: &[JobRecord]) -> Result<R
     Ok(rows)
 }
 
+/// The rows that meet the predicate.
 pub fn filtered_rows(alloc: Global, test: &Pred, rows: &Rows) -> Result<Rows, AllocError>
     ensures { IfOk result (λ t. t ≡ map_values
         (λ v. cond (holds (test_of test.now) v) (Some v) None) rows.now) }
@@ -58,6 +59,7 @@ pub fn filtered_rows(alloc: Global, test: &Pred, rows: &Rows) -> Result<Rows, Al
     Ok(kept)
 }
 
+/// The projected rows, of those that have one.
 pub fn mapped_rows(alloc: Global, set: &Proj, rows: &Rows) -> Result<Rows, AllocError>
     ensures { IfOk result (λ t. t ≡ map_values (λ v. project (set_of set.now) (Some v) None)
         rows.now) }
