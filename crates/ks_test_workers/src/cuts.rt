@@ -1,4 +1,4 @@
-//! A commit that is cut off at each of its steps.
+//! A commit that is cut off at each of its steps, and a later turn at its first.
 use crate::plays::play_job;
 use crate::scenes::{Does, Move, Scene, Who};
 use crate::workers::{LOST, ORDER, SHOWN, TOGETHER};
@@ -27,6 +27,46 @@ const COMMITTED: &[Move<'static>] = &[
     ),
 ];
 
+/// The worker is cut off before the first step of its second turn, since the steps count from 0 in each turn; in the third it begins anew.
+const CUT_LATER: Scene<'static> = Scene {
+    moves: &[
+        (
+            Who::First,
+            Does::Turn(Act::Work(0)),
+            "member, epoch 1, generation 1, task 0_0 at 1 0 dirty, task 1_0 at 0 0",
+        ),
+        (Who::First, Does::Turn(Act::Work(0)), LOST),
+        (
+            Who::First,
+            Does::Turn(Act::Work(0)),
+            "member, epoch 2, generation 2, task 0_0 at 1 0 dirty, task 1_0 at 0 0",
+        ),
+        (
+            Who::First,
+            Does::Act(Act::Work(0)),
+            "member, epoch 2, generation 2, task 0_0 at 1 0 dirty, task 1_0 at 1 0 dirty",
+        ),
+        (
+            Who::First,
+            Does::Act(Act::Commit),
+            "member, epoch 2, generation 2, task 0_0 at 1 0, task 1_0 at 1 0",
+        ),
+    ],
+    placing: TOGETHER,
+    cut: Some((2, 0)),
+    lines: r#"["join",0,1]
+["assign",0,1,[["0_0",0],["1_0",0]],[],[],true]
+["unpark",0,"0_0",false]
+["unpark",0,"1_0",false]
+["join",0,2]
+["assign",0,2,[["0_0",0],["1_0",0]],[],[],true]
+["unpark",0,"0_0",false]
+["unpark",0,"1_0",false]
+["decide",0,2,true,true]
+"#,
+    appends: 3,
+};
+
 /// Wherever it is cut off it loses all that it had, and the drain brings the tables.
 #[test]
 fn a_commit_is_cut_off_at_each_step(rt: HostRuntime) -> Result<(), Fail> {
@@ -44,5 +84,18 @@ fn a_commit_is_cut_off_at_each_step(rt: HostRuntime) -> Result<(), Fail> {
         };
         assert_eq!(rt; played.text.as_slice(), SHOWN.as_bytes());
     }
+    Ok(())
+}
+
+/// The steps count from 0 in each turn.
+#[test]
+fn a_later_turn_is_cut_off_at_its_first_step(rt: HostRuntime) -> Result<(), Fail> {
+    let alloc = rt.alloc();
+    let Some(played) = play_job::<Murmur3, HostRuntime>(&rt, alloc, ORDER, &CUT_LATER)? else {
+        panic!(rt)
+    };
+    assert_eq!(rt; played.lines.as_slice(), CUT_LATER.lines.as_bytes());
+    assert_eq!(rt; played.appends, CUT_LATER.appends);
+    assert_eq!(rt; played.text.as_slice(), SHOWN.as_bytes());
     Ok(())
 }
