@@ -6,6 +6,7 @@ use crate::rows::{TOTALS, TOTALS_SHOWN};
 use crate::workers::{ORDER, SHOWN, limited, run_with, two_threads};
 use ks_edge::{Act, Gate, ScriptGate, SteadyGate, TurnView};
 use ks_hash::Murmur3;
+use ks_history::{Entry, Request};
 use ks_words::Settings;
 use std::alloc::{AllocError, Global};
 use std::sync::Arc;
@@ -172,7 +173,19 @@ fn repeated(alloc: Global, acts: &[Act], times: u32) -> Result<Vec<Act>, AllocEr
     Ok(all)
 }
 
-/// Wherever a worker that works by the rule is cut off, the tables are the same.
+// How many epochs worker 0 began.
+fn count_epochs(entries: &[Entry]) -> usize {
+    let mut epochs: usize = 0;
+    for entry in entries {
+        if let Request::Init { w: 0 } = &entry.request {
+            epochs = epochs.saturating_add(1);
+        }
+    }
+    epochs
+}
+
+/// Wherever a worker that works by the rule is cut off, the tables are the same. It begins anew each time: in a second epoch, but where it
+/// was cut off before it began its first.
 #[test]
 fn a_worker_is_cut_off_at_each_step(rt: HostRuntime) -> Result<(), Fail> {
     let alloc = rt.alloc();
@@ -191,6 +204,8 @@ fn a_worker_is_cut_off_at_each_step(rt: HostRuntime) -> Result<(), Fail> {
                 &rt, alloc, &settings, ORDER, gates, SHOWN,
             )?;
             assert_eq!(rt; ended.status, 0);
+            let begun = if turn == 0 && step == 0 { 1 } else { 2 };
+            assert_eq!(rt; count_epochs(ended.journal.as_slice()), begun);
         }
     }
     Ok(())
