@@ -32,8 +32,8 @@ const CUT_LATER: Scene<'static> = Scene {
     moves: &[
         (
             Who::First,
-            Does::Turn(Act::Work(0)),
-            "member, epoch 1, generation 1, task 0_0 at 1 0 dirty, task 1_0 at 0 0",
+            Does::Turn(Act::Work(2)),
+            "member, epoch 1, generation 1, task 0_0 at 0 0, task 1_0 at 1 0 dirty",
         ),
         (Who::First, Does::Turn(Act::Work(0)), LOST),
         (
