@@ -1,77 +1,82 @@
-//! The tables of three jobs computed from their lines by hash maps, with no engine round them: what the answer costs by itself. The one
-//! word names the job (`orders`: the load job; `table`, `count`: those of `bench/growth`); the topology's line is passed over. It prints what
-//! `streams run` prints. Stock Rust, for `bench/compare` alone.
+//! The load job's two tables computed from its lines by hash maps, with no engine round them: what the answer costs by itself. The
+//! topology's line is passed over. It prints what `streams run` prints. Stock Rust, for `bench/compare` alone.
 use serde_json::Value;
 use std::collections::{BTreeMap, HashMap};
-use std::io::{self, BufRead, BufWriter, Write};
+use std::io::{self, BufRead, Write};
 
-/// The present rows of each topic.
-type Rows = HashMap<String, HashMap<String, Value>>;
+/// The amount and the number of a region's orders.
+#[derive(Default)]
+struct Total {
+    sum: i64,
+    count: i64,
+}
 
-fn read_rows(input: impl BufRead) -> io::Result<Rows> {
-    let mut rows = Rows::new();
-    for line in input.lines().skip(1) {
-        let mut record: Value = serde_json::from_str(&line?)?;
-        let topic = rows.entry(text(&record["topic"])).or_default();
-        let key = text(&record["key"]);
-        match record["value"].take() {
-            Value::Null => topic.remove(&key),
-            row => topic.insert(key, row),
-        };
-    }
-    Ok(rows)
+/// The present orders, each with its customer and its amount, and the present customers with their regions.
+#[derive(Default)]
+struct Tables {
+    orders: HashMap<String, (String, i64)>,
+    customers: HashMap<String, String>,
 }
 
 fn text(value: &Value) -> String {
-    value.as_str().unwrap_or_default().to_owned()
+    value.as_str().unwrap_or_default().to_string()
 }
 
-fn write_table<R: std::fmt::Display>(out: &mut impl Write, name: &str, rows: &BTreeMap<String, R>) -> io::Result<()> {
-    writeln!(out, "table {name} {}", rows.len())?;
-    for (key, row) in rows {
-        writeln!(out, "[{},{row}]", Value::from(key.as_str()))?;
-    }
-    Ok(())
-}
-
-fn write_groups(out: &mut impl Write, name: &str, what: &str, groups: &BTreeMap<String, i64>) -> io::Result<()> {
-    let rows = groups.iter().map(|(group, n)| (group.clone(), format!("{{\"{what}\":{n}}}"))).collect();
-    write_table(out, name, &rows)
-}
-
-/// The orders joined to their customers: the sum of the amounts and the number of orders of each region.
-fn write_orders(out: &mut impl Write, mut rows: Rows) -> io::Result<()> {
-    let orders = rows.remove("orders").unwrap_or_default();
-    let customers = rows.remove("customers").unwrap_or_default();
-    let mut totals = BTreeMap::<String, i64>::new();
-    let mut counts = BTreeMap::<String, i64>::new();
-    for order in orders.values() {
-        if let Some(customer) = order["cust"].as_str().and_then(|key| customers.get(key)) {
-            let region = text(&customer["region"]);
-            *totals.entry(region.clone()).or_default() += order["amt"].as_i64().unwrap_or_default();
-            *counts.entry(region).or_default() += 1;
+impl Tables {
+    fn take_order(&mut self, key: String, row: &Value) {
+        if row.is_null() {
+            self.orders.remove(&key);
+        } else {
+            self.orders.insert(key, (text(&row["cust"]), row["amt"].as_i64().unwrap_or_default()));
         }
     }
-    write_groups(out, "totals", "sum", &totals)?;
-    write_groups(out, "orders_per_region", "count", &counts)
-}
 
-fn write_count(out: &mut impl Write, rows: Rows) -> io::Result<()> {
-    let mut counts = BTreeMap::<String, i64>::new();
-    for row in rows.values().flat_map(HashMap::values) {
-        *counts.entry(text(&row["region"])).or_default() += 1;
+    fn take_customer(&mut self, key: String, row: &Value) {
+        if row.is_null() {
+            self.customers.remove(&key);
+        } else {
+            self.customers.insert(key, text(&row["region"]));
+        }
     }
-    write_groups(out, "g", "count", &counts)
+
+    fn read(input: impl BufRead) -> io::Result<Tables> {
+        let mut tables = Tables::default();
+        for line in input.lines().skip(1) {
+            let record: Value = serde_json::from_str(&line?)?;
+            let key = text(&record["key"]);
+            if record["topic"] == "orders" {
+                tables.take_order(key, &record["value"]);
+            } else {
+                tables.take_customer(key, &record["value"]);
+            }
+        }
+        Ok(tables)
+    }
+
+    fn totals(&self) -> BTreeMap<&str, Total> {
+        let mut totals: BTreeMap<&str, Total> = BTreeMap::new();
+        for (customer, amount) in self.orders.values() {
+            if let Some(region) = self.customers.get(customer) {
+                let total = totals.entry(region).or_default();
+                total.sum = total.sum.wrapping_add(*amount);
+                total.count += 1;
+            }
+        }
+        totals
+    }
 }
 
 fn main() -> io::Result<()> {
-    let rows = read_rows(io::stdin().lock())?;
-    let mut out = BufWriter::new(io::stdout().lock());
-    writeln!(out, "settled")?;
-    match std::env::args().nth(1).as_deref() {
-        Some("orders") => write_orders(&mut out, rows)?,
-        Some("count") => write_count(&mut out, rows)?,
-        _ => write_table(&mut out, "o", &rows.into_values().flatten().collect())?,
+    let tables = Tables::read(io::stdin().lock())?;
+    let totals = tables.totals();
+    let mut out = io::BufWriter::new(io::stdout().lock());
+    writeln!(out, "settled\ntable totals {}", totals.len())?;
+    for (region, total) in &totals {
+        writeln!(out, "[\"{region}\",{{\"sum\":{}}}]", total.sum)?;
+    }
+    writeln!(out, "table orders_per_region {}", totals.len())?;
+    for (region, total) in &totals {
+        writeln!(out, "[\"{region}\",{{\"count\":{}}}]", total.count)?;
     }
     out.flush()
 }

@@ -19,7 +19,7 @@ pub fn number(numbers: &[(PartId, u64)], part: PartId) -> u64
 }
 
 /// The numbers, with another one for this partition.
-pub fn renumbered(
+pub fn with_next_number(
     alloc: Global,
     numbers: &[(PartId, u64)],
     part: PartId,

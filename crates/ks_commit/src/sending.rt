@@ -9,7 +9,7 @@ ghost use Rattle.ks_commit.specs.Work.{work_view};
 ghost use Rattle.ks_commit.specs.Committed.{works_of, IsSending, IsSame, IsOfCluster, EachOf};
 
 use crate::accepted::{add, append, send_offsets};
-use crate::numbers::{number, renumbered};
+use crate::numbers::{number, with_next_number};
 use crate::publisher::Publisher;
 use crate::work::Frozen;
 use ks_cluster::{Cluster, Work};
@@ -44,7 +44,7 @@ fn put<W: Work>(
     // The new number fits, since it is at most the partition's end.
     let _end = ends[0];
     let now = before + recs.len() as u64;
-    let numbers = renumbered(alloc, publisher.numbers.as_slice(), part, now)?;
+    let numbers = with_next_number(alloc, publisher.numbers.as_slice(), part, now)?;
     publisher.numbers = numbers;
     Ok(())
 }

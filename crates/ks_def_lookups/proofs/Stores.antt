@@ -14,16 +14,16 @@ use Rattle.ks_expr.specs.Eval.{same_bytes}
 use Rattle.ks_plan.specs.Plan.{is_windowed}
 use Rattle.ks_plan.specs.Layout.{kind_at, number_of}
 use Rattle.ks_plan.specs.declared.node.Topic.TheVariants.{Changelog, HashChangelog}
-use Rattle.ks_def_maps.specs.FinMap as fin
-use Rattle.ks_def_maps.specs.FinMap.{FinMap}
-use Rattle.ks_def_maps.specs.Bytes.{by_bytes, Store as ByteStore}
+use Rattle.ks_def_runs.specs.FinMap as fin
+use Rattle.ks_def_runs.specs.FinMap.{FinMap}
+use Rattle.ks_def_runs.specs.Bytes.{by_bytes, Store as ByteStore}
 use Rattle.ks_query.specs.Streams.{Key}
 use Rattle.ks_def_tasks.specs.Bytes.{is_own, stored_from, store_from, map_from, left_at, hashes_from}
 use Rattle.ks_def_tasks.specs.Laws.{AreBytes}
 use Rattle.ks_def_tasks.proofs.Same.{bytes-is}
 use Rattle.ks_def_tasks.proofs.Shown.{Alone, get-read, over_here}
-use Rattle.ks_fk_right.specs.Kept.{kept_under}
-use Rattle.ks_fk_right.proofs.Decoding.{kept_is_decoded}
+use Rattle.ks_def_lookups.specs.Kept.{kept_under}
+use Rattle.ks_def_lookups.proofs.KeptDecoded.{kept_is_decoded}
 use Rattle.ks_def_lookups.specs.Stores.{StoresAreLookedUp}
 
 bytes_anti : IsAntisymmetric by_bytes

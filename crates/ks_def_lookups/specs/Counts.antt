@@ -1,9 +1,9 @@
 -- What a windowed count makes of an item over the bytes of its store.
 use Rattle.std.specs.Prelude.{ℕ, [], Option, Some, None}
-use Rattle.ks_def_maps.specs.Bytes.{Store}
+use Rattle.ks_def_runs.specs.Bytes.{Store}
 use Rattle.ks_plan.specs.Plan.{Window}
 use Rattle.ks_query.specs.Streams.{Key, StreamItem}
-use Rattle.ks_window.specs.Counting.{CountedBytes, counted}
+use Rattle.ks_def_lookups.specs.Windows.{CountedBytes, counted}
 
 abbrev pub nothing_counted : Store → CountedBytes
 nothing_counted m = record { store = m; late = 0; recs = [] }

@@ -5,14 +5,14 @@ use Rattle.ks_row.specs.Reading.{◌>>=◌}
 use Rattle.ks_plan.specs.Plan.{Plan, is_windowed}
 use Rattle.ks_plan.specs.Layout.{kind_at, number_of}
 use Rattle.ks_plan.specs.declared.node.Topic.TheVariants.{Changelog, HashChangelog}
-use Rattle.ks_def_maps.specs.FinMap as fin
+use Rattle.ks_def_runs.specs.FinMap as fin
 use Rattle.ks_wire.specs.Spelling.{subscription_key}
 use Rattle.ks_wire.specs.Reading.{hash_from}
 use Rattle.ks_query.specs.Streams.{Key}
 use Rattle.ks_def_tasks.specs.Messages.{Stored}
 use Rattle.ks_def_tasks.specs.Bytes.{ByteStores, is_own, stored_from, store_from}
 use Rattle.ks_def_tasks.specs.Laws.{AreBytes}
-use Rattle.ks_fk_right.specs.Kept.{kept_under}
+use Rattle.ks_def_lookups.specs.Kept.{kept_under}
 
 -- a table's value at a key: of a windowed count, and of a node that other tasks keep, none
 abbrev pub table_at : Plan → ℕ → ByteStores → ℕ → Key → Option Stored

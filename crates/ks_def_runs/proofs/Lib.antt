@@ -2,3 +2,4 @@ pub mod Runs
 pub mod Sums
 pub mod Takes
 pub mod Readers
+pub mod Tables

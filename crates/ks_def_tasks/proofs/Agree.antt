@@ -14,11 +14,11 @@ use Rattle.ks_plan.specs.Plan.Kind.{StreamSource, TableSource, StreamFilter, Tab
 use Rattle.ks_plan.specs.declared.node.Topic.{Topic}
 use Rattle.ks_plan.specs.declared.node.Topic.TheVariants.{Changelog}
 use Rattle.ks_plan.specs.Layout.{topic_at, topics_of, number_of, reads, kind_at, no_kind}
-use Rattle.ks_def_maps.specs.FinMap as fin
-use Rattle.ks_def_maps.specs.FinMap.{FinMap}
-use Rattle.ks_def_maps.specs.Bytes.{by_bytes, Store as ByteStore}
-use Rattle.ks_def_maps.specs.Table.{write}
-use Rattle.ks_def_maps.proofs.Tables.{write_same, get-write_here}
+use Rattle.ks_def_runs.specs.FinMap as fin
+use Rattle.ks_def_runs.specs.FinMap.{FinMap}
+use Rattle.ks_def_runs.specs.Bytes.{by_bytes, Store as ByteStore}
+use Rattle.ks_def_runs.specs.Table.{write}
+use Rattle.ks_def_runs.proofs.Tables.{write_same, get-write_here}
 use Rattle.ks_def_runs.specs.Run.{Outcome}
 use Rattle.ks_query.specs.Streams.{Key, StreamItem}
 use Rattle.ks_def_tasks.specs.Messages.{Place, Stored, Message, Item, Store, Rules, same_option, same_stored}

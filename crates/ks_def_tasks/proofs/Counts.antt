@@ -18,10 +18,10 @@ use Rattle.ks_wire.specs.declared.values.Agg.{Agg}
 use Rattle.ks_wire.specs.Spelling.{window_key, agg_bytes, time_key, time_bytes}
 use Rattle.ks_wire.specs.Reading.{window_key_from, agg_from, time_from, long_key_at}
 use Rattle.ks_wire.proofs.Wired.{window_key_codec, agg_codec, time_codec}
-use Rattle.ks_def_maps.specs.FinMap as fin
-use Rattle.ks_def_maps.specs.FinMap.{FinMap}
-use Rattle.ks_def_maps.specs.Bytes.{by_bytes, Store as ByteStore}
-use Rattle.ks_def_maps.proofs.Tables.{get-write, get-write_here, equal}
+use Rattle.ks_def_runs.specs.FinMap as fin
+use Rattle.ks_def_runs.specs.FinMap.{FinMap}
+use Rattle.ks_def_runs.specs.Bytes.{by_bytes, Store as ByteStore}
+use Rattle.ks_def_runs.proofs.Tables.{get-write, get-write_here, equal}
 use Rattle.ks_plan.specs.Plan.{Window}
 use Rattle.ks_query.specs.Streams.{Key}
 use Rattle.ks_query.specs.Windows.{WindowKey, by_window}

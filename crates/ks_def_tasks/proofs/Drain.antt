@@ -8,7 +8,7 @@ use Rattle.ks_plan.specs.Plan.Kind.{StreamAggregate, TableAggregate, Windowed, F
 use Rattle.ks_plan.specs.declared.node.Topic.TheVariants.{Input as InputTopic, Repartition, Subscriptions, Responses}
 use Rattle.ks_plan.specs.declared.node.Topic.{Topic}
 use Rattle.ks_plan.specs.Layout.{kind_at, right_of, up_to, drain_order, parts_of_topic, parts_of, sub_of}
-use Rattle.ks_def_maps.specs.FinMap as map
+use Rattle.ks_def_runs.specs.FinMap as map
 use Rattle.ks_query.specs.Streams.{Input}
 use Rattle.ks_def_runs.specs.Run.{RunState, run}
 use Rattle.ks_row.specs.declared.record.TaskId.{TaskId}

@@ -12,7 +12,7 @@ use Rattle.ks_expr.specs.Eval.{Row}
 use Rattle.ks_plan.specs.Drafts.{DraftView, NodeView, StreamOf, TableOf, FilterOf, KeyOf, CountOf, SumOf, WindowedOf, JoinOf, FkJoinOf}
 use Rattle.ks_plan.specs.Plan.{plan_of}
 use Rattle.ks_plan.specs.Layout.{sub_count}
-use Rattle.ks_def_maps.specs.FinMap as fin
+use Rattle.ks_def_runs.specs.FinMap as fin
 use Rattle.ks_def_runs.specs.Run.{RunState}
 use Rattle.ks_query.specs.Streams.{Key, Input}
 use Rattle.ks_query.specs.Windows.{WindowKey}

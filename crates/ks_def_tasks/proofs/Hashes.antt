@@ -17,11 +17,11 @@ use Rattle.ks_plan.specs.Plan.{Plan, Kind}
 use Rattle.ks_plan.specs.declared.node.Topic.{Topic}
 use Rattle.ks_plan.specs.declared.node.Topic.TheVariants.{Subscriptions, HashChangelog}
 use Rattle.ks_plan.specs.Layout.{same_topic, number_of}
-use Rattle.ks_def_maps.specs.FinMap as fin
-use Rattle.ks_def_maps.specs.FinMap.{FinMap}
-use Rattle.ks_def_maps.specs.Bytes.{by_bytes, Store as ByteStore}
-use Rattle.ks_def_maps.specs.Table.{write}
-use Rattle.ks_def_maps.proofs.Tables.{write_same}
+use Rattle.ks_def_runs.specs.FinMap as fin
+use Rattle.ks_def_runs.specs.FinMap.{FinMap}
+use Rattle.ks_def_runs.specs.Bytes.{by_bytes, Store as ByteStore}
+use Rattle.ks_def_runs.specs.Table.{write}
+use Rattle.ks_def_runs.proofs.Tables.{write_same}
 use Rattle.ks_query.specs.Streams.{Key}
 use Rattle.ks_def_tasks.specs.Messages.{Subscription, Message, Store, Rules, same_option}
 use Rattle.ks_def_tasks.specs.Messages.Message.{Given, Keyed, Moved, Asked, Answered, Kept, KeptCount, KeptTime, KeptHash}

@@ -8,11 +8,11 @@ use Rattle.std.specs.FinMap.{slice_cmp-IsAntisymmetric, nat_cmp-IsAntisymmetric}
 use Rattle.std.specs.FinMap.Entries.{find, is_sorted, below_all}
 use Rattle.std.specs.Str.{is_utf8}
 use Rattle.ks_row.specs.Texts.{key_from, key_of}
-use Rattle.ks_def_maps.specs.FinMap as fin
-use Rattle.ks_def_maps.specs.FinMap.{FinMap}
-use Rattle.ks_def_maps.specs.Bytes.{by_bytes, Store as ByteStore}
-use Rattle.ks_def_maps.specs.Table.{write}
-use Rattle.ks_def_maps.proofs.Tables.{equal, get-write, find_below, head_of, tail_of}
+use Rattle.ks_def_runs.specs.FinMap as fin
+use Rattle.ks_def_runs.specs.FinMap.{FinMap}
+use Rattle.ks_def_runs.specs.Bytes.{by_bytes, Store as ByteStore}
+use Rattle.ks_def_runs.specs.Table.{write}
+use Rattle.ks_def_runs.proofs.Tables.{equal, get-write, find_below, head_of, tail_of}
 use Rattle.ks_def_tasks.specs.Bytes.{with_pair, map_from}
 
 -- a key is read as it is

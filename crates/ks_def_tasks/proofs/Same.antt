@@ -7,7 +7,7 @@ use Rattle.ks_row.specs.declared.row.Field.{Field}
 use Rattle.ks_row.specs.declared.row.Field.TheVariants.{Int, Text}
 use Rattle.ks_wire.specs.declared.values.Agg.{Agg}
 use Rattle.ks_expr.specs.Eval.{Row, same_bytes, same_field}
-use Rattle.ks_def_maps.proofs.Tables.{equal}
+use Rattle.ks_def_runs.proofs.Tables.{equal}
 use Rattle.ks_def_tasks.specs.Messages.{Stored, same_row, same_option, same_bool, same_agg, same_stored}
 use Rattle.ks_def_tasks.specs.Messages.Stored.{OfRow, OfAgg}
 

@@ -8,11 +8,11 @@ use Rattle.std.specs.Cmp.{IsTotalOrder, tied_itself}
 use Rattle.std.specs.Cmp.Lexicographic.{nat_list_cmp_total}
 use Rattle.std.specs.FinMap.{IsAntisymmetric, slice_cmp-IsAntisymmetric, nat_cmp-IsAntisymmetric}
 use Rattle.std.specs.FinMap.Entries.{find, put, by_order, where_key, is_sorted, below_all}
-use Rattle.ks_def_maps.specs.FinMap as fin
-use Rattle.ks_def_maps.specs.FinMap.{FinMap}
-use Rattle.ks_def_maps.specs.Bytes.{by_bytes, Store as ByteStore}
-use Rattle.ks_def_maps.specs.Table.{write}
-use Rattle.ks_def_maps.proofs.Tables.{equal, get-write, get-write_here, find_below, head_of, tail_of}
+use Rattle.ks_def_runs.specs.FinMap as fin
+use Rattle.ks_def_runs.specs.FinMap.{FinMap}
+use Rattle.ks_def_runs.specs.Bytes.{by_bytes, Store as ByteStore}
+use Rattle.ks_def_runs.specs.Table.{write}
+use Rattle.ks_def_runs.proofs.Tables.{equal, get-write, get-write_here, find_below, head_of, tail_of}
 use Rattle.ks_def_tasks.specs.Bytes.{with_pair, map_from}
 
 same_bytes_is : (q k : List ℕ) → eq_by_cmp by_bytes q k ≡ true → q ≡ k

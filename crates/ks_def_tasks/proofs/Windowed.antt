@@ -9,9 +9,9 @@ use Rattle.ks_row.specs.Reading.{◌>>=◌}
 use Rattle.ks_wire.specs.declared.values.Agg.{Agg}
 use Rattle.ks_wire.specs.Spelling.{time_key}
 use Rattle.ks_wire.specs.Reading.{window_key_from, agg_from, time_from}
-use Rattle.ks_def_maps.specs.FinMap as fin
-use Rattle.ks_def_maps.specs.FinMap.{FinMap}
-use Rattle.ks_def_maps.specs.Bytes.{by_bytes, Store as ByteStore, empty_store as no_bytes}
+use Rattle.ks_def_runs.specs.FinMap as fin
+use Rattle.ks_def_runs.specs.FinMap.{FinMap}
+use Rattle.ks_def_runs.specs.Bytes.{by_bytes, Store as ByteStore, empty_store as no_bytes}
 use Rattle.ks_plan.specs.Drafts.{Name}
 use Rattle.ks_plan.specs.Plan.{Plan, Kind, Window, is_windowed}
 use Rattle.ks_plan.specs.Plan.Kind.{Windowed}

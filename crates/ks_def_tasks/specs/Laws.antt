@@ -14,7 +14,7 @@ use Rattle.ks_plan.specs.Plan.{Plan, Kind, Window, is_windowed}
 use Rattle.ks_plan.specs.declared.node.Topic.{Topic}
 use Rattle.ks_plan.specs.declared.node.Topic.TheVariants.{Changelog, HashChangelog}
 use Rattle.ks_plan.specs.Layout.{sub_of, topic_at, reads, number_of}
-use Rattle.ks_def_maps.specs.FinMap as fin
+use Rattle.ks_def_runs.specs.FinMap as fin
 use Rattle.ks_query.specs.Streams.{Key, StreamItem}
 use Rattle.ks_query.specs.Windows.{windows}
 use Rattle.ks_row.specs.Texts.{IsKey}

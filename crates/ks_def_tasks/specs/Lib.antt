@@ -7,3 +7,4 @@ pub mod Bytes
 pub mod Collision
 pub mod Rest
 pub mod Laws
+pub mod Rules

@@ -1,8 +1,8 @@
 -- What tasks keep and send one another, decoded: messages, stored values, the stores of a task.
 use Rattle.std.specs.Prelude.{ℕ, zero, suc, Bool, true, false, ◌&&◌, [], ◌∷◌, Option, Some, None, nat_eq}
 use Rattle.std.specs.Ordering.{int_cmp, eq_by_cmp}
-use Rattle.ks_def_maps.specs.FinMap.{FinMap}
-use Rattle.ks_def_maps.specs.Bytes.{by_bytes}
+use Rattle.ks_def_runs.specs.FinMap.{FinMap}
+use Rattle.ks_def_runs.specs.Bytes.{by_bytes}
 use Rattle.ks_expr.specs.Eval.{Row, same_bytes, same_field}
 use Rattle.ks_query.specs.Streams.{Key}
 use Rattle.ks_plan.specs.declared.node.Topic.{Topic}

@@ -13,10 +13,10 @@ use Rattle.ks_plan.specs.Plan.Kind.{StreamSource, TableSource, StreamFilter, Tab
 use Rattle.ks_plan.specs.declared.node.Topic.{Topic}
 use Rattle.ks_plan.specs.Layout.{same_topic, kind_at}
 use Rattle.ks_plan.specs.declared.node.Topic.TheVariants.{Input, Repartition, Subscriptions, Responses, Changelog, HashChangelog}
-use Rattle.ks_def_maps.specs.FinMap as map
-use Rattle.ks_def_maps.specs.FinMap.{FinMap}
-use Rattle.ks_def_maps.specs.Bytes.{by_bytes}
-use Rattle.ks_def_maps.specs.Table.{write}
+use Rattle.ks_def_runs.specs.FinMap as map
+use Rattle.ks_def_runs.specs.FinMap.{FinMap}
+use Rattle.ks_def_runs.specs.Bytes.{by_bytes}
+use Rattle.ks_def_runs.specs.Table.{write}
 use Rattle.ks_query.specs.Streams.{StreamItem, filter_item, map_item, rekey_item, group_key}
 use Rattle.ks_query.specs.Query.{with_number}
 use Rattle.ks_wire.specs.declared.values.Delta.{Delta}

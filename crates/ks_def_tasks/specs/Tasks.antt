@@ -6,7 +6,7 @@ use Rattle.ks_plan.specs.Plan.{Plan}
 use Rattle.ks_plan.specs.declared.node.Topic.{Topic}
 use Rattle.ks_plan.specs.Layout.{same_topic, parts_of_topic, reads, is_read, sub_count}
 use Rattle.ks_plan.specs.declared.node.Topic.TheVariants.{Input as InputTopic, Changelog, HashChangelog}
-use Rattle.ks_def_maps.specs.FinMap as map
+use Rattle.ks_def_runs.specs.FinMap as map
 use Rattle.ks_def_runs.specs.Run.{Machine, Outcome}
 use Rattle.ks_query.specs.Streams.{Input}
 use Rattle.ks_row.specs.declared.record.TaskId.{TaskId}

@@ -3,8 +3,8 @@
 use Rattle.std.specs.Prelude.{ℕ, ◌+◌, max, List, [], ◌∷◌, ◌++◌, Option, Some, None, cond, fold, nat_eq}
 use Rattle.ks_query.specs.Streams.{Key}
 use Rattle.ks_plan.specs.Plan.{Window}
-use Rattle.ks_def_maps.specs.FinMap as map
-use Rattle.ks_def_maps.specs.FinMap.{FinMap}
+use Rattle.ks_def_runs.specs.FinMap as map
+use Rattle.ks_def_runs.specs.FinMap.{FinMap}
 use Rattle.ks_query.specs.Streams.{StreamItem}
 use Rattle.ks_query.specs.Windows.{by_window, windows}
 use Rattle.ks_query.specs.Grace.{is_open}

@@ -2,14 +2,13 @@
 #![tactic(auto)]
 
 ghost use Rattle.std.specs.Prelude.{◌≡◌, ◌++◌, Some, None, IfOk, OnOk, OnErr, option_copied, option_map};
-ghost use Rattle.ks_def_maps.specs.Bytes.{by_bytes};
-ghost use Rattle.ks_def_maps.specs.Table.{write};
+ghost use Rattle.ks_def_runs.specs.Bytes.{by_bytes};
+ghost use Rattle.ks_def_runs.specs.Table.{write};
 ghost use Rattle.ks_wire.specs.Spelling.{subscription_key, hash_bytes, long_key};
 ghost use Rattle.ks_query.specs.Streams.{some_of};
 ghost use Rattle.ks_def_tasks.specs.Messages.{subscription_of, instruction_of};
 ghost use Rattle.ks_def_tasks.specs.Foreign.{subscribed, answer_to, answer_all};
-ghost use Rattle.ks_fk_right.specs.Kept.{kept_in, kept_under};
-ghost use Rattle.ks_fk_right.specs.Decoded.{KeptIsDecoded};
+ghost use Rattle.ks_def_lookups.specs.Kept.{kept_in, kept_under};
 
 use ks_row::{Blob, Change, Key, Row};
 use ks_store::KvStore;
@@ -136,7 +135,7 @@ fn front_of(alloc: Global, foreign: &Key) -> Result<Vec<u8>, AllocError>
 }
 
 /// The left key and the hash of a pair of the store; none where the pair is spelled otherwise.
-#[tactic(auto, unfolding(crate::specs::Kept::kept_in))]
+#[tactic(auto, unfolding(ks_def_lookups::specs::Kept::kept_in))]
 fn read_kept(alloc: Global, key: &Blob, value: &Blob) -> Result<Option<(Key, u128)>, AllocError>
     ensures { IfOk result (λ o. o ≡ kept_in (key.now, value.now)) }
 {
@@ -174,9 +173,3 @@ pub fn on_right<S: KvStore>(
     }
     Ok(answers)
 }
-
-/// A law: what the store keeps under a foreign key, where its keys are bytes, is what the task machine's subscription store, read
-/// from the same bytes, has at that key, in order.
-pub fn kept_is_decoded()
-    ensures { KeptIsDecoded }
-{}

@@ -132,7 +132,7 @@ fn places(active: &[(TaskId, u8)], members: &[u8], task: TaskId) -> u64
 }
 
 /// The first task, in task order, that doesn't stand in exactly one pair of `active` whose worker is a member.
-fn misplaced(tasks: &[TaskId], members: &[u8], active: &[(TaskId, u8)]) -> Option<TaskId>
+fn misplaced_task(tasks: &[TaskId], members: &[u8], active: &[(TaskId, u8)]) -> Option<TaskId>
     ensures { result ≡ badly_placed tasks.now members.now active.now }
 {
     let mut found: Option<TaskId> = None;
@@ -424,7 +424,7 @@ impl Group {
                 now: self.generation,
             });
         }
-        match misplaced(
+        match misplaced_task(
             self.tasks.as_slice(),
             self.members.as_slice(),
             a.active.as_slice(),

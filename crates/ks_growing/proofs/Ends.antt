@@ -81,7 +81,7 @@ module _ {T E F : Type 0} (journal : T → List E) (reserved : E → Bool) (fram
             reserved_are = (λ n. ap (filter reserved) log ∙ reserved_seen journal reserved frame first passes s id v kept at whole n);
           },
         )
-        | away u ws homes here holds is only ↦ absurd (dite (ℕ_discrete kept.holder id)
+        | away u turn taken ws homes here holds is only ↦ absurd (dite (ℕ_discrete kept.holder id)
             (λ z. true_false (sym holds ∙ (ap (λ (x : W). x.holds) (same_at s.views kept.holder u v here (ap (get_elem? s.views) z ∙ at)) ∙ free)))
             (λ nz. true_false (sym holds ∙ (others kept.holder u here nz).1)))
       ]

@@ -83,8 +83,8 @@ module _ {T E F : Type 0} (journal : T → List E) (reserved : E → Bool) (fram
       → Place journal reserved frame first log holder record { words = s.words; homes = s.homes; views = views' }
   place_kept log holder s views' (home y words homes is frame_is nobody) old new =
       home y words homes is frame_is (λ j w e. not_true w.holds (λ h. let n = nobody j w (old j w e h) in true_false (sym h ∙ n)))
-  place_kept log holder s views' (away v words homes here holds is only) old new =
-      away v words homes (new holder v here holds) holds is (λ j w e h. only j w (old j w e h) h)
+  place_kept log holder s views' (away v turn taken words homes here holds is only) old new =
+      away v turn taken words homes (new holder v here holds) holds is (λ j w e h. only j w (old j w e h) h)
 
   module _ (passes : ℕ) where
     abbrev pub Rule : St → Type 0

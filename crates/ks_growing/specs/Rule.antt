@@ -1,5 +1,5 @@
 -- The rule of the lock's table: a resource invariant (Owicki and Gries, Communications of the ACM 19(5), 1976). Word 0 is the count of entries, word 1 the turn, word 2 is never written, slot 0 has the value.
-use Rattle.std.specs.Prelude.{◌≡◌, ℕ, ◌+◌, ◌<◌, Bool, true, false, List, [], ◌∷◌, length, filter, Option, Some, None}
+use Rattle.std.specs.Prelude.{◌≡◌, ℕ, ◌+◌, ◌<◌, ◌≤◌, Bool, true, false, List, [], ◌∷◌, length, filter, Option, Some, None}
 use mathlib.Core.Option.{none, some}
 use mathlib.Core.List.{IsPrefix}
 use lib.ListN.{get_elem?}
@@ -17,6 +17,10 @@ view_parts v = v.parts
 abbrev pub view_made : {E F : Type 0} → View E F → ℕ
 view_made v = v.made
 
+-- the turn while a seat has the value: 1, or 2 once a thread may sleep that waits for it
+abbrev pub IsTaken : ℕ → Type 0
+IsTaken turn = (1 ≤ turn) × (turn ≤ 2)
+
 -- the view of the first seat: it stands for all the passes
 abbrev pub first_view : {T E F : Type 0} → (T → List E) → (T → F) → T → ℕ → View E F
 first_view journal frame first passes = record { number = 0; parts = passes; made = 0; holds = false; count = length (journal first); next = 1; seen = journal first; frame = Some (frame first); other_parts = 0; other_seen = []; other_frame = None }
@@ -28,7 +32,7 @@ module _ {T E F : Type 0} (journal : T → List E) (reserved : E → Bool) (fram
     home : (value : T) → s.words ≡ length log ∷ 0 ∷ 0 ∷ [] → s.homes ≡ some (Some value) ∷ [] → journal value ≡ log → frame value ≡ frame first
         → ((j : ℕ) (v : View E F) → get_elem? s.views j ≡ some v → v.holds ≡ false) → Place log holder s
     -- out with one seat alone, which has seen the whole journal
-    away : (v : View E F) → s.words ≡ v.count ∷ 1 ∷ 0 ∷ [] → s.homes ≡ none ∷ [] → get_elem? s.views holder ≡ some v → v.holds ≡ true → v.seen ≡ log
+    away : (v : View E F) (turn : ℕ) → IsTaken turn → s.words ≡ v.count ∷ turn ∷ 0 ∷ [] → s.homes ≡ none ∷ [] → get_elem? s.views holder ≡ some v → v.holds ≡ true → v.seen ≡ log
         → ((j : ℕ) (w : View E F) → get_elem? s.views j ≡ some w → w.holds ≡ true → j ≡ holder) → Place log holder s
 
   -- what the seat j knows is true

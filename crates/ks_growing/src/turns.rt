@@ -6,9 +6,14 @@ ghost use Rattle.ks_growing.specs.Steps.{IsFree, IsHolding, view_with_value, vie
 use crate::journaled::Journaled;
 use crate::steps::{Count, Enter, Leave};
 use crate::view::{COUNT, PassSeat, SharedTable, TURN, VALUE};
+use std::hint;
 use std::sync::Wait;
 
-// Waits for the turn, and takes the value out.
+// How often a thread tries to take the turn before it sleeps.
+const TRIES: u32 = 100;
+
+// Waits for the turn, and takes the value out. A thread that may have slept takes the turn as 2, never as
+// 1: others may sleep still, and who leaves a turn of 1 wakes nobody.
 pub(crate) fn enter_seat<T: Journaled, R: Wait>(
     rt: &R,
     table: &SharedTable<T>,
@@ -28,12 +33,19 @@ pub(crate) fn enter_seat<T: Journaled, R: Wait>(
     ensures reserved { seat.old.me.0.number ≡ 0
         → filter T.reserved (T.journal result) ≡ filter T.reserved seat.old.me.0.seen }
 {
-    for _ in rt.forever() {
+    'tries: for _ in 0..TRIES {
         let turn = table.compare_exchange::<Enter<T>>(seat, TURN, 0, 1);
         if turn == 0 {
             return table.exchange(seat, VALUE, None).unwrap();
         }
-        table.park(rt, TURN, 1);
+        hint::spin_loop();
+    }
+    'sleeps: for _ in rt.forever() {
+        let found = table.swap::<Enter<T>>(seat, TURN, 2);
+        if found == 0 {
+            return table.exchange(seat, VALUE, None).unwrap();
+        }
+        table.park(rt, TURN, 2);
     }
     unreachable!()
 }
@@ -51,7 +63,16 @@ fn write_count<T: Journaled>(table: &SharedTable<T>, seat: &mut PassSeat<T>, val
     table.store::<Count<T>>(seat, COUNT, count);
 }
 
-// Puts the value back, with its count, and wakes a thread that waits.
+// Wakes a thread, where the turn that was given back says that one may sleep.
+fn wake_after<T: Journaled>(table: &SharedTable<T>, turn: u64)
+    requires size { table.now.table_id.words ≡ 3 }
+{
+    if turn != 1 {
+        table.wake_one(TURN);
+    }
+}
+
+// Puts the value back, with its count, and wakes a thread where one may sleep.
 pub(crate) fn leave_seat<T: Journaled>(table: &SharedTable<T>, seat: &mut PassSeat<T>, value: T)
     requires size { (table.now.table_id.words ≡ 3) × (table.now.table_id.slots ≡ 1) }
     requires own { seat.old.table_id ≡ table.now.table_id }
@@ -68,6 +89,6 @@ pub(crate) fn leave_seat<T: Journaled>(table: &SharedTable<T>, seat: &mut PassSe
         None => {}
         Some(_) => unreachable!(),
     }
-    table.store::<Leave<T>>(seat, TURN, 0);
-    table.wake_one(TURN);
+    let turn = table.swap::<Leave<T>>(seat, TURN, 0);
+    wake_after(table, turn);
 }

@@ -11,7 +11,8 @@ use std::snapshot::Snapshot;
 // The word with the number of entries.
 pub(crate) const COUNT: usize = 0;
 
-// The word of the turn: 1 while a pass holds the value, 0 while the value lies in its slot.
+// The word of the turn: 0 while the value lies in its slot, 1 while a pass holds it, 2 while a pass holds
+// it and a thread may sleep that waits for it.
 pub(crate) const TURN: usize = 1;
 
 // The word that no step ever changes, on which a thread sleeps that waits for nothing in particular.

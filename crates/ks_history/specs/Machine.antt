@@ -1,7 +1,7 @@
 -- What a work says of its tasks: their topics, and what they make of a record. The task machine is a parameter here.
 use Rattle.std.specs.Prelude.{◌≡◌, ◌≤◌, ℕ, Bool, ◌==◌, ◌||◌, true, false, List, [], ◌∷◌, ◌++◌, Option, None, Some, take, drop, cond}
-use Rattle.ks_def_maps.specs.Bytes.{Store, empty_store, by_bytes}
-use Rattle.ks_def_maps.specs.Table.{write}
+use Rattle.ks_def_runs.specs.Bytes.{Store, empty_store, by_bytes}
+use Rattle.ks_def_runs.specs.Table.{write}
 use Rattle.ks_row.specs.declared.record.Rec.{Rec}
 use Rattle.ks_row.specs.declared.record.PartId.{PartId}
 use Rattle.ks_row.specs.declared.record.TaskId.{TaskId}

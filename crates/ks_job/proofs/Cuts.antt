@@ -9,7 +9,7 @@ use Rattle.std.specs.Str.{IsUtf8}
 use Rattle.std.proofs.lemmas.Str.{utf8_valid_len-IsUtf8}
 use Rattle.serde_json.specs.Data.{Data}
 use Rattle.serde_json.specs.Read.{read}
-use Rattle.ks_record_line.specs.declared.fault.JobKind.{JobKind}
+use Rattle.ks_job_record.specs.declared.fault.JobKind.{JobKind}
 use Rattle.ks_job.specs.declared.judge.JobItem.{JobItem}
 use Rattle.ks_job.specs.Items.{ItemView, item_view, item_views}
 use Rattle.std.proofs.lemmas.List.{map-append}

@@ -5,12 +5,12 @@ use Rattle.std.proofs.lemmas.List.{length-append}
 use Rattle.std.proofs.lemmas.Bool.{leb-false}
 use Rattle.serde_json.specs.Data.{Data}
 use Rattle.ks_plan.specs.Drafts.{DraftView}
-use Rattle.ks_record_line.specs.declared.fault.JobKind.{JobKind}
-use Rattle.ks_record_line.specs.declared.fault.JobKind.TheVariants.{TooMany, NotJson, LineTooLong}
-use Rattle.ks_record_line.specs.declared.record.Input.{Input}
-use Rattle.ks_record_line.specs.Gives.{◌>>=◌, some_or}
-use Rattle.ks_record_line.specs.Record.{input_from}
-use Rattle.ks_job_line.specs.Topology.{topology_from, names_of}
+use Rattle.ks_job_record.specs.declared.fault.JobKind.{JobKind}
+use Rattle.ks_job_record.specs.declared.fault.JobKind.TheVariants.{TooMany, NotJson, LineTooLong}
+use Rattle.ks_job_record.specs.declared.record.Input.{Input}
+use Rattle.ks_job_record.specs.Gives.{◌>>=◌, some_or}
+use Rattle.ks_job_record.specs.Record.{input_from}
+use Rattle.ks_job_topology.specs.Topology.{topology_from, names_of}
 use Rattle.ks_job.specs.Items.{ItemView, TopologyAt, RecordTo}
 use Rattle.ks_job.specs.Lines.{Spot, parsed, passes, is_too_long, is_blank, next_line, topology_line, record_line, value_line, data_line, judged, too_long}
 use Rattle.ks_job.specs.Reader.{Reader, Reading, Faulty, Machine, is_line_end, is_full, longer, after, after_byte, after_line, so_far, start}

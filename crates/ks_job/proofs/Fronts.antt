@@ -1,7 +1,7 @@
 -- What has been pushed is the front of what a piece, or the end of the input, pushes.
 use Rattle.std.proofs.Common.{◌≡◌, ℕ, List, [], ◌∷◌, ◌++◌, length, refl, ap, sym, ◌∙◌, Bool, true, false, cond, append_assoc, append-nil}
 use Rattle.std.specs.Prelude.{Option, Some, option_map, Result, Ok, Err, ◌==◌}
-use Rattle.ks_record_line.specs.declared.fault.JobKind.{JobKind}
+use Rattle.ks_job_record.specs.declared.fault.JobKind.{JobKind}
 use Rattle.ks_job.specs.declared.judge.JobItem.{JobItem}
 use Rattle.ks_job.specs.Items.{ItemView, item_view, item_views, PushesFront}
 use Rattle.ks_job.specs.Lines.{Spot, judged}

@@ -4,7 +4,7 @@ use Rattle.std.specs.Prelude.{Option, Some, None, ◌==◌, Result, Ok, Err}
 use Rattle.std.specs.Cmp.Lexicographic.{pointwise}
 use Rattle.std.proofs.lemmas.Bool.Decides.{Decides-eqb}
 use Rattle.std.proofs.lemmas.Slice.Eq.{slice_eq-Decides}
-use Rattle.ks_record_line.specs.declared.fault.JobKind.{JobKind}
+use Rattle.ks_job_record.specs.declared.fault.JobKind.{JobKind}
 use Rattle.ks_job.specs.Items.{ItemView}
 use Rattle.ks_job.specs.Lines.{Spot, judged}
 use Rattle.ks_job.specs.Reader.{Reader, Reading, Faulty, Machine, is_line_end, longer, after, after_byte, after_line, with_item}

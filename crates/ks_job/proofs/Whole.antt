@@ -3,8 +3,8 @@ use Rattle.std.proofs.Common.{◌≡◌, ℕ, ◌+◌, ◌<◌, ◌≤◌, List,
 use Rattle.std.specs.Prelude.{Option, Result, Ok, Err, codes, min}
 use Rattle.std.proofs.lemmas.List.{length-append}
 use Rattle.std.proofs.lemmas.Bool.{le-leb, lt-leb, leb-true, leb-false}
-use Rattle.ks_record_line.specs.declared.fault.JobKind.{JobKind}
-use Rattle.ks_record_line.specs.declared.fault.JobKind.TheVariants.{TooMany, LineTooLong}
+use Rattle.ks_job_record.specs.declared.fault.JobKind.{JobKind}
+use Rattle.ks_job_record.specs.declared.fault.JobKind.TheVariants.{TooMany, LineTooLong}
 use Rattle.ks_job.specs.Items.{ItemView}
 use Rattle.ks_job.specs.Lines.{Spot, judged, passes, is_too_long, too_long}
 use Rattle.ks_job.specs.Reader.{Reading, Faulty, Machine, is_line_end, is_full, longer, after, after_line, with_item, so_far}

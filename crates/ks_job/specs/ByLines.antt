@@ -1,6 +1,6 @@
 -- The same by whole lines: the items are those of the lines before the first faulty one.
 use Rattle.std.specs.Prelude.{ℕ, List, [], ◌∷◌, ◌++◌, Option, None, Result, Ok, Err, if◌then◌else◌}
-use Rattle.ks_record_line.specs.declared.fault.JobKind.{JobKind}
+use Rattle.ks_job_record.specs.declared.fault.JobKind.{JobKind}
 use Rattle.ks_job.specs.Items.{ItemView}
 use Rattle.ks_job.specs.Lines.{Spot, judged, is_too_long, too_long}
 use Rattle.ks_job.specs.Reader.{Reader, Reading, Faulty, Machine, with_item, is_line_end}

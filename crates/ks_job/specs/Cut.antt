@@ -1,6 +1,6 @@
 -- A piece of bytes, cut at its first line end.
 use Rattle.std.specs.Prelude.{ℕ, ◌-◌, List, [], ◌∷◌, ◌++◌, length, Option, Some, None, option_map, Result, Err, nat_le, if◌then◌else◌}
-use Rattle.ks_record_line.specs.declared.fault.JobKind.{JobKind}
+use Rattle.ks_job_record.specs.declared.fault.JobKind.{JobKind}
 use Rattle.ks_job.specs.Items.{ItemView}
 use Rattle.ks_job.specs.Lines.{Spot, judged, too_long}
 use Rattle.ks_job.specs.Reader.{Reader, Reading, Faulty, is_line_end}

@@ -4,11 +4,11 @@ use Rattle.std.specs.List.{list_all}
 use Rattle.std.specs.Str.Lossy.{utf8_valid_len}
 use Rattle.serde_json.specs.Data.{Data}
 use Rattle.serde_json.specs.Read.{read}
-use Rattle.ks_record_line.specs.declared.fault.JobKind.{JobKind}
-use Rattle.ks_record_line.specs.declared.fault.JobKind.TheVariants.{TooMany, NotJson, LineTooLong}
-use Rattle.ks_record_line.specs.Gives.{◌>>=◌, some_or}
-use Rattle.ks_record_line.specs.Record.{input_from}
-use Rattle.ks_job_line.specs.Topology.{topology_from, names_of}
+use Rattle.ks_job_record.specs.declared.fault.JobKind.{JobKind}
+use Rattle.ks_job_record.specs.declared.fault.JobKind.TheVariants.{TooMany, NotJson, LineTooLong}
+use Rattle.ks_job_record.specs.Gives.{◌>>=◌, some_or}
+use Rattle.ks_job_record.specs.Record.{input_from}
+use Rattle.ks_job_topology.specs.Topology.{topology_from, names_of}
 use Rattle.ks_job.specs.Items.{ItemView, TopologyAt, RecordTo}
 use Rattle.ks_job.specs.declared.place.Place.{Place}
 

@@ -1,7 +1,7 @@
 -- A job's reader over the bytes of an input, one after another.
 use Rattle.std.specs.Prelude.{ℕ, ◌==◌, List, [], ◌∷◌, ◌++◌, length, Bool, Option, Some, None, Result, Ok, Err, nat_le, if◌then◌else◌}
-use Rattle.ks_record_line.specs.declared.fault.JobKind.{JobKind}
-use Rattle.ks_record_line.specs.declared.fault.JobKind.TheVariants.{NoTopology}
+use Rattle.ks_job_record.specs.declared.fault.JobKind.{JobKind}
+use Rattle.ks_job_record.specs.declared.fault.JobKind.TheVariants.{NoTopology}
 use Rattle.ks_job.specs.Items.{ItemView}
 use Rattle.ks_job.specs.Lines.{Spot, judged, too_long}
 

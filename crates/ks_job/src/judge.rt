@@ -1,14 +1,14 @@
 //! One line, judged.
 ghost use Rattle.std.specs.Prelude.{◌≡◌, ◌≤◌, ◌<◌, ◌+◌, IfOk, option_map, length};
 ghost use Rattle.serde_json.specs.View.{view};
-ghost use Rattle.ks_record_line.specs.Gives.{Gives};
+ghost use Rattle.ks_job_record.specs.Gives.{Gives};
 ghost use Rattle.ks_job.specs.Items.{item_view};
 ghost use Rattle.ks_job.specs.Lines.{spot, parsed, is_blank_byte, is_blank as blank, passes, too_long as length_fault, topology_line, record_line, value_line, data_line, judged};
 
 use crate::place::Place;
-use ks_job_line::{copy_names, read_topology};
+use ks_job_record::{JobKind, LineError, read_input, too_many};
+use ks_job_topology::{copy_names, read_topology};
 use ks_plan::Draft;
-use ks_record_line::{JobKind, ReadError, read_input, too_many};
 use ks_row::{Name, Rec, Seq};
 use serde_json::Value;
 use std::alloc::{AllocError, Global};
@@ -89,7 +89,7 @@ fn judge_topology(
     place: Place,
     size: u64,
     value: &Value,
-) -> Result<(Place, Option<JobItem>), ReadError>
+) -> Result<(Place, Option<JobItem>), LineError>
     requires some { 0 < size }
     requires room { place.start + size ≤ 67108864 }
     ensures { Gives (λ x. (spot x.0, option_map item_view x.1)) result
@@ -121,7 +121,7 @@ fn judge_record(
     topics: Seq<Name>,
     size: u64,
     value: &Value,
-) -> Result<(Place, Option<JobItem>), ReadError>
+) -> Result<(Place, Option<JobItem>), LineError>
     requires some { 0 < size }
     requires numbered { line ≤ start + 1 }
     requires room { start + size ≤ 67108864 }
@@ -147,7 +147,7 @@ fn judge_record(
         };
         Ok((next, Some(item)))
     } else {
-        Err(ReadError::Fault(too_many(alloc, "records", MOST_RECORDS)?))
+        Err(LineError::Fault(too_many(alloc, "records", MOST_RECORDS)?))
     }
 }
 
@@ -156,7 +156,7 @@ fn judge_value(
     place: Place,
     size: u64,
     value: &Value,
-) -> Result<(Place, Option<JobItem>), ReadError>
+) -> Result<(Place, Option<JobItem>), LineError>
     requires some { 0 < size }
     requires room { place.start + size ≤ 67108864 }
     ensures { Gives (λ x. (spot x.0, option_map item_view x.1)) result
@@ -190,7 +190,7 @@ fn judge_data(
     place: Place,
     size: u64,
     line: &[u8],
-) -> Result<(Place, Option<JobItem>), ReadError>
+) -> Result<(Place, Option<JobItem>), LineError>
     requires some { 0 < size }
     requires room { place.start + size ≤ 67108864 }
     ensures { Gives (λ x. (spot x.0, option_map item_view x.1)) result
@@ -198,7 +198,7 @@ fn judge_data(
 {
     match parse_line(alloc, line)? {
         Some(value) => judge_value(alloc, place, size, &value),
-        None => Err(ReadError::Fault(JobKind::NotJson)),
+        None => Err(LineError::Fault(JobKind::NotJson)),
     }
 }
 
@@ -210,7 +210,7 @@ pub fn judge_line(
     place: Place,
     end: u64,
     line: &[u8],
-) -> Result<(Place, Option<JobItem>), ReadError>
+) -> Result<(Place, Option<JobItem>), LineError>
     requires some { 0 < length line.now + end }
     requires end { end ≤ 1 }
     ensures { Gives (λ x. (spot x.0, option_map item_view x.1)) result
@@ -218,10 +218,10 @@ pub fn judge_line(
 {
     let size = line.len() as u64 + end;
     if is_past(place.start, size) {
-        return Err(ReadError::Fault(too_many(alloc, "bytes", MOST_BYTES)?));
+        return Err(LineError::Fault(too_many(alloc, "bytes", MOST_BYTES)?));
     }
     if line.len() > MOST_LINE {
-        return Err(ReadError::Fault(JobKind::LineTooLong));
+        return Err(LineError::Fault(JobKind::LineTooLong));
     }
     if is_blank(line) {
         let next = Place {

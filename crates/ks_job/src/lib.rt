@@ -9,6 +9,6 @@ mod reader;
 mod wide;
 
 pub use judge::JobItem;
-pub use ks_record_line::{Input, JobKind};
+pub use ks_job_record::{Input, JobKind};
 pub use place::Place;
 pub use reader::{JobFault, JobReader, Phase, feed_all, items_by_lines, reading_ends};

@@ -1,7 +1,7 @@
 //! A job, in whatever pieces its bytes come.
 ghost use Rattle.std.specs.Prelude.{◌≡◌, ◌≢◌, Some, None, OnErr, IsErr, ◌<◌, ◌≤◌, ◌++◌, ◌-◌, [], ◌∷◌, length, IfOk, IfSome, OnOk, slice_index, true, false, ℕ, List, option_map};
 ghost use Rattle.std.specs.List.{flat_map};
-ghost use Rattle.ks_record_line.specs.Gives.{Gives};
+ghost use Rattle.ks_job_record.specs.Gives.{Gives};
 ghost use Rattle.ks_job.specs.ByLines.{by_lines};
 ghost use Rattle.ks_job.specs.Cut.{cut_line, room, ended, kept};
 ghost use Rattle.ks_job.specs.Items.{item_view, item_views, PushesFront};
@@ -12,7 +12,7 @@ ghost use Rattle.ks_job.specs.Phases.{reader_of, machine, Fed, TellsFault, IsFau
 use crate::judge::{JobItem, judge_line, too_long};
 use crate::place::Place;
 use crate::wide::feed_by_threads;
-use ks_record_line::{JobKind, ReadError};
+use ks_job_record::{JobKind, LineError};
 use memchr::memchr;
 use std::alloc::{AllocError, Global};
 use std::marker::Model;
@@ -63,13 +63,13 @@ fn end_line(
     place: Place,
     begun: &mut Vec<u8>,
     front: &[u8],
-) -> Result<(Place, Option<JobItem>), ReadError>
+) -> Result<(Place, Option<JobItem>), LineError>
     ensures line { Gives (λ x. (spot x.0, option_map item_view x.1)) result
         (ended (spot place) begun.old.items front.now) }
     ensures empty { OnOk result (begun.new.items ≡ []) }
 {
     if front.len() > room_left(begun) {
-        Err(ReadError::Fault(too_long(alloc, place.start)?))
+        Err(LineError::Fault(too_long(alloc, place.start)?))
     } else if begun.is_empty() {
         judge_line(alloc, place, 1, front)
     } else {
@@ -130,8 +130,8 @@ fn feed_reading(
                 place = after;
             }
             Err(error) => match error {
-                ReadError::Fault(kind) => return Ok(Phase::Faulty(JobFault { line, kind })),
-                ReadError::Memory => return Err(AllocError),
+                LineError::Fault(kind) => return Ok(Phase::Faulty(JobFault { line, kind })),
+                LineError::Memory => return Err(AllocError),
             },
         }
         rest = next;
@@ -197,8 +197,8 @@ fn finish_phase(alloc: Global, phase: Phase, items: &mut Vec<JobItem>) -> Result
                     Ok(close(alloc, line, next))
                 }
                 Err(error) => match error {
-                    ReadError::Fault(kind) => Ok(Phase::Faulty(JobFault { line, kind })),
-                    ReadError::Memory => Err(AllocError),
+                    LineError::Fault(kind) => Ok(Phase::Faulty(JobFault { line, kind })),
+                    LineError::Memory => Err(AllocError),
                 },
             }
         }

@@ -2,14 +2,14 @@
 use Rattle.std.proofs.Common.{◌≡◌, ℕ, ◌<◌, ◌≤◌, List, [], ◌∷◌, ◌++◌, length, refl, sym, ap, ◌∙◌, Bool, true, false, cond, arith}
 use Rattle.std.specs.Prelude.{Option, Some, None, Result, Ok, Err, ◌==◌, ⊤}
 use Rattle.std.specs.Option.{option_or}
-use Rattle.ks_record_line.specs.declared.fault.JobKind.{JobKind}
+use Rattle.ks_job_record.specs.declared.fault.JobKind.{JobKind}
 use Rattle.ks_job.specs.Items.{ItemView, TopologyAt, RecordTo}
 use Rattle.ks_job.specs.Lines.{Spot, judged}
 use Rattle.ks_job.specs.Phases.{IsFaulty, TellsFault}
 use Rattle.ks_job.specs.Reader.{Reader, Reading, Faulty, Machine, with_item, after_line, is_line_end, longer, after_byte, after, closed, at_end, end_of, so_far}
 use Rattle.ks_job.proofs.Ends.{reading_ends}
 use Rattle.ks_job.specs.declared.reader.JobFault.{JobFault}
-use Rattle.ks_job_source.specs.declared.stop.Stop.{Stop}
+use Rattle.ks_job_source.specs.declared.stop.JobStop.{JobStop}
 use Rattle.ks_job_source.specs.Reading.{answer_stop}
 use Rattle.ks_job_source.specs.Stops.{topology_stop, line_stop, stop_of}
 
@@ -62,19 +62,19 @@ keeps_end (Reading s begun) is = keeps_end_at (length begun == 0) s begun is
 keeps_end (Faulty n k) is = keeps_itself is
 
 -- ---- a stop stays
-stops : Reader → List ItemView → Option Stop
+stops : Reader → List ItemView → Option JobStop
 stops r is = option_or (topology_stop is) (line_stop r)
 
-not_nil : (is : List ItemView) (s : Stop) → topology_stop is ≡ Some s → is ≡ [] → ⊥
+not_nil : (is : List ItemView) (s : JobStop) → topology_stop is ≡ Some s → is ≡ [] → ⊥
 not_nil [] s h e = absurd (cc)
 not_nil (i ∷ is) s h e = absurd (cc)
 
-faulty_from : (r : Reader) (s : Stop) → line_stop r ≡ Some s → IsFaulty r
+faulty_from : (r : Reader) (s : JobStop) → line_stop r ≡ Some s → IsFaulty r
 faulty_from (Reading p begun) s h = absurd (cc)
 faulty_from (Faulty n k) s h = tt
 
 -- a topology that is refused, or a faulty line
-stays_at : (m n : Machine) (s : Stop) (o : Option Stop) → topology_stop m.items ≡ o → Keeps m.items n.items → (IsFaulty m.reader → n ≡ m) → stop_of m ≡ Some s → stop_of n ≡ Some s
+stays_at : (m n : Machine) (s : JobStop) (o : Option JobStop) → topology_stop m.items ≡ o → Keeps m.items n.items → (IsFaulty m.reader → n ≡ m) → stop_of m ≡ Some s → stop_of n ≡ Some s
 stays_at m n s (Some t) e keeps faulty h =
     let k : topology_stop n.items ≡ Some t = keeps.stop (not_nil m.items t e) ∙ e in
     let a : stop_of m ≡ Some t = ap (λ p. option_or p (line_stop m.reader)) e in
@@ -93,18 +93,18 @@ faulty_end : (r : Reader) (is : List ItemView) → IsFaulty r → end_of r is �
 faulty_end (Reading s begun) is h = absurd h
 faulty_end (Faulty n k) is h = refl
 
-pub stays_after : (m : Machine) (xs : List ℕ) (s : Stop) → stop_of m ≡ Some s → stop_of (after m xs) ≡ Some s
+pub stays_after : (m : Machine) (xs : List ℕ) (s : JobStop) → stop_of m ≡ Some s → stop_of (after m xs) ≡ Some s
 stays_after m xs s h = stays_at m (after m xs) s (topology_stop m.items) refl (keeps_after m xs) (faulty_after m.reader m.items xs) h
 
-pub stays_at_end : (m : Machine) (s : Stop) → stop_of m ≡ Some s → stop_of (end_of m.reader m.items) ≡ Some s
+pub stays_at_end : (m : Machine) (s : JobStop) → stop_of m ≡ Some s → stop_of (end_of m.reader m.items) ≡ Some s
 stays_at_end m s h = stays_at m (end_of m.reader m.items) s (topology_stop m.items) refl (keeps_end m.reader m.items) (faulty_end m.reader m.items) h
 
 -- ---- a job that has not stopped is short
-no_line : (o l : Option Stop) → option_or o l ≡ None → l ≡ None
+no_line : (o l : Option JobStop) → option_or o l ≡ None → l ≡ None
 no_line None l h = h
 no_line (Some s) l h = absurd (cc)
 
-no_topology : (o l : Option Stop) → option_or o l ≡ None → o ≡ None
+no_topology : (o l : Option JobStop) → option_or o l ≡ None → o ≡ None
 no_topology None l h = refl
 no_topology (Some s) l h = absurd (cc)
 
@@ -122,7 +122,7 @@ pub few_bytes : (xs : List ℕ) → stop_of (so_far xs) ≡ None → length xs <
 few_bytes xs h = below 67174401 (length xs) (λ l. not_faulty (so_far xs).reader (no_line (topology_stop (so_far xs).items) (line_stop (so_far xs).reader) h) (reading_ends xs l))
 
 -- ---- what a reader answers
-pub answered : (a : Result ⊤ JobFault) (r : Reader) (o : Option Stop) → TellsFault a r → o ≡ answer_stop a → o ≡ line_stop r
+pub answered : (a : Result ⊤ JobFault) (r : Reader) (o : Option JobStop) → TellsFault a r → o ≡ answer_stop a → o ≡ line_stop r
 answered (Ok u) (Reading s begun) o h e = e
 answered (Ok u) (Faulty n k) o h e = absurd h
 answered (Err f) r o h e = e ∙ ap line_stop (sym h)

@@ -4,7 +4,7 @@ use Rattle.std.proofs.lemmas.List.{append-nil}
 use Rattle.std.specs.Prelude.{Option, Some, None, Result, Ok, Err, IfSome, ◌==◌}
 use Rattle.std.specs.Option.{option_or}
 use Rattle.std.specs.Io.KnownBytes.{Consumes, IsAtEnd, Keeps as StayKnown}
-use Rattle.ks_record_line.specs.declared.fault.JobKind.{JobKind}
+use Rattle.ks_job_record.specs.declared.fault.JobKind.{JobKind}
 use Rattle.ks_plan.specs.Drafts.{DraftView}
 use Rattle.ks_job.specs.Items.{ItemView, TopologyAt, RecordTo, item_views}
 use Rattle.ks_job.specs.Phases.{Fed, TellsFault}
@@ -17,8 +17,8 @@ use Rattle.ks_job.proofs.Cuts.{after_both, with_reader}
 use Rattle.ks_job.proofs.Joined.{behind, item_behind, after_behind}
 use Rattle.ks_law_inputs.specs.Records.{AreRecords, IsJob}
 use Rattle.ks_law_inputs.proofs.Items.{job_items}
-use Rattle.ks_job_source.specs.declared.stop.Stop.{Stop}
-use Rattle.ks_job_source.specs.declared.stop.Stop.TheVariants.{BadLine}
+use Rattle.ks_job_source.specs.declared.stop.JobStop.{JobStop}
+use Rattle.ks_job_source.specs.declared.stop.JobStop.TheVariants.{BadLine}
 use Rattle.ks_job_source.specs.declared.rest.Standing.{Standing}
 use Rattle.ks_job_source.specs.declared.rest.Standing.TheVariants.{Reading, Whole, Stopped, Lost}
 use Rattle.ks_job_source.specs.declared.rest.JobEnd.{JobEnd}
@@ -164,7 +164,7 @@ module _ (topics count : ℕ) (r : Reader) (h : IsPast topics count r) where
     no_topology : topology_stop behind_it ≡ None
     no_topology = by (topology_stop behind_it) (ap stop_of (sym h.stands) ∙ h.unstopped)
       where
-        by : (o : Option Stop) → option_or o (line_stop r) ≡ None → o ≡ None
+        by : (o : Option JobStop) → option_or o (line_stop r) ≡ None → o ≡ None
         by None e = refl
         by (Some s) e = absurd (cc)
 
@@ -207,11 +207,11 @@ module _ (first mid now : Option (List ℕ)) (d : DraftView) (records items : Li
     no_stop : topology_stop before ≡ None
     no_stop = by (topology_stop before) (ap stop_of (sym h.stands) ∙ h.unstopped)
       where
-        by : (o : Option Stop) → option_or o (line_stop r) ≡ None → o ≡ None
+        by : (o : Option JobStop) → option_or o (line_stop r) ≡ None → o ≡ None
         by None e = refl
         by (Some s) e = absurd (cc)
 
-    read_out : (stop : Option Stop) → ReadsOut r mid stop items → HoldsJob first stop d (records ++ items)
+    read_out : (stop : Option JobStop) → ReadsOut r mid stop items → HoldsJob first stop d (records ++ items)
     read_out stop k = record {
       bytes = h.taken ++ k.bytes;
       known = take_both first mid now h.taken k.bytes h.lost k.known;
@@ -235,7 +235,7 @@ module _ (first mid now : Option (List ℕ)) (d : DraftView) (records items : Li
         all : so_far (h.taken ++ k.taken) ≡ with_reader (before ++ items) s
         all = on_more (so_far []) r before h.taken h.stands k.taken ∙ ap (behind before) k.stands
 
-  same_job : (stop : Option Stop) → items ≡ [] → HoldsJob first stop d records → HoldsJob first stop d (records ++ items)
+  same_job : (stop : Option JobStop) → items ≡ [] → HoldsJob first stop d records → HoldsJob first stop d (records ++ items)
   same_job stop e h = subst (HoldsJob first stop d) (sym (ap (λ l. records ++ l) e ∙ append-nil records)) h
 
   pub opened_and_read : (standing : Standing) (e : JobEnd) → OpensAt first mid d records standing → EndsFrom standing mid now e items → EndsJob first now e d (records ++ items)
@@ -256,7 +256,7 @@ nothing_lost : (o : Option (List ℕ)) → Consumes o o []
 nothing_lost None = tt
 nothing_lost (Some xs) = refl
 
-no_line_at : (o l : Option Stop) → option_or o l ≡ None → l ≡ None
+no_line_at : (o l : Option JobStop) → option_or o l ≡ None → l ≡ None
 no_line_at None l e = e
 no_line_at (Some s) l e = absurd (cc)
 

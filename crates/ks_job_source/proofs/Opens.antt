@@ -9,7 +9,7 @@ use Rattle.std.specs.declared.vec.Vec.{Vec}
 use Rattle.std.specs.declared.alloc.Global.{Global}
 use Rattle.std.specs.Option.{option_or}
 use Rattle.std.specs.Io.KnownBytes.{Consumes, IsAtEnd}
-use Rattle.ks_record_line.specs.declared.fault.JobKind.{JobKind}
+use Rattle.ks_job_record.specs.declared.fault.JobKind.{JobKind}
 use Rattle.ks_plan.specs.declared.fault.TopoFault.{TopoFault}
 use Rattle.ks_plan.specs.Drafts.{DraftView, draft_view}
 use Rattle.ks_plan.specs.Faults.{fault_of}
@@ -19,8 +19,8 @@ use Rattle.ks_job.specs.Reader as readers
 use Rattle.ks_job.proofs.Cuts.{after_both, with_reader}
 use Rattle.ks_law_inputs.specs.Records.{IsJob, Told}
 use Rattle.ks_law_inputs.proofs.Items.{job_items}
-use Rattle.ks_job_source.specs.declared.stop.Stop.{Stop}
-use Rattle.ks_job_source.specs.declared.stop.Stop.TheVariants.{BadLine, BadTopology}
+use Rattle.ks_job_source.specs.declared.stop.JobStop.{JobStop}
+use Rattle.ks_job_source.specs.declared.stop.JobStop.TheVariants.{BadLine, BadTopology}
 use Rattle.ks_job_source.specs.declared.rest.Standing.TheVariants.{Reading, Whole, Stopped}
 use Rattle.ks_job_source.specs.declared.rest.JobRest.{JobRest}
 use Rattle.ks_job_source.specs.declared.opening.OpenJob.{OpenJob}
@@ -57,16 +57,16 @@ no_fault : (line : ℕ) (o : Option TopoFault) → option_map (BadTopology line)
 no_fault line None e = refl
 no_fault line (Some f) e = absurd (cc)
 
-a_line : (line n : ℕ) (k : JobKind) (o : Option TopoFault) (l : Option Stop) → option_or (option_map (BadTopology line) o) l ≡ Some (BadLine n k) → option_map (BadTopology line) o ≡ None
+a_line : (line n : ℕ) (k : JobKind) (o : Option TopoFault) (l : Option JobStop) → option_or (option_map (BadTopology line) o) l ≡ Some (BadLine n k) → option_map (BadTopology line) o ≡ None
 a_line line n k None l e = refl
 a_line line n k (Some f) l e = absurd (cc)
 
-not_topology : (is : List ItemView) (l : Option Stop) (n : ℕ) (k : JobKind) → option_or (topology_stop is) l ≡ Some (BadLine n k) → topology_stop is ≡ None
+not_topology : (is : List ItemView) (l : Option JobStop) (n : ℕ) (k : JobKind) → option_or (topology_stop is) l ≡ Some (BadLine n k) → topology_stop is ≡ None
 not_topology [] l n k e = refl
 not_topology (TopologyAt line d ∷ is) l n k e = a_line line n k (fault_of d) l e
 not_topology (RecordTo t r ∷ is) l n k e = refl
 
-no_stop : (o l : Option Stop) → option_or o l ≡ None → o ≡ None
+no_stop : (o l : Option JobStop) → option_or o l ≡ None → o ≡ None
 no_stop None l e = refl
 no_stop (Some s) l e = absurd (cc)
 
@@ -88,10 +88,10 @@ module _ (first now : Option (List ℕ)) (bytes : List ℕ) (known : IfSome firs
   is_job : IsJob is
   is_job = subst IsJob items (job_items bytes).job
 
-  holds : (stop : Option Stop) (d : DraftView) (records : List ItemView) → stop_of (whole bytes) ≡ stop → Splits is d records → HoldsJob first stop d records
+  holds : (stop : Option JobStop) (d : DraftView) (records : List ItemView) → stop_of (whole bytes) ≡ stop → Splits is d records → HoldsJob first stop d records
   holds stop d records stops s = record { bytes = bytes; known = known; line = s.line; items_are = items ∙ s.items_are; stops = stops }
 
-  opened_at_end : (stop : Option Stop) (job : OpenJob) (buf : List ℕ) → stop_of (whole bytes) ≡ stop → 1 ≤ length buf → Parts stop None is buf (Ok job) → Opens first now (Ok job)
+  opened_at_end : (stop : Option JobStop) (job : OpenJob) (buf : List ℕ) → stop_of (whole bytes) ≡ stop → 1 ≤ length buf → Parts stop None is buf (Ok job) → Opens first now (Ok job)
   opened_at_end None job buf stops room p =
       let s = splits is (draft_view job.draft) (item_views job.records.items) p.0 in
       let standing : Whole ≡ job.rest.standing = cc (p.1) in
@@ -112,7 +112,7 @@ module _ (first now : Option (List ℕ)) (bytes : List ℕ) (known : IfSome firs
       }
   opened_at_end (Some (BadTopology line f)) job buf stops room p = absurd (cc (p.1))
 
-  pub opens_at_end : (stop : Option Stop) (result : Result OpenJob Stop) (buf : List ℕ) → stop_of (whole bytes) ≡ stop → 1 ≤ length buf → Parts stop None is buf result → Opens first now result
+  pub opens_at_end : (stop : Option JobStop) (result : Result OpenJob JobStop) (buf : List ℕ) → stop_of (whole bytes) ≡ stop → 1 ≤ length buf → Parts stop None is buf result → Opens first now result
   opens_at_end stop (Ok job) buf stops room p = opened_at_end stop job buf stops room p
   opens_at_end stop (Err s) buf stops room p = record { bytes = bytes; known = known; ends = stops ∙ p }
 
@@ -121,7 +121,7 @@ module _ (first now : Option (List ℕ)) (bytes : List ℕ) (known : IfSome firs
   told_some (readers.Reading s begun) (x ∷ xs) t l e = absurd (cc)
   told_some (readers.Faulty n k) xs t l e = absurd (cc)
 
-  no_line : (o l : Option Stop) → option_or o l ≡ None → l ≡ None
+  no_line : (o l : Option JobStop) → option_or o l ≡ None → l ≡ None
   no_line None l e = e
   no_line (Some s) l e = absurd (cc)
 
@@ -143,11 +143,11 @@ module _ (first now : Option (List ℕ)) (got : List ℕ) (lost : Consumes first
   faulty_line (readers.Reading s begun) n k e = absurd (cc)
   faulty_line (readers.Faulty m j) n k e = let a : BadLine m j ≡ BadLine n k = cc in cc
 
-  is_line : (o l : Option Stop) (n : ℕ) (k : JobKind) → o ≡ None → option_or o l ≡ Some (BadLine n k) → l ≡ Some (BadLine n k)
+  is_line : (o l : Option JobStop) (n : ℕ) (k : JobKind) → o ≡ None → option_or o l ≡ Some (BadLine n k) → l ≡ Some (BadLine n k)
   is_line None l n k e h = h
   is_line (Some s) l n k e h = absurd (cc)
 
-  opened_here : (stop : Option Stop) (job : OpenJob) (buf : List ℕ) → stop_of (so_far got) ≡ stop → 1 ≤ length buf → Parts stop (Some (Some r)) is buf (Ok job) → Opens first now (Ok job)
+  opened_here : (stop : Option JobStop) (job : OpenJob) (buf : List ℕ) → stop_of (so_far got) ≡ stop → 1 ≤ length buf → Parts stop (Some (Some r)) is buf (Ok job) → Opens first now (Ok job)
   opened_here None job buf stops room p =
       let d = draft_view job.draft in
       let records = item_views job.records.items in
@@ -181,7 +181,7 @@ module _ (first now : Option (List ℕ)) (got : List ℕ) (lost : Consumes first
       }
   opened_here (Some (BadTopology line f)) job buf stops room p = absurd (cc (p.1))
 
-  pub opens_here : (stop : Option Stop) (result : Result OpenJob Stop) (buf : List ℕ) → stop_of (so_far got) ≡ stop → 1 ≤ length buf → Parts stop (Some (Some r)) is buf result → Opens first now result
+  pub opens_here : (stop : Option JobStop) (result : Result OpenJob JobStop) (buf : List ℕ) → stop_of (so_far got) ≡ stop → 1 ≤ length buf → Parts stop (Some (Some r)) is buf result → Opens first now result
   opens_here stop (Ok job) buf stops room p = opened_here stop job buf stops room p
   opens_here stop (Err s) buf stops room p = record {
     bytes = got ++ rest_of now;
@@ -189,7 +189,7 @@ module _ (first now : Option (List ℕ)) (got : List ℕ) (lost : Consumes first
     ends = stopped_on (got ++ rest_of now) got [] (rest_of now) s (ap (λ l. l ++ rest_of now) (sym (append-nil got))) (stops_at s (stops ∙ p));
   }
     where
-      stops_at : (s : Stop) → stop_of (so_far got) ≡ Some s → stop_of (so_far (got ++ [])) ≡ Some s
+      stops_at : (s : JobStop) → stop_of (so_far got) ≡ Some s → stop_of (so_far (got ++ [])) ≡ Some s
       stops_at s e = ap stop_of (after_both _ got []) ∙ e
 
   pub split_here : split is ≡ None → (is ≡ [] → ⊥) → ⊥
@@ -204,7 +204,7 @@ machine_some (Some r) items m e = (r, refl, sym (of_some e))
     of_some k = cc
 
 module _ (first now : Option (List ℕ)) (got : List ℕ) (lost : Consumes first now got) (o : Option Reader) (items : List JobItem) (machine : machine_of o items ≡ Some (so_far got)) where
-  pub piece_opens : (stop : Option Stop) (result : Result OpenJob Stop) (buf : List ℕ) → stop ≡ stop_of (so_far got) → 1 ≤ length buf → Parts stop (Some o) (item_views items) buf result → Opens first now result
+  pub piece_opens : (stop : Option JobStop) (result : Result OpenJob JobStop) (buf : List ℕ) → stop ≡ stop_of (so_far got) → 1 ≤ length buf → Parts stop (Some o) (item_views items) buf result → Opens first now result
   piece_opens stop result buf is room parts =
       let p = machine_some o items (so_far got) machine in
       opens_here first now got lost p.0 (item_views items) p.2 stop result buf (sym is) room (subst (λ q. Parts stop (Some q) (item_views items) buf result) p.1 parts)
@@ -213,13 +213,13 @@ module _ (first now : Option (List ℕ)) (got : List ℕ) (lost : Consumes first
   no_views [] e = refl
   no_views (i ∷ is) e = absurd (cc)
 
-  pub piece_splits : (b c : Bool) (stop : Option Stop) → b ≡ is_some stop → c ≡ (length items == 0) → b || not c ≡ true → split (item_views items) ≡ None → stop ≡ None → ⊥
+  pub piece_splits : (b c : Bool) (stop : Option JobStop) → b ≡ is_some stop → c ≡ (length items == 0) → b || not c ≡ true → split (item_views items) ≡ None → stop ≡ None → ⊥
   piece_splits b c stop is empty either none none_stop =
       let p = machine_some o items (so_far got) machine in
       split_here first now got lost p.0 (item_views items) p.2 none (λ e. true≢false (sym either ∙ ap₂ (λ x y. x || not y) (is ∙ ap is_some none_stop) (empty ∙ ap (λ n. n == 0) (no_views items e))))
 
 module _ (first mid now : Option (List ℕ)) (got : List ℕ) (front : Consumes first mid got) (last : Consumes mid now []) (end : IsAtEnd now) (o : Option Reader) (old new : List JobItem) (machine : machine_of o old ≡ Some (so_far got)) (unstopped : stop_of (so_far got) ≡ None)
-    (ended : IfSome o (λ b. item_views new ≡ (end_of b (item_views old)).items)) (stop : Option Stop)
+    (ended : IfSome o (λ b. item_views new ≡ (end_of b (item_views old)).items)) (stop : Option JobStop)
     (stops : IfSome (machine_of o old) (λ m. topology_stop m.items ≡ None → stop ≡ stop_of (end_of m.reader m.items))) where
   end_known : IfSome first (λ b. b ≡ got)
   end_known = known_end first mid now got [] front refl last end
@@ -235,14 +235,14 @@ module _ (first mid now : Option (List ℕ)) (got : List ℕ) (front : Consumes 
   end_stops : stop_of (whole got) ≡ stop
   end_stops = sym (at_machine (λ m. topology_stop m.items ≡ None → stop ≡ stop_of (end_of m.reader m.items)) (machine_of o old) (so_far got) machine stops (unrefused (so_far got) unstopped))
 
-  pub end_opens : (result : Result OpenJob Stop) (buf : List ℕ) → 1 ≤ length buf → Parts stop None (item_views new) buf result → Opens first now result
+  pub end_opens : (result : Result OpenJob JobStop) (buf : List ℕ) → 1 ≤ length buf → Parts stop None (item_views new) buf result → Opens first now result
   end_opens result buf room parts = opens_at_end first now got end_known end (item_views new) end_items_are stop result buf end_stops room parts
 
   pub end_splits : split (item_views new) ≡ None → stop ≡ None → ⊥
   end_splits none none_stop = split_at_end first now got end_known end (item_views new) end_items_are none (end_stops ∙ none_stop)
 
 -- ---- a piece that doesn't open the job
-pub none_of : (o : Option Stop) → is_some o ≡ false → o ≡ None
+pub none_of : (o : Option JobStop) → is_some o ≡ false → o ≡ None
 none_of None e = refl
 none_of (Some s) e = absurd (true≢false e)
 
@@ -251,10 +251,10 @@ no_items_yet false count items e f g = absurd (true≢false e)
 no_items_yet true count [] e f g = refl
 no_items_yet true count (i ∷ is) e f g = let none : count ≡ 0 = (Decides-eqb count 0).0 (sym f) in absurd (omega (arith, none, g))
 
-pub still_open : (b : Bool) (count : ℕ) (stop : Option Stop) (items : List JobItem) → is_some stop ≡ false → not b ≡ false → b ≡ (count == 0) → count ≡ length items → (stop ≡ None) × (items ≡ [])
+pub still_open : (b : Bool) (count : ℕ) (stop : Option JobStop) (items : List JobItem) → is_some stop ≡ false → not b ≡ false → b ≡ (count == 0) → count ≡ length items → (stop ≡ None) × (items ≡ [])
 still_open b count stop items s e f g = (none_of stop s, no_items_yet b count items e f g)
 
-pub never_open : (b : Bool) (stop : Option Stop) (items : List JobItem) → b ≡ true → b ≡ false → (stop ≡ None) × (items ≡ [])
+pub never_open : (b : Bool) (stop : Option JobStop) (items : List JobItem) → b ≡ true → b ≡ false → (stop ≡ None) × (items ≡ [])
 never_open b stop items e f = absurd (true≢false (sym e ∙ f))
 
 -- ---- the buffer after a piece was written into it
@@ -262,23 +262,23 @@ pub written : (n : ℕ) (new old : List ℕ) → n ≡ length old → length new
 written n new old e f = ap (λ k. take k (new ++ drop (length new) old)) (e ∙ sym f) ∙ take-append_seam new (drop (length new) old)
 
 -- ---- a job that was read whole
-module _ (first now : Option (List ℕ)) (items : Vec JobItem Global) (r : Result (Vec JobItem Global) Stop) (h : Read first r) (is : r ≡ Ok items) (end : OnOk r (IsAtEnd now)) where
+module _ (first now : Option (List ℕ)) (items : Vec JobItem Global) (r : Result (Vec JobItem Global) JobStop) (h : Read first r) (is : r ≡ Ok items) (end : OnOk r (IsAtEnd now)) where
   all_of_it : Ends (whole h.bytes) (Ok items)
   all_of_it = subst (Ends (whole h.bytes)) is h.ends
 
   at_its_end : IsAtEnd now
   at_its_end = ended_at r is end
     where
-      ended_at : (q : Result (Vec JobItem Global) Stop) → q ≡ Ok items → OnOk q (IsAtEnd now) → IsAtEnd now
+      ended_at : (q : Result (Vec JobItem Global) JobStop) → q ≡ Ok items → OnOk q (IsAtEnd now) → IsAtEnd now
       ended_at (Ok v) e k = k
       ended_at (Err s) e k = absurd (cc)
 
-  pub whole_opens : (result : Result OpenJob Stop) (buf : List ℕ) → 1 ≤ length buf → Parts None None (item_views items.items) buf result → Opens first now result
+  pub whole_opens : (result : Result OpenJob JobStop) (buf : List ℕ) → 1 ≤ length buf → Parts None None (item_views items.items) buf result → Opens first now result
   whole_opens result buf room parts = opens_at_end first now h.bytes h.known at_its_end (item_views items.items) (sym all_of_it.1) None result buf all_of_it.0 room parts
 
   pub whole_splits : split (item_views items.items) ≡ None → ⊥
   whole_splits none = split_at_end first now h.bytes h.known at_its_end (item_views items.items) (sym all_of_it.1) none all_of_it.0
 
-pub whole_stands : (is : List ItemView) (buf : List ℕ) (result : Result OpenJob Stop) → Parts None None is buf result → IfOk result (λ job. job.rest.standing ≡ Whole)
+pub whole_stands : (is : List ItemView) (buf : List ℕ) (result : Result OpenJob JobStop) → Parts None None is buf result → IfOk result (λ job. job.rest.standing ≡ Whole)
 whole_stands is buf (Ok job) p = let standing : Whole ≡ job.rest.standing = cc (p.1) in sym standing
 whole_stands is buf (Err s) p = tt

@@ -13,7 +13,7 @@ use Rattle.ks_job.specs.declared.reader.JobFault.{JobFault}
 use Rattle.ks_job.specs.Phases.{Fed, TellsFault}
 use Rattle.ks_job.specs.Reader.{Reader, Machine, after, end_of, so_far, whole}
 use Rattle.ks_job.proofs.Cuts.{after_both}
-use Rattle.ks_job_source.specs.declared.stop.Stop.{Stop}
+use Rattle.ks_job_source.specs.declared.stop.JobStop.{JobStop}
 use Rattle.ks_job_source.specs.Reading.{machine_of, answer_stop, Ends, Read, TookNoFault}
 use Rattle.ks_job_source.specs.Stops.{topology_stop, line_stop, stop_of}
 use Rattle.ks_job_source.proofs.Machines.{Keeps, keeps_after, keeps_end, stays_after, stays_at_end, unrefused, answered}
@@ -29,7 +29,7 @@ known true old new k e t = refl
 known false [] new k e t = absurd (cc ((Decides-eqb 0 0).1 refl))
 known false (i ∷ is) new k e t = sym (k.stop (λ h. absurd (cc)) ∙ t)
 
-judged_stop : (first : Bool) (a : Result ⊤ JobFault) (r : Reader) (old new : List JobItem) (n : Machine) (o : Option Stop) → first ≡ (length old == 0) → topology_stop (item_views old) ≡ None →
+judged_stop : (first : Bool) (a : Result ⊤ JobFault) (r : Reader) (old new : List JobItem) (n : Machine) (o : Option JobStop) → first ≡ (length old == 0) → topology_stop (item_views old) ≡ None →
     Keeps (item_views old) n.items → item_views new ≡ n.items → r ≡ n.reader → TellsFault a r →
     o ≡ option_or (cond first (topology_stop (item_views new)) None) (answer_stop a) → o ≡ stop_of n
 judged_stop first a r old new n o e t keeps items reader h is =
@@ -37,7 +37,7 @@ judged_stop first a r old new n o e t keeps items reader h is =
     ∙ ap (λ p. option_or p (answer_stop a)) (known first old n.items keeps e t)
     ∙ ap (λ p. option_or (topology_stop n.items) p) (answered a r (answer_stop a) h refl ∙ ap line_stop reader)
 
-pub fed_stop : (old new : Option Reader) (old_items new_items : List JobItem) (xs : List ℕ) (first : Bool) (a : Result ⊤ JobFault) (o : Option Stop) → first ≡ (length old_items == 0) →
+pub fed_stop : (old new : Option Reader) (old_items new_items : List JobItem) (xs : List ℕ) (first : Bool) (a : Result ⊤ JobFault) (o : Option JobStop) → first ≡ (length old_items == 0) →
     Fed old new old_items new_items xs → IfSome new (λ s. TellsFault a s) → o ≡ option_or (cond first (topology_stop (item_views new_items)) None) (answer_stop a) →
     IfSome (machine_of old old_items) (λ m. topology_stop m.items ≡ None → o ≡ stop_of (after m xs))
 fed_stop None new old_items new_items xs first a o e fed h is = absurd fed
@@ -56,7 +56,7 @@ fed_machine (Some r) (Some s) old_items new_items xs fed = ap Some fed
 abbrev pub Finished : Option Reader → List JobItem → List JobItem → Result ⊤ JobFault → Type 0
 Finished old old_items new_items a = IfSome old (λ b. TellsFault a (end_of b (item_views old_items)).reader × (item_views new_items ≡ (end_of b (item_views old_items)).items))
 
-pub ended_stop : (old : Option Reader) (old_items new_items : List JobItem) (first : Bool) (a : Result ⊤ JobFault) (o : Option Stop) → first ≡ (length old_items == 0) →
+pub ended_stop : (old : Option Reader) (old_items new_items : List JobItem) (first : Bool) (a : Result ⊤ JobFault) (o : Option JobStop) → first ≡ (length old_items == 0) →
     Finished old old_items new_items a → o ≡ option_or (cond first (topology_stop (item_views new_items)) None) (answer_stop a) →
     IfSome (machine_of old old_items) (λ m. topology_stop m.items ≡ None → o ≡ stop_of (end_of m.reader m.items))
 ended_stop None old_items new_items first a o e h is = tt
@@ -69,12 +69,12 @@ ended_items None old_items new_items a h = tt
 ended_items (Some r) old_items new_items a h = h.1
 
 -- what a job comes to at its end
-pub ends_stopped : (old : Option Reader) (old_items : List JobItem) (o : Option Stop) (stop : Stop) → IfSome (machine_of old old_items) (λ m. topology_stop m.items ≡ None → o ≡ stop_of (end_of m.reader m.items)) → o ≡ Some stop →
+pub ends_stopped : (old : Option Reader) (old_items : List JobItem) (o : Option JobStop) (stop : JobStop) → IfSome (machine_of old old_items) (λ m. topology_stop m.items ≡ None → o ≡ stop_of (end_of m.reader m.items)) → o ≡ Some stop →
     IfSome (machine_of old old_items) (λ m. topology_stop m.items ≡ None → stop_of (end_of m.reader m.items) ≡ Some stop)
 ends_stopped None old_items o stop h is = tt
 ends_stopped (Some r) old_items o stop h is = λ t. sym (h t) ∙ is
 
-pub ends_whole : (old : Option Reader) (old_items new_items : List JobItem) (o : Option Stop) → IfSome (machine_of old old_items) (λ m. topology_stop m.items ≡ None → o ≡ stop_of (end_of m.reader m.items)) → o ≡ None →
+pub ends_whole : (old : Option Reader) (old_items new_items : List JobItem) (o : Option JobStop) → IfSome (machine_of old old_items) (λ m. topology_stop m.items ≡ None → o ≡ stop_of (end_of m.reader m.items)) → o ≡ None →
     IfSome old (λ b. item_views new_items ≡ (end_of b (item_views old_items)).items) →
     IfSome (machine_of old old_items) (λ m. topology_stop m.items ≡ None → (stop_of (end_of m.reader m.items) ≡ None) × (item_views new_items ≡ (end_of m.reader m.items).items))
 ends_whole None old_items new_items o h is items = tt
@@ -113,7 +113,7 @@ so_far_more m n got piece e f = f ∙ ap (option_map (λ x. after x piece)) e �
 pub at_machine : (P : Machine → Type 0) (m : Option Machine) (x : Machine) → m ≡ Some x → IfSome m P → P x
 at_machine P m x e h = rw e at h
 
-pub unstopped_more : (m : Option Machine) (got piece : List ℕ) (o : Option Stop) → m ≡ Some (so_far got) → stop_of (so_far got) ≡ None →
+pub unstopped_more : (m : Option Machine) (got piece : List ℕ) (o : Option JobStop) → m ≡ Some (so_far got) → stop_of (so_far got) ≡ None →
     IfSome m (λ x. topology_stop x.items ≡ None → o ≡ stop_of (after x piece)) → o ≡ stop_of (so_far (got ++ piece))
 unstopped_more m got piece o e u h = at_machine (λ x. topology_stop x.items ≡ None → o ≡ stop_of (after x piece)) m (so_far got) e h (unrefused (so_far got) u) ∙ ap stop_of (sym (after_both _ got piece))
 
@@ -123,7 +123,7 @@ known_end (Some xs) None c got piece p z q end = absurd p
 known_end (Some xs) (Some ys) None got piece p z q end = absurd q
 known_end (Some xs) (Some ys) (Some zs) got piece p z q end = p ∙ ap (λ l. got ++ l) (q ∙ rw (z, end) refl) ∙ append-nil got
 
-pub read_to_end : (a b c : Option (List ℕ)) (m : Option Machine) (got piece : List ℕ) (r : Result (Vec JobItem Global) Stop) → Consumes a b got → piece ≡ [] → Consumes b c piece → IsAtEnd c →
+pub read_to_end : (a b c : Option (List ℕ)) (m : Option Machine) (got piece : List ℕ) (r : Result (Vec JobItem Global) JobStop) → Consumes a b got → piece ≡ [] → Consumes b c piece → IsAtEnd c →
     m ≡ Some (so_far got) → stop_of (so_far got) ≡ None → IfSome m (λ x. topology_stop x.items ≡ None → Ends (end_of x.reader x.items) r) → Read a r
 read_to_end a b c m got piece r p z q end e u h = record {
   bytes = got;
@@ -131,12 +131,12 @@ read_to_end a b c m got piece r p z q end e u h = record {
   ends = at_machine (λ x. topology_stop x.items ≡ None → Ends (end_of x.reader x.items) r) m (so_far got) e h (unrefused (so_far got) u);
 }
 
-pub stopped_on : (xs got piece rest : List ℕ) (stop : Stop) → xs ≡ (got ++ piece) ++ rest → stop_of (so_far (got ++ piece)) ≡ Some stop → stop_of (whole xs) ≡ Some stop
+pub stopped_on : (xs got piece rest : List ℕ) (stop : JobStop) → xs ≡ (got ++ piece) ++ rest → stop_of (so_far (got ++ piece)) ≡ Some stop → stop_of (whole xs) ≡ Some stop
 stopped_on xs got piece rest stop all here =
     let on : stop_of (so_far xs) ≡ Some stop = ap (λ l. stop_of (so_far l)) all ∙ (ap stop_of (after_both _ (got ++ piece) rest) ∙ stays_after (so_far (got ++ piece)) rest stop here) in
     stays_at_end (so_far xs) stop on
 
-pub stopped_early : (a b c : Option (List ℕ)) (m : Option Machine) (got piece : List ℕ) (stop : Stop) → Consumes a b got → Consumes b c piece → m ≡ Some (so_far got) → stop_of (so_far got) ≡ None →
+pub stopped_early : (a b c : Option (List ℕ)) (m : Option Machine) (got piece : List ℕ) (stop : JobStop) → Consumes a b got → Consumes b c piece → m ≡ Some (so_far got) → stop_of (so_far got) ≡ None →
     IfSome m (λ x. topology_stop x.items ≡ None → Some stop ≡ stop_of (after x piece)) → Read a (Err stop)
 stopped_early None b c m got piece stop p q e u h =
     let here : stop_of (so_far (got ++ piece)) ≡ Some stop = sym (unstopped_more m got piece (Some stop) e u h) in

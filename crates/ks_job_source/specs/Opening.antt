@@ -6,7 +6,7 @@ use Rattle.ks_plan.specs.Faults.{fault_of}
 use Rattle.ks_job.specs.Items.{ItemView, TopologyAt, item_views}
 use Rattle.ks_job.specs.Reader.{Reader, Machine, after, end_of, so_far, whole}
 use Rattle.ks_law_inputs.specs.Records.{HavePartitions, AreRecords}
-use Rattle.ks_job_source.specs.declared.stop.Stop.{Stop}
+use Rattle.ks_job_source.specs.declared.stop.JobStop.{JobStop}
 use Rattle.ks_job_source.specs.declared.rest.Standing.{Standing}
 use Rattle.ks_job_source.specs.declared.rest.Standing.TheVariants.{Reading, Whole, Stopped, Lost}
 use Rattle.ks_job_source.specs.declared.rest.JobEnd.{JobEnd}
@@ -33,7 +33,7 @@ pub record ReadsOn (start : Reader) (old now : Option (List ℕ)) (reader : Read
   pub unstopped : line_stop reader ≡ None
 
 -- all bytes from there on, which are those that the source had left where it tells them, have these items and then this faulty line
-pub record ReadsOut (start : Reader) (old : Option (List ℕ)) (stop : Option Stop) (items : List ItemView) : Type 0 where
+pub record ReadsOut (start : Reader) (old : Option (List ℕ)) (stop : Option JobStop) (items : List ItemView) : Type 0 where
   pub bytes : List ℕ
   pub known : IfSome old (λ b. b ≡ bytes)
   pub items_are : (ended (after (from start) bytes)).items ≡ items
@@ -93,7 +93,7 @@ IsReading Lost = ⊥
 
 -- ---- a job from its first byte on
 -- some bytes, which are those that the source had left where it tells them, have this topology and these records, and then this stop
-pub record HoldsJob (first : Option (List ℕ)) (stop : Option Stop) (d : DraftView) (records : List ItemView) : Type 0 where
+pub record HoldsJob (first : Option (List ℕ)) (stop : Option JobStop) (d : DraftView) (records : List ItemView) : Type 0 where
   pub bytes : List ℕ
   pub known : IfSome first (λ b. b ≡ bytes)
   pub line : ℕ
@@ -134,6 +134,6 @@ pub record IsOpened (first now : Option (List ℕ)) (d : DraftView) (records : L
   pub readable : IsReadable d records rest
   pub stands : OpensAt first now d records rest.standing
 
-abbrev pub Opens : Option (List ℕ) → Option (List ℕ) → Result OpenJob Stop → Type 0
+abbrev pub Opens : Option (List ℕ) → Option (List ℕ) → Result OpenJob JobStop → Type 0
 Opens first now (Ok job) = IsOpened first now (draft_view job.draft) (item_views job.records.items) job.rest
 Opens first now (Err stop) = Read first (Err stop)

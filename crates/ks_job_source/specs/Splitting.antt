@@ -4,8 +4,8 @@ use Rattle.ks_plan.specs.Drafts.{DraftView, draft_view}
 use Rattle.ks_job.specs.Items.{ItemView, TopologyAt, RecordTo, item_views}
 use Rattle.ks_job.specs.Reader.{Reader}
 use Rattle.ks_job.specs.Reader as readers
-use Rattle.ks_job_source.specs.declared.stop.Stop.{Stop}
-use Rattle.ks_job_source.specs.declared.stop.Stop.TheVariants.{BadLine, BadTopology}
+use Rattle.ks_job_source.specs.declared.stop.JobStop.{JobStop}
+use Rattle.ks_job_source.specs.declared.stop.JobStop.TheVariants.{BadLine, BadTopology}
 use Rattle.ks_job_source.specs.declared.rest.Standing.{Standing}
 use Rattle.ks_job_source.specs.declared.rest.Standing.TheVariants.{Reading, Whole, Stopped}
 use Rattle.ks_job_source.specs.declared.opening.OpenJob.{OpenJob}
@@ -27,14 +27,14 @@ split (TopologyAt line d ∷ is) = Some (d, is)
 split (RecordTo t r ∷ is) = None
 
 -- where reading stands by why it stops, if it does, and the reader, which is none after the end of the input; a topology that is refused isn't opened
-abbrev pub stand_by : Option Stop → Option (Option Reader) → Result Standing Stop
+abbrev pub stand_by : Option JobStop → Option (Option Reader) → Result Standing JobStop
 stand_by (Some (BadTopology line fault)) reader = Err (BadTopology line fault)
 stand_by (Some (BadLine line kind)) reader = Ok (Stopped (BadLine line kind))
 stand_by None (Some r) = Ok (Reading r)
 stand_by None None = Ok Whole
 
 -- what was opened has these items and stands so; or nothing was, for this reason
-abbrev pub Parts : Option Stop → Option (Option Reader) → List ItemView → List ℕ → Result OpenJob Stop → Type 0
+abbrev pub Parts : Option JobStop → Option (Option Reader) → List ItemView → List ℕ → Result OpenJob JobStop → Type 0
 Parts stop reader is buf (Ok job) =
     (split is ≡ Some (draft_view job.draft, item_views job.records.items))
     × (stand_by stop reader ≡ Ok job.rest.standing)

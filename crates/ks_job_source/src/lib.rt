@@ -8,7 +8,7 @@ mod rest;
 mod stop;
 
 pub use opening::{OpenJob, open_job};
-pub use reading::ReadError;
+pub use reading::SourceError;
 pub use refusals::print_bad_job;
 pub use rest::{JobEnd, JobRest, Standing};
-pub use stop::Stop;
+pub use stop::JobStop;

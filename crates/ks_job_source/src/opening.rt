@@ -8,9 +8,9 @@ ghost use Rattle.ks_job_source.specs.Opening.{Opens};
 ghost use Rattle.ks_job_source.specs.Reading.{TookNoFault};
 ghost use Rattle.ks_job_source.specs.Splitting.{split, stand_by, Parts};
 
-use crate::reading::{PIECE, ReadError, end_items, feed_piece, read_by, zeros};
+use crate::reading::{PIECE, SourceError, end_items, feed_piece, read_by, zeros};
 use crate::rest::{JobRest, Standing};
-use crate::stop::Stop;
+use crate::stop::JobStop;
 use ks_edge::Source;
 use ks_job::{JobItem, JobReader};
 use ks_topo::Draft;
@@ -42,12 +42,15 @@ fn split_job(items: Vec<JobItem>) -> Option<(Draft, Vec<JobItem>)>
 }
 
 // Where reading stands, by why it stops, if it does; a topology that is refused isn't opened.
-fn stand(stop: Option<Stop>, reader: Option<JobReader>) -> Result<Standing, Stop>
+fn stand(stop: Option<JobStop>, reader: Option<JobReader>) -> Result<Standing, JobStop>
     ensures { result ≡ stand_by stop reader }
 {
     match stop {
-        Some(Stop::BadTopology { line, fault }) => Err(Stop::BadTopology { line, fault }),
-        Some(Stop::BadLine { line, kind }) => Ok(Standing::Stopped(Stop::BadLine { line, kind })),
+        Some(JobStop::BadTopology { line, fault }) => Err(JobStop::BadTopology { line, fault }),
+        Some(JobStop::BadLine { line, kind }) => Ok(Standing::Stopped(JobStop::BadLine {
+            line,
+            kind,
+        })),
         None => match reader {
             Some(reader) => Ok(Standing::Reading(reader)),
             None => Ok(Standing::Whole),
@@ -57,11 +60,11 @@ fn stand(stop: Option<Stop>, reader: Option<JobReader>) -> Result<Standing, Stop
 
 // The job that has these items so far; why it stops, where they have no topology or one that is refused.
 fn open_with(
-    stop: Option<Stop>,
+    stop: Option<JobStop>,
     reader: Option<JobReader>,
     items: Vec<JobItem>,
     buf: Vec<u8>,
-) -> Result<OpenJob, Stop>
+) -> Result<OpenJob, JobStop>
     requires { split (item_views items.items) ≡ None → stop ≡ None → ⊥ }
     ensures { Parts stop reader (item_views items.items) buf.items result }
 {
@@ -90,12 +93,12 @@ fn open_by<R: Threads + Sync, S: Source>(
     alloc: Global,
     input: &mut S,
     mut buf: Vec<u8>,
-) -> Result<Result<OpenJob, Stop>, ReadError>
+) -> Result<Result<OpenJob, JobStop>, SourceError>
     requires some { 1 ≤ length buf.items }
     requires room { length buf.items ≤ 4194304 }
     ensures kept { OnOk result (S.faults input.new ≡ S.faults input.old) }
     ensures opened { IfOk result (λ r. Opens (S.left input.old) (S.left input.new) r) }
-    ensures fault { result ≡ Err ReadError.Fault → Rose (S.faults input.old) (S.faults input.new)
+    ensures fault { result ≡ Err SourceError.Fault → Rose (S.faults input.old) (S.faults input.new)
         × TookNoFault (S.left input.old) (S.left input.new) }
 {
     let mut reader = JobReader::new(alloc);
@@ -122,13 +125,13 @@ fn open_whole<R: Threads + Sync, S: Source>(
     alloc: Global,
     input: &mut S,
     mut buf: Vec<u8>,
-) -> Result<Result<OpenJob, Stop>, ReadError>
+) -> Result<Result<OpenJob, JobStop>, SourceError>
     requires some { 1 ≤ length buf.items }
     requires room { length buf.items ≤ 4194304 }
     ensures kept { OnOk result (S.faults input.new ≡ S.faults input.old) }
     ensures opened { IfOk result (λ r. Opens (S.left input.old) (S.left input.new) r) }
     ensures whole { IfOk result (λ r. IfOk r (λ job. job.rest.standing ≡ Whole)) }
-    ensures fault { result ≡ Err ReadError.Fault → Rose (S.faults input.old) (S.faults input.new)
+    ensures fault { result ≡ Err SourceError.Fault → Rose (S.faults input.old) (S.faults input.new)
         × TookNoFault (S.left input.old) (S.left input.new) }
 {
     match read_by(rt, alloc, input, &mut buf)? {
@@ -144,11 +147,11 @@ pub fn open_job<R: Threads + Sync, S: Source>(
     alloc: Global,
     input: &mut S,
     is_whole: bool,
-) -> Result<Result<OpenJob, Stop>, ReadError>
+) -> Result<Result<OpenJob, JobStop>, SourceError>
     ensures kept { OnOk result (S.faults input.new ≡ S.faults input.old) }
     ensures opened { IfOk result (λ r. Opens (S.left input.old) (S.left input.new) r) }
     ensures whole { is_whole ≡ true → IfOk result (λ r. IfOk r (λ job. job.rest.standing ≡ Whole)) }
-    ensures fault { result ≡ Err ReadError.Fault → Rose (S.faults input.old) (S.faults input.new)
+    ensures fault { result ≡ Err SourceError.Fault → Rose (S.faults input.old) (S.faults input.new)
         × TookNoFault (S.left input.old) (S.left input.new) }
 {
     let buf = zeros(alloc, PIECE)?;

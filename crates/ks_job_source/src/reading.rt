@@ -8,7 +8,7 @@ ghost use Rattle.ks_job.specs.Reader.{after, end_of, whole};
 ghost use Rattle.ks_job_source.specs.Reading.{machine_of, answer_stop, Ends, Read, TookNoFault};
 ghost use Rattle.ks_job_source.specs.Stops.{stop_of, topology_stop};
 
-use crate::stop::{Stop, refused};
+use crate::stop::{JobStop, refused};
 use ks_edge::{Failed, Source};
 use ks_job::{JobFault, JobItem, JobReader};
 use std::alloc::{AllocError, Global};
@@ -19,30 +19,30 @@ pub(crate) const PIECE: usize = 4_194_304;
 
 /// Why a job wasn't read.
 #[derive(Clone, Copy, PartialEq, Eq, Debug)]
-pub enum ReadError {
+pub enum SourceError {
     /// The source failed.
     Fault,
     /// There was no memory.
     Memory,
 }
 
-impl From<Failed> for ReadError {
-    ghost use Rattle.ks_job_source.specs.declared.reading.ReadError.TheVariants.{Fault};
+impl From<Failed> for SourceError {
+    ghost use Rattle.ks_job_source.specs.declared.reading.SourceError.TheVariants.{Fault};
 
     ghost from_gives = { λ _ e. e ≡ Fault };
 
     fn from(_: Failed) -> Self {
-        ReadError::Fault
+        SourceError::Fault
     }
 }
 
-impl From<AllocError> for ReadError {
-    ghost use Rattle.ks_job_source.specs.declared.reading.ReadError.TheVariants.{Memory};
+impl From<AllocError> for SourceError {
+    ghost use Rattle.ks_job_source.specs.declared.reading.SourceError.TheVariants.{Memory};
 
     ghost from_gives = { λ _ e. e ≡ Memory };
 
     fn from(_: AllocError) -> Self {
-        ReadError::Memory
+        SourceError::Memory
     }
 }
 
@@ -52,7 +52,7 @@ fn judge_answer(
     is_first: bool,
     items: &[JobItem],
     answer: Result<(), JobFault>,
-) -> Result<Option<Stop>, AllocError>
+) -> Result<Option<JobStop>, AllocError>
     ensures { IfOk result (λ o. o ≡ option_or
         (if is_first then topology_stop (item_views items.now) else None) (answer_stop answer)) }
 {
@@ -63,7 +63,7 @@ fn judge_answer(
     }
     match answer {
         Ok(()) => Ok(None),
-        Err(fault) => Ok(Some(Stop::BadLine {
+        Err(fault) => Ok(Some(JobStop::BadLine {
             line: fault.line,
             kind: fault.kind,
         })),
@@ -77,7 +77,7 @@ pub(crate) fn feed_piece<R: Threads + Sync>(
     reader: &mut JobReader,
     items: &mut Vec<JobItem>,
     piece: &[u8],
-) -> Result<Option<Stop>, AllocError>
+) -> Result<Option<JobStop>, AllocError>
     ensures fed { OnOk result (machine_of reader.new items.new.items
         ≡ option_map (λ m. after m piece.now) (machine_of reader.old items.old.items)) }
     ensures stop { IfOk result (λ o. IfSome (machine_of reader.old items.old.items)
@@ -93,7 +93,7 @@ pub(crate) fn end_items(
     alloc: Global,
     reader: JobReader,
     items: &mut Vec<JobItem>,
-) -> Result<Option<Stop>, AllocError>
+) -> Result<Option<JobStop>, AllocError>
     ensures ended { OnOk result (IfSome reader
         (λ b. item_views items.new.items ≡ (end_of b (item_views items.old.items)).items)) }
     ensures stop { IfOk result (λ o. IfSome (machine_of reader items.old.items)
@@ -109,7 +109,7 @@ fn end_job(
     alloc: Global,
     reader: JobReader,
     mut items: Vec<JobItem>,
-) -> Result<Result<Vec<JobItem>, Stop>, AllocError>
+) -> Result<Result<Vec<JobItem>, JobStop>, AllocError>
     ensures { IfOk result (λ r. IfSome (machine_of reader items.items)
         (λ m. topology_stop m.items ≡ None → Ends (end_of m.reader m.items) r)) }
 {
@@ -125,13 +125,13 @@ pub(crate) fn read_by<R: Threads + Sync, S: Source>(
     alloc: Global,
     input: &mut S,
     buf: &mut [u8],
-) -> Result<Result<Vec<JobItem>, Stop>, ReadError>
+) -> Result<Result<Vec<JobItem>, JobStop>, SourceError>
     requires some { 0 < length buf.old }
     requires room { length buf.old ≤ 4194304 }
     ensures kept { OnOk result (S.faults input.new ≡ S.faults input.old) }
     ensures read { IfOk result (λ r. Read (S.left input.old) r) }
     ensures end { IfOk result (λ r. OnOk r (IsAtEnd (S.left input.new))) }
-    ensures fault { result ≡ Err ReadError.Fault → Rose (S.faults input.old) (S.faults input.new)
+    ensures fault { result ≡ Err SourceError.Fault → Rose (S.faults input.old) (S.faults input.new)
         × TookNoFault (S.left input.old) (S.left input.new) }
 {
     let mut reader = JobReader::new(alloc);

@@ -1,10 +1,10 @@
 //! How a job that is refused is told.
 ghost use Rattle.std.specs.Prelude.{◌≡◌, ◌++◌, IfOk};
-ghost use Rattle.ks_record_line.specs.Texts.{name_text as text_of_name};
+ghost use Rattle.ks_job_record.specs.Texts.{name_text as text_of_name};
 ghost use Rattle.ks_job_source.specs.Texts.{topology_text, stop_line, stop_fault, bad_job_text};
 
-use crate::stop::Stop;
-use ks_record_line::{JobKind, fault_text, name_text};
+use crate::stop::JobStop;
+use ks_job_record::{JobKind, fault_text, name_text};
 use ks_topo::TopoFault;
 use std::alloc::{AllocError, Global};
 
@@ -48,27 +48,27 @@ fn print_topology_fault(alloc: Global, fault: &TopoFault) -> Result<Vec<u8>, All
     }
 }
 
-fn line_of(stop: &Stop) -> u64
+fn line_of(stop: &JobStop) -> u64
     ensures { result ≡ stop_line stop.now }
 {
     match stop {
-        Stop::BadLine { line, .. } => *line,
-        Stop::BadTopology { line, .. } => *line,
+        JobStop::BadLine { line, .. } => *line,
+        JobStop::BadTopology { line, .. } => *line,
     }
 }
 
-fn print_fault(alloc: Global, stop: &Stop) -> Result<Vec<u8>, AllocError>
+fn print_fault(alloc: Global, stop: &JobStop) -> Result<Vec<u8>, AllocError>
     ensures { IfOk result (λ v. v.items ≡ stop_fault stop.now) }
 {
     match stop {
-        Stop::BadLine { kind, .. } => fault_text(alloc, kind),
-        Stop::BadTopology { fault, .. } => print_topology_fault(alloc, fault),
+        JobStop::BadLine { kind, .. } => fault_text(alloc, kind),
+        JobStop::BadTopology { fault, .. } => print_topology_fault(alloc, fault),
     }
 }
 
 /// The line that tells where and why a job stops.
 #[tactic(auto, unfolding(crate::specs::Texts::bad_job_text))]
-pub fn print_bad_job(alloc: Global, stop: &Stop) -> Result<Vec<u8>, AllocError>
+pub fn print_bad_job(alloc: Global, stop: &JobStop) -> Result<Vec<u8>, AllocError>
     ensures { IfOk result (λ v. v.items ≡ bad_job_text stop.now) }
 {
     let mut text = Vec::from_slice(alloc, b"bad job line ")?;

@@ -8,8 +8,8 @@ ghost use Rattle.ks_job_source.specs.Opening.{from, end_at, IsReading};
 ghost use Rattle.ks_job_source.specs.Splitting.{standing_after, standing_ended};
 ghost use Rattle.ks_job_source.specs.Steps.{StepsOn, StepsPast, GoesFurther, GoesPast};
 
-use crate::reading::ReadError;
-use crate::stop::Stop;
+use crate::reading::SourceError;
+use crate::stop::JobStop;
 use ks_edge::Source;
 use ks_job::{JobItem, JobReader};
 use std::alloc::{AllocError, Global};
@@ -24,7 +24,7 @@ pub enum Standing {
     /// At the end of the input, in which there was nothing to stop at.
     Whole,
     /// At what it stops at.
-    Stopped(Stop),
+    Stopped(JobStop),
     /// Nowhere, since the source failed or memory ran out.
     Lost,
 }
@@ -35,7 +35,7 @@ pub enum JobEnd {
     /// All of it was read, and there was nothing to stop at.
     Whole,
     /// It stops there.
-    Stopped(Stop),
+    Stopped(JobStop),
     /// The source failed.
     Failed,
 }
@@ -65,7 +65,7 @@ fn take_piece<R: Threads + Sync>(
 {
     match reader.feed_wide(rt, piece, items)? {
         Ok(()) => Ok(Standing::Reading(reader)),
-        Err(fault) => Ok(Standing::Stopped(Stop::BadLine {
+        Err(fault) => Ok(Standing::Stopped(JobStop::BadLine {
             line: fault.line,
             kind: fault.kind,
         })),
@@ -82,7 +82,7 @@ fn take_end(reader: JobReader, items: &mut Vec<JobItem>) -> Result<Standing, All
 {
     match reader.finish(items)? {
         Ok(()) => Ok(Standing::Whole),
-        Err(fault) => Ok(Standing::Stopped(Stop::BadLine {
+        Err(fault) => Ok(Standing::Stopped(JobStop::BadLine {
             line: fault.line,
             kind: fault.kind,
         })),
@@ -96,7 +96,7 @@ fn read_next<R: Threads + Sync, S: Source>(
     reader: JobReader,
     buf: &mut [u8],
     items: &mut Vec<JobItem>,
-) -> Result<(Standing, usize), ReadError>
+) -> Result<(Standing, usize), SourceError>
     requires room { 1 ≤ length buf.old }
     requires none { items.old.items ≡ [] }
     ensures kept { OnOk result (S.faults input.new ≡ S.faults input.old) }
@@ -104,7 +104,7 @@ fn read_next<R: Threads + Sync, S: Source>(
         (item_views items.new.items)) }
     ensures past { IfOk result (λ p. StepsPast reader p.0 p.1 (item_views items.new.items)) }
     ensures room { length buf.new ≡ length buf.old }
-    ensures fault { result ≡ Err ReadError.Fault → Rose (S.faults input.old) (S.faults input.new)
+    ensures fault { result ≡ Err SourceError.Fault → Rose (S.faults input.old) (S.faults input.new)
         × Keeps (S.left input.old) (S.left input.new) }
 {
     let count = input.take(buf)?;
@@ -139,7 +139,7 @@ impl JobRest {
         rt: &R,
         alloc: Global,
         input: &mut S,
-    ) -> Result<Vec<JobItem>, ReadError>
+    ) -> Result<Vec<JobItem>, SourceError>
         requires reading { IsReading self.old.standing }
         requires room { 1 ≤ length self.old.buf.items }
         ensures kept { OnOk result (S.faults input.new ≡ S.faults input.old) }
@@ -148,7 +148,7 @@ impl JobRest {
         ensures past { IfOk result (λ v. GoesPast self.old.standing self.new.standing self.old.taken
             self.new.taken (item_views v.items)) }
         ensures room { OnOk result (1 ≤ length self.new.buf.items) }
-        ensures fault { result ≡ Err ReadError.Fault
+        ensures fault { result ≡ Err SourceError.Fault
             → Rose (S.faults input.old) (S.faults input.new)
             × Keeps (S.left input.old) (S.left input.new) }
     {

@@ -10,7 +10,7 @@ use std::alloc::{AllocError, Global};
 
 /// Where and why reading a job stops.
 #[derive(Drop)]
-pub enum Stop {
+pub enum JobStop {
     /// The first line that is faulty.
     BadLine { line: u64, kind: JobKind },
     /// What is wrong with the topology of this line.
@@ -18,17 +18,17 @@ pub enum Stop {
 }
 
 // Why a topology is refused: its first fault.
-fn refuse(alloc: Global, line: u64, draft: &Draft) -> Result<Option<Stop>, AllocError>
+fn refuse(alloc: Global, line: u64, draft: &Draft) -> Result<Option<JobStop>, AllocError>
     ensures { IfOk result (λ o. o ≡ refusal line (draft_view draft.now)) }
 {
     if let Some(fault) = first_fault(alloc, draft)? {
-        return Ok(Some(Stop::BadTopology { line, fault }));
+        return Ok(Some(JobStop::BadTopology { line, fault }));
     }
     Ok(None)
 }
 
 /// Why the topology among these items is refused, where it has come and is.
-pub fn refused(alloc: Global, items: &[JobItem]) -> Result<Option<Stop>, AllocError>
+pub fn refused(alloc: Global, items: &[JobItem]) -> Result<Option<JobStop>, AllocError>
     ensures { IfOk result (λ o. o ≡ topology_stop (item_views items.now)) }
 {
     match items {

@@ -34,12 +34,12 @@ use Rattle.ks_law_sharing.proofs.Touching.{is_others, untouched_parts, touched_g
 use Rattle.ks_law_sharing.proofs.Leaving.{leaves, is_same, idle_stays, open_stays}
 use Rattle.ks_law_sharing.proofs.Pending.{IsOne, pending_is, one_step, one_at, commits_none}
 use Rattle.ks_law_sharing.proofs.Assigned.{active_stays}
-use Rattle.ks_law_transaction.specs.Building.{Contents, IsBuilding}
-use Rattle.ks_law_transaction.specs.Committing.{Holds, AreOpenEnds, commit_entry, open_end}
-use Rattle.ks_law_transaction.proofs.Built.{building_stays}
-use Rattle.ks_law_transaction.proofs.Ends.{committed_ends}
-use Rattle.ks_law_transaction.proofs.Commits.{active_commits, active_rests}
-use Rattle.ks_law_worker.specs.Held.{IsHeld}
+use Rattle.ks_law_commit.specs.Building.{Contents, IsBuilding}
+use Rattle.ks_law_commit.specs.Committing.{Holds, AreOpenEnds, commit_entry, open_end}
+use Rattle.ks_law_commit.proofs.Built.{building_stays}
+use Rattle.ks_law_commit.proofs.Ends.{committed_ends}
+use Rattle.ks_law_commit.proofs.Commits.{active_commits, active_rests}
+use Rattle.ks_law_commit.specs.Held.{IsHeld}
 use Rattle.ks_law_commit.specs.Sending.{HasSentNothing, HasBegun, IsSending}
 use Rattle.ks_law_commit.specs.Holding.{abort_entry, IsOnItsWay, SeenAtLast, SendingHasSeen, PendingRests, SendingKeepsHeld, WayIsSending, WayKeepsHeld, CommitHolds, CommitKeepsOthers, AbortKeeps}
 use Rattle.ks_law_commit.proofs.Stages.{place_is, building_is, quiet_is, sending_keeps_active}

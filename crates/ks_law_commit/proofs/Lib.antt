@@ -1,3 +1,15 @@
 pub mod Stages
 pub mod Keeping
 pub mod Numbering
+pub mod Adding
+pub mod Built
+pub mod Undecided
+pub mod Faith
+pub mod Ends
+pub mod Commits
+pub mod Counted
+pub mod Example
+pub mod Carried
+pub mod Bounds
+pub mod Held
+pub mod Moving

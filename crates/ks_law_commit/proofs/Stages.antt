@@ -32,14 +32,14 @@ use Rattle.ks_law_sharing.proofs.Touching.{same_touched, seen_stays}
 use Rattle.ks_law_sharing.proofs.Leaving.{idle_stays}
 use Rattle.ks_law_sharing.proofs.Assigned.{active_stays}
 use Rattle.ks_law_sharing.proofs.Refusing.{add_refused, append_refused, offsets_refused, decide_refused, markers_waited_before}
-use Rattle.ks_law_transaction.specs.Building.{Contents, no_contents, IsBuilding, adds_to}
-use Rattle.ks_law_transaction.specs.Committing.{HoldsWork}
-use Rattle.ks_law_transaction.specs.Accounts.{IsAccount}
-use Rattle.ks_law_transaction.specs.Advancing.{added_by, Advances}
-use Rattle.ks_law_transaction.proofs.Built.{building_begins}
-use Rattle.ks_law_transaction.proofs.Faith.{building_faithful}
-use Rattle.ks_law_transaction.proofs.Counted.{account_begins, account_stays, account_ends}
-use Rattle.ks_law_transaction.proofs.Carried.{others_advance, request_advances, both_advance}
+use Rattle.ks_law_commit.specs.Building.{Contents, no_contents, IsBuilding, adds_to}
+use Rattle.ks_law_commit.specs.Committing.{HoldsWork}
+use Rattle.ks_law_commit.specs.Accounts.{IsAccount}
+use Rattle.ks_law_commit.specs.Advancing.{added_by, Advances}
+use Rattle.ks_law_commit.proofs.Built.{building_begins}
+use Rattle.ks_law_commit.proofs.Faith.{building_faithful}
+use Rattle.ks_law_commit.proofs.Counted.{account_begins, account_stays, account_ends}
+use Rattle.ks_law_commit.proofs.Carried.{others_advance, request_advances, both_advance}
 use Rattle.ks_law_commit.specs.Cases.{carries}
 use Rattle.ks_law_commit.specs.Sending.{HasSentNothing, HasBegun, IsSending, IsPrepared, SendingBegins, SendingGains, SendingTouched, SendingRefused, SendingKeepsActive, SendingIsFaithful, SendingCommits}
 

@@ -13,8 +13,8 @@ use Rattle.ks_history.specs.Step.{pending_at}
 use Rattle.ks_history.specs.History.{at}
 use Rattle.ks_history.specs.Touched.{touched}
 use Rattle.ks_law_sharing.specs.Refusals.{IsFencing, IsMarkersWaiting}
-use Rattle.ks_law_transaction.specs.Accounts.{accepted_of}
-use Rattle.ks_law_transaction.specs.Committing.{commit_entry}
+use Rattle.ks_law_commit.specs.Accounts.{accepted_of}
+use Rattle.ks_law_commit.specs.Committing.{commit_entry}
 
 -- the request is the worker's, with this epoch, and with this generation where it has one
 abbrev pub carries : ℕ → ℕ → ℕ → Request → Bool

@@ -13,9 +13,9 @@ use Rattle.ks_history.specs.Touched.{touched, untouched}
 use Rattle.ks_law_restore.specs.Views.{WorkView, IsFrozen, committed_view}
 use Rattle.ks_law_restore.specs.Commits.{NoCommit}
 use Rattle.ks_law_sharing.specs.Tasks.{HasSeen}
-use Rattle.ks_law_transaction.specs.Building.{Contents}
-use Rattle.ks_law_transaction.specs.Committing.{Holds, AreOpenEnds, commit_entry}
-use Rattle.ks_law_worker.specs.Held.{IsHeld}
+use Rattle.ks_law_commit.specs.Building.{Contents}
+use Rattle.ks_law_commit.specs.Committing.{Holds, AreOpenEnds, commit_entry}
+use Rattle.ks_law_commit.specs.Held.{IsHeld}
 use Rattle.ks_law_commit.specs.Sending.{IsSending}
 
 abbrev pub abort_entry : ℕ → ℕ → Entry

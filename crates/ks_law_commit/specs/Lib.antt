@@ -2,3 +2,11 @@ pub mod Cases
 pub mod Sending
 pub mod Holding
 pub mod Producers
+pub mod Building
+pub mod Committing
+pub mod Accounts
+pub mod Example
+pub mod Advancing
+pub mod Bounds
+pub mod Held
+pub mod Moves

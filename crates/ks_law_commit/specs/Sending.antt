@@ -15,10 +15,10 @@ use Rattle.ks_history.specs.History.{at, IsHistory, CommitsFaithfully}
 use Rattle.ks_history.specs.Touched.{touches, touched, untouched}
 use Rattle.ks_law_sharing.specs.Tasks.{IsAssigned, IsActive, HasSeen}
 use Rattle.ks_law_sharing.specs.Refusals.{IsFencing, IsMarkersWaiting}
-use Rattle.ks_law_transaction.specs.Building.{Contents, no_contents, adds_to}
-use Rattle.ks_law_transaction.specs.Committing.{HoldsWork}
-use Rattle.ks_law_transaction.specs.Accounts.{accepted_of}
-use Rattle.ks_law_transaction.specs.Advancing.{added_by, Advances}
+use Rattle.ks_law_commit.specs.Building.{Contents, no_contents, adds_to}
+use Rattle.ks_law_commit.specs.Committing.{HoldsWork}
+use Rattle.ks_law_commit.specs.Accounts.{accepted_of}
+use Rattle.ks_law_commit.specs.Advancing.{added_by, Advances}
 use Rattle.ks_law_commit.specs.Cases.{carries}
 
 -- the worker has made no request yet, and nobody else has used its number

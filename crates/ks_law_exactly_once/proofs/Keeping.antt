@@ -4,7 +4,7 @@ use Rattle.std.proofs.lemmas.Bool.{and_parts}
 use Rattle.ks_row.specs.declared.record.Rec.{Rec}
 use Rattle.ks_row.specs.declared.record.PartId.{PartId}
 use Rattle.ks_row.specs.declared.record.TaskId.{TaskId}
-use Rattle.ks_def_maps.specs.Bytes.{Store}
+use Rattle.ks_def_runs.specs.Bytes.{Store}
 use Rattle.ks_row.specs.Parts.{same_part, same_task}
 use Rattle.ks_def_runs.specs.Run.{Outcome, RunState, is_from, same_sender, same_channel, take_first, advance, initial, sent_to}
 use Rattle.ks_def_runs.proofs.Runs.{same_sender_refl}

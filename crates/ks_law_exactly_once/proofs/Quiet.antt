@@ -8,7 +8,7 @@ use Rattle.ks_row.specs.declared.record.TaskId.{TaskId}
 use Rattle.ks_row.specs.declared.assignment.Marker.{Marker}
 use Rattle.ks_row.specs.declared.assignment.Refused.{Refused}
 use Rattle.ks_row.specs.declared.assignment.Refused.TheVariants.{MarkersWaiting}
-use Rattle.ks_def_maps.specs.Bytes.{empty_store}
+use Rattle.ks_def_runs.specs.Bytes.{empty_store}
 use Rattle.ks_row.specs.Parts.{same_part, same_task, part_lt}
 use Rattle.ks_history.specs.declared.partition.Slot.{Slot}
 use Rattle.ks_history.specs.declared.partition.Slot.TheVariants.{Plain, Mark}

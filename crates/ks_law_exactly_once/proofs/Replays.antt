@@ -8,7 +8,7 @@ use Rattle.ks_row.specs.declared.assignment.Refused.{Refused}
 use Rattle.ks_row.specs.declared.assignment.Assignment.{Assignment}
 use Rattle.ks_row.specs.declared.assignment.Marker.{Marker}
 use Rattle.ks_history.specs.declared.partition.Slot.TheVariants.{Mark}
-use Rattle.ks_def_maps.specs.Bytes.{empty_store}
+use Rattle.ks_def_runs.specs.Bytes.{empty_store}
 use Rattle.ks_row.specs.Parts.{same_part}
 use Rattle.ks_history.specs.declared.journal.Entry.{Entry}
 use Rattle.ks_history.specs.declared.journal.Request.{Request}

@@ -5,7 +5,7 @@ use Rattle.ks_row.specs.declared.record.Rec.{Rec}
 use Rattle.ks_row.specs.declared.record.PartId.{PartId}
 use Rattle.ks_row.specs.declared.record.TaskId.{TaskId}
 use Rattle.ks_row.specs.Parts.{same_task}
-use Rattle.ks_def_maps.specs.Bytes.{Store}
+use Rattle.ks_def_runs.specs.Bytes.{Store}
 use Rattle.ks_def_runs.specs.Run.{Taken, sent_to, same_sender, local}
 use Rattle.ks_def_runs.proofs.Runs.{sent_to-append}
 use Rattle.ks_history.specs.Machine.{TaskPlan, Stores, network, reader_of, part_of, has_topic, applied, latest_from, IsNetwork}

@@ -19,7 +19,7 @@ use Rattle.ks_law_exactly_once.specs.Example.{input, changelog, the_task, setup,
 use Rattle.ks_row.specs.declared.record.Rec.{Rec}
 use Rattle.ks_row.specs.declared.record.TaskId.{TaskId}
 use Rattle.ks_row.specs.declared.assignment.Refused.TheVariants.{Fenced}
-use Rattle.ks_def_maps.specs.Bytes.{Store}
+use Rattle.ks_def_runs.specs.Bytes.{Store}
 use Rattle.ks_history.specs.declared.transaction.Pending.{Pending}
 use Rattle.ks_history.specs.declared.transaction.Transaction.{Transaction}
 

@@ -3,7 +3,7 @@ use Rattle.std.specs.Prelude.{◌≡◌, ℕ, Bool, true, List, [], ◌∷◌}
 use Rattle.ks_row.specs.declared.record.Rec.{Rec}
 use Rattle.ks_row.specs.declared.record.PartId.{PartId}
 use Rattle.ks_row.specs.declared.record.TaskId.{TaskId}
-use Rattle.ks_def_maps.specs.Bytes.{Store, empty_store}
+use Rattle.ks_def_runs.specs.Bytes.{Store, empty_store}
 use Rattle.ks_history.specs.declared.journal.Entry.{Entry}
 use Rattle.ks_history.specs.Partition.{recs}
 use Rattle.ks_history.specs.Machine.{TaskPlan, Stores, reader_of, part_of, has_topic}

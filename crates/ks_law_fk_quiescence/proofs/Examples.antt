@@ -11,7 +11,7 @@ use Rattle.ks_plan.specs.declared.node.Topic.TheVariants.{Input as InputTopic, S
 use Rattle.ks_plan.specs.Drafts.{DraftView, TableOf, FkJoinOf}
 use Rattle.ks_plan.specs.Faults.{fault_of}
 use Rattle.ks_plan.specs.Plan.{plan_of}
-use Rattle.ks_def_maps.specs.FinMap as fin
+use Rattle.ks_def_runs.specs.FinMap as fin
 use Rattle.ks_def_tasks.specs.Messages.{Place}
 use Rattle.ks_def_tasks.proofs.Examples.{one_part, put_row}
 use Rattle.ks_law_quiescence.specs.States.{state_of}

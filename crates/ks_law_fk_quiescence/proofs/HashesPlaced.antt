@@ -10,9 +10,9 @@ use Rattle.ks_plan.specs.declared.node.Topic.TheVariants.{Subscriptions}
 use Rattle.ks_plan.specs.Plan.{Plan}
 use Rattle.ks_plan.specs.Plan.Kind.{ForeignKeyJoin}
 use Rattle.ks_plan.specs.Layout.{same_topic, parts_of_topic}
-use Rattle.ks_def_maps.specs.FinMap as fin
-use Rattle.ks_def_maps.specs.Bytes.{by_bytes}
-use Rattle.ks_def_maps.specs.Table.{write}
+use Rattle.ks_def_runs.specs.FinMap as fin
+use Rattle.ks_def_runs.specs.Bytes.{by_bytes}
+use Rattle.ks_def_runs.specs.Table.{write}
 use Rattle.ks_def_tasks.specs.Foreign.{subscribed}
 use Rattle.ks_query.specs.Streams.{Key, Input}
 use Rattle.ks_def_runs.specs.Run.{take_first, initial}

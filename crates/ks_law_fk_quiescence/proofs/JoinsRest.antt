@@ -11,7 +11,7 @@ use Rattle.ks_expr.specs.Terms.{Set}
 use Rattle.ks_expr.specs.Eval.{Row, same_bytes, joined}
 use Rattle.ks_plan.specs.Plan.{Plan}
 use Rattle.ks_plan.specs.Plan.Kind.{ForeignKeyJoin}
-use Rattle.ks_def_maps.specs.FinMap as fin
+use Rattle.ks_def_runs.specs.FinMap as fin
 use Rattle.ks_query.specs.Streams.{Key, Input}
 use Rattle.ks_query.specs.Query.{Table, right_row, query}
 use Rattle.ks_def_tasks.specs.Messages.{Place, Rules, same_option}

@@ -12,15 +12,15 @@ use Rattle.ks_plan.specs.declared.node.Topic.TheVariants.{Subscriptions, Respons
 use Rattle.ks_plan.specs.Plan.{Plan, Kind}
 use Rattle.ks_plan.specs.Plan.Kind.{ForeignKeyJoin}
 use Rattle.ks_plan.specs.Layout.{same_topic, sub_of, parts_of_topic}
-use Rattle.ks_def_maps.specs.FinMap as fin
+use Rattle.ks_def_runs.specs.FinMap as fin
 use Rattle.ks_query.specs.Streams.{Key, StreamItem}
 use Rattle.ks_def_runs.specs.Run.{same_channel, sent_to}
 use Rattle.ks_def_tasks.specs.Messages.{Place, shown, Message, Item, Store, Rules, same_row, same_option, Subscription as Asking}
 use Rattle.ks_def_tasks.specs.Messages.Message.{Asked, Answered}
 use Rattle.ks_wire.specs.declared.values.Response.{Response as Answer}
-use Rattle.ks_def_maps.specs.Bytes.{by_bytes}
-use Rattle.ks_def_maps.specs.Table.{write}
-use Rattle.ks_def_maps.proofs.Tables.{get-write}
+use Rattle.ks_def_runs.specs.Bytes.{by_bytes}
+use Rattle.ks_def_runs.specs.Table.{write}
+use Rattle.ks_def_runs.proofs.Tables.{get-write}
 use Rattle.std.specs.Cmp.Lexicographic.{nat_list_cmp_total}
 use Rattle.ks_def_runs.proofs.Runs.{at_channel, same_channel_refl}
 use Rattle.ks_def_tasks.specs.Collision.{past, rows_had, In}

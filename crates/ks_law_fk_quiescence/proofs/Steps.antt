@@ -10,8 +10,8 @@ use Rattle.ks_plan.specs.declared.node.Topic.{Topic}
 use Rattle.ks_plan.specs.declared.node.Topic.TheVariants.{Subscriptions}
 use Rattle.ks_plan.specs.Layout.{same_topic}
 use Rattle.ks_plan.specs.Plan.{Plan}
-use Rattle.ks_def_maps.specs.FinMap as fin
-use Rattle.ks_def_maps.proofs.Tables.{get-write}
+use Rattle.ks_def_runs.specs.FinMap as fin
+use Rattle.ks_def_runs.proofs.Tables.{get-write}
 use Rattle.ks_query.specs.Streams.{Key, StreamItem}
 use Rattle.ks_def_runs.specs.Run.{same_channel, sent_to, take_first}
 use Rattle.ks_def_tasks.specs.Messages.{Place, Stored, shown, Message, Item, Store, Rules, same_row}

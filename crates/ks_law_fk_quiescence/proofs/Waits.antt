@@ -19,7 +19,7 @@ use Rattle.ks_plan.specs.declared.node.Topic.TheVariants.{Subscriptions, Respons
 use Rattle.ks_plan.specs.Plan.{Plan, Kind}
 use Rattle.ks_plan.specs.Plan.Kind.{ForeignKeyJoin}
 use Rattle.ks_plan.specs.Layout.{same_topic, sub_of, parts_of, parts_of_topic, kind_at, no_kind, right_of}
-use Rattle.ks_def_maps.specs.FinMap as fin
+use Rattle.ks_def_runs.specs.FinMap as fin
 use Rattle.ks_query.specs.Streams.{Key, Input, StreamItem}
 use Rattle.ks_def_runs.specs.Run.{Machine, RunState, is_from, same_channel, sent_to, take_first, initial, run}
 use Rattle.ks_def_runs.proofs.Runs.{at_channel, kept_by_run}

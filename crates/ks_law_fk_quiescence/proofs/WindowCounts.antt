@@ -8,7 +8,7 @@ use Rattle.ks_row.specs.Parts.{same_task}
 use Rattle.ks_def_tasks.proofs.Names.{same_task-is}
 use Rattle.ks_plan.specs.Plan.{Plan, Window}
 use Rattle.ks_plan.specs.Plan.Kind.{Windowed}
-use Rattle.ks_def_maps.specs.FinMap as fin
+use Rattle.ks_def_runs.specs.FinMap as fin
 use Rattle.ks_def_runs.proofs.Sums.{sum_map}
 use Rattle.ks_query.specs.Streams.{Input}
 use Rattle.ks_query.specs.Windows.{WindowKey}

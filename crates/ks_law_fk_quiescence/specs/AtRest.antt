@@ -9,7 +9,7 @@ use Rattle.ks_expr.specs.Eval.{Row, same_bytes}
 use Rattle.ks_plan.specs.Drafts.{DraftView, Name}
 use Rattle.ks_plan.specs.Plan.{Kind, plan_of, is_stream, is_windowed}
 use Rattle.ks_plan.specs.Plan.Kind.{ForeignKeyJoin}
-use Rattle.ks_def_maps.specs.FinMap as map
+use Rattle.ks_def_runs.specs.FinMap as map
 use Rattle.ks_query.specs.Streams.{Key, Input}
 use Rattle.ks_def_tasks.specs.Messages.{Place, Rules, same_option}
 use Rattle.ks_def_tasks.specs.Collision.{IsNode, NoCollision}

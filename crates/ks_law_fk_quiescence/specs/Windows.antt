@@ -8,7 +8,7 @@ use Rattle.ks_wire.specs.declared.values.Agg.{Agg}
 use Rattle.ks_plan.specs.Drafts.{DraftView, Name}
 use Rattle.ks_plan.specs.Plan.{Window, natural, plan_of}
 use Rattle.ks_plan.specs.Plan.Kind.{Windowed}
-use Rattle.ks_def_maps.specs.FinMap as map
+use Rattle.ks_def_runs.specs.FinMap as map
 use Rattle.ks_expr.specs.Eval.{Row}
 use Rattle.ks_query.specs.Streams.{Input}
 use Rattle.ks_query.specs.Windows.{WindowKey}

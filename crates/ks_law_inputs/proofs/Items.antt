@@ -23,15 +23,15 @@ use Rattle.ks_row.specs.declared.row.Field.TheVariants.{Int, Text}
 use Rattle.ks_row.specs.declared.record.Rec.{Rec}
 use Rattle.ks_plan.specs.Drafts.{DraftView}
 use Rattle.ks_plan.specs.Plan.{natural}
-use Rattle.ks_record_line.specs.declared.fault.JobKind.{JobKind}
-use Rattle.ks_record_line.specs.declared.fault.JobKind.TheVariants.{TooMany, BadShape, BadNumber, UnknownTopic, NotJson, LineTooLong}
-use Rattle.ks_record_line.specs.declared.record.Input.{Input}
-use Rattle.ks_record_line.specs.declared.members.Form.TheVariants as form
-use Rattle.ks_record_line.specs.Gives.{◌>>=◌, some_or}
-use Rattle.ks_record_line.specs.Members.{same, object_of, member_of, text_of, integer_from}
-use Rattle.ks_record_line.specs.Record.{place_of, number_of, topic_from, key_from, field_from, member_from, with_member, and_member, fields_from, row_from, value_from, time_within, time_from, input_from}
-use Rattle.ks_job_line.specs.Topology.{label_from, app_from, parts_from, topic_from as topic_parts_from, topics_from, topics_of, print_of, topology_from, names_of}
-use Rattle.ks_job_line.specs.Nodes.{nodes_of}
+use Rattle.ks_job_record.specs.declared.fault.JobKind.{JobKind}
+use Rattle.ks_job_record.specs.declared.fault.JobKind.TheVariants.{TooMany, BadShape, BadNumber, UnknownTopic, NotJson, LineTooLong}
+use Rattle.ks_job_record.specs.declared.record.Input.{Input}
+use Rattle.ks_job_record.specs.declared.members.Form.TheVariants as form
+use Rattle.ks_job_record.specs.Gives.{◌>>=◌, some_or}
+use Rattle.ks_job_record.specs.Members.{same, object_of, member_of, text_of, integer_from}
+use Rattle.ks_job_record.specs.Record.{place_of, number_of, topic_from, key_from, field_from, member_from, with_member, and_member, fields_from, row_from, value_from, time_within, time_from, input_from}
+use Rattle.ks_job_topology.specs.Topology.{label_from, app_from, parts_from, topic_from as topic_parts_from, topics_from, topics_of, print_of, topology_from, names_of}
+use Rattle.ks_job_topology.specs.Nodes.{nodes_of}
 use Rattle.ks_job.specs.Items.{ItemView, TopologyAt, RecordTo}
 use Rattle.ks_job.specs.Lines.{Spot, is_blank, parsed, passes, is_too_long, too_long, next_line, topology_line, record_line, value_line, data_line, judged}
 use Rattle.ks_job.specs.Reader.{Reader, Reading, Faulty, Machine, start, with_item, after_line, is_line_end, longer, after_byte, after, closed_by, closed, at_end, end_of, so_far, whole}

@@ -14,8 +14,8 @@ use Rattle.ks_plan.specs.declared.node.Topic.{Topic}
 use Rattle.ks_plan.specs.declared.node.Topic.TheVariants.{Input as InputTopic}
 use Rattle.ks_plan.specs.Plan.{Plan}
 use Rattle.ks_plan.specs.Layout.{topics_of, topic_at, number_of, kind_at, parts_of_topic, reads, up_to, input_topics, by_node, through_topics, changelogs_of}
-use Rattle.ks_def_maps.specs.FinMap as fin
-use Rattle.ks_def_maps.specs.Bytes.{by_bytes, Store as ByteStore, empty_store as no_bytes}
+use Rattle.ks_def_runs.specs.FinMap as fin
+use Rattle.ks_def_runs.specs.Bytes.{by_bytes, Store as ByteStore, empty_store as no_bytes}
 use Rattle.ks_def_tasks.specs.Messages.{Place, Item, Message, Rules, Store}
 use Rattle.ks_def_tasks.specs.Tasks.{step, sent_item, written_item}
 use Rattle.ks_def_tasks.specs.Step.{Arrival, Sent, Written, whole_step, step_key, items_from, olds_at, news_at}

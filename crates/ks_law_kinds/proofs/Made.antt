@@ -28,8 +28,8 @@ use Rattle.ks_plan.specs.Plan.Kind.{StreamSource, TableSource, StreamFilter, Tab
 use Rattle.ks_plan.specs.declared.node.Topic.{Topic}
 use Rattle.ks_plan.specs.declared.node.Topic.TheVariants.{Subscriptions, Changelog, HashChangelog}
 use Rattle.ks_plan.specs.Layout.{kind_at}
-use Rattle.ks_def_maps.specs.FinMap as fin
-use Rattle.ks_def_maps.specs.FinMap.{FinMap}
+use Rattle.ks_def_runs.specs.FinMap as fin
+use Rattle.ks_def_runs.specs.FinMap.{FinMap}
 use Rattle.ks_query.specs.Streams.{Key, StreamItem, group_key}
 use Rattle.ks_query.specs.Windows.{by_window, windows, multiples}
 use Rattle.ks_query.specs.Grace.{is_open}

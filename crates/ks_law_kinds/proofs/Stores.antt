@@ -22,9 +22,9 @@ use Rattle.ks_plan.specs.Plan.Kind.{StreamSource, TableSource, StreamFilter, Tab
 use Rattle.ks_plan.specs.declared.node.Topic.{Topic}
 use Rattle.ks_plan.specs.declared.node.Topic.TheVariants.{Changelog, HashChangelog}
 use Rattle.ks_plan.specs.Layout.{topics_of, topic_at, number_of, kind_at}
-use Rattle.ks_def_maps.specs.FinMap as fin
-use Rattle.ks_def_maps.specs.FinMap.{FinMap}
-use Rattle.ks_def_maps.specs.Bytes.{by_bytes, empty_store as no_bytes}
+use Rattle.ks_def_runs.specs.FinMap as fin
+use Rattle.ks_def_runs.specs.FinMap.{FinMap}
+use Rattle.ks_def_runs.specs.Bytes.{by_bytes, empty_store as no_bytes}
 use Rattle.ks_query.specs.Streams.{Key}
 use Rattle.ks_query.specs.Aggregates.{agg_row, count_name, sum_name}
 use Rattle.ks_def_tasks.specs.Messages.{Stored, shown, Store}

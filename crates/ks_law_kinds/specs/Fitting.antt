@@ -3,8 +3,8 @@ use Rattle.std.specs.Prelude.{◌<◌, ◌^◌, ℕ, Bool, true, false, ◌&&◌
 use Rattle.std.specs.List.{AllByRecursion}
 use Rattle.ks_row.specs.declared.record.PartId.{PartId}
 use Rattle.ks_row.specs.declared.record.TaskId.{TaskId}
-use Rattle.ks_def_maps.specs.FinMap as fin
-use Rattle.ks_def_maps.specs.Bytes.{Store}
+use Rattle.ks_def_runs.specs.FinMap as fin
+use Rattle.ks_def_runs.specs.Bytes.{Store}
 use Rattle.ks_expr.specs.Eval.{Row}
 use Rattle.ks_plan.specs.Drafts.{OpView, MapOf, JoinOf, FkJoinOf, NodeView, DraftView}
 use Rattle.ks_plan.specs.Plan.{Plan, Kind, plan_of}

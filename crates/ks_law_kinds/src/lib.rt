@@ -1,14 +1,10 @@
-//! Every decided record of a topology has a key and a value of its kind. Laws, each the contract of a function with an empty body;
-//! and a look at a topology, which shows that the law is of it.
+//! Every decided record of a topology has a key and a value of its kind. Laws alone: each public function has an empty body, and its
+//! contract is the law.
 #![tactic(auto)]
 
 ghost use Rattle.ks_law_kinds.specs.Fitting.{DecidedAreOfKind, PlansFit};
 ghost use Rattle.ks_law_kinds.specs.Hashes.{HashesFit, MurmurFits};
 ghost use Rattle.ks_law_kinds.specs.OfKind.{KindsAreRead};
-
-mod fitting;
-
-pub use fitting::topology_fits;
 
 /// In every journal of a topology that is legal and faithful, and whose produced records are such as a job may produce, each decided
 /// record has a key and a value of its topic's kind and a time in range, and so has each pair of the stores that the changelogs tell.

@@ -6,14 +6,14 @@ use Rattle.std.proofs.lemmas.Bool.{and_parts}
 use Rattle.std.proofs.lemmas.Str.{utf8_valid_len-IsUtf8}
 use Rattle.serde_json.specs.Data.{Data, null}
 use Rattle.serde_json.specs.Read.{read}
-use Rattle.ks_record_line.specs.declared.fault.JobKind.TheVariants.{TooMany, NotJson, LineTooLong}
-use Rattle.ks_record_line.specs.declared.record.Input.{Input}
-use Rattle.ks_record_line.specs.Gives.{◌>>=◌, some_or}
-use Rattle.ks_record_line.specs.Record.{input_from}
+use Rattle.ks_job_record.specs.declared.fault.JobKind.TheVariants.{TooMany, NotJson, LineTooLong}
+use Rattle.ks_job_record.specs.declared.record.Input.{Input}
+use Rattle.ks_job_record.specs.Gives.{◌>>=◌, some_or}
+use Rattle.ks_job_record.specs.Record.{input_from}
 use Rattle.ks_words.specs.declared.load.LoadRecord.{LoadRecord}
 use Rattle.ks_words.specs.declared.load.LoadRecord.TheVariants.{Order, Deletion, Customer}
 use Rattle.ks_words.specs.Load.{record_line, order_front, order_value, customer_line}
-use Rattle.ks_job_line.specs.Topology.{names_of}
+use Rattle.ks_job_topology.specs.Topology.{names_of}
 use Rattle.ks_job.specs.Items.{ItemView, RecordTo}
 use Rattle.ks_job.specs.Lines.{Spot, parsed, passes, is_too_long, is_blank, next_line, record_line as judged_record, value_line, data_line, judged, too_long}
 use Rattle.ks_job.specs.Reader.{Reading, Faulty, Machine, is_line_end}

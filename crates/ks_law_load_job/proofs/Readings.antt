@@ -7,12 +7,12 @@ use Rattle.ks_row.specs.Texts.{name_of}
 use Rattle.ks_row.specs.Spelling.{spelling}
 use Rattle.ks_row.specs.declared.row.Field.{Field}
 use Rattle.ks_row.specs.declared.row.Field.TheVariants.{Int, Text}
-use Rattle.ks_record_line.specs.declared.fault.JobKind.{JobKind}
-use Rattle.ks_record_line.specs.declared.fault.JobKind.TheVariants.{TooMany, BadShape, BadNumber}
-use Rattle.ks_record_line.specs.declared.record.Input.{Input}
-use Rattle.ks_record_line.specs.Gives.{◌>>=◌, some_or}
-use Rattle.ks_record_line.specs.Members.{is_member, object_of, member_of, text_of, integer_from}
-use Rattle.ks_record_line.specs.Record.{topic_from, key_from, field_from, member_from, with_member, fields_from, row_from, value_from, input_from}
+use Rattle.ks_job_record.specs.declared.fault.JobKind.{JobKind}
+use Rattle.ks_job_record.specs.declared.fault.JobKind.TheVariants.{TooMany, BadShape, BadNumber}
+use Rattle.ks_job_record.specs.declared.record.Input.{Input}
+use Rattle.ks_job_record.specs.Gives.{◌>>=◌, some_or}
+use Rattle.ks_job_record.specs.Members.{is_member, object_of, member_of, text_of, integer_from}
+use Rattle.ks_job_record.specs.Record.{topic_from, key_from, field_from, member_from, with_member, fields_from, row_from, value_from, input_from}
 use Rattle.ks_law_load_job.proofs.Trees.{line_data, order_data, customer_data, orders_name}
 
 -- ---- texts and numbers

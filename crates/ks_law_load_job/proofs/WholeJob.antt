@@ -2,10 +2,10 @@
 use Rattle.std.proofs.Common.{◌≡◌, ℕ, ◌+◌, ◌≤◌, List, [], ◌∷◌, ◌++◌, map, length, Some, Ok, refl, ap, subst, ◌∙◌, sym, arith, append_assoc}
 use Rattle.std.specs.List.{flat_map}
 use Rattle.ks_plan.specs.Drafts.{DraftView}
-use Rattle.ks_record_line.specs.Gives.{◌>>=◌}
+use Rattle.ks_job_record.specs.Gives.{◌>>=◌}
 use Rattle.ks_words.specs.declared.load.LoadRecord.{LoadRecord}
 use Rattle.ks_words.specs.Load.{record_line, topology_text, load_records, load_text}
-use Rattle.ks_job_line.specs.Topology.{names_of}
+use Rattle.ks_job_topology.specs.Topology.{names_of}
 use Rattle.ks_job.specs.Items.{ItemView, TopologyAt}
 use Rattle.ks_job.specs.Lines.{topology_line as judged_topology, judged}
 use Rattle.ks_job.specs.Reader.{Machine, end_of, whole}

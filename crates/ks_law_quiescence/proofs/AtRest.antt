@@ -12,8 +12,8 @@ use Rattle.ks_expr.specs.Terms.{Set, Test}
 use Rattle.ks_expr.specs.Eval.{Row, holds, project, joined}
 use Rattle.ks_plan.specs.Plan.{Plan}
 use Rattle.ks_plan.specs.Plan.Kind.{TableSource, TableFilter, TableMap, KeyJoin}
-use Rattle.ks_def_maps.specs.FinMap as fin
-use Rattle.ks_def_maps.specs.Bytes.{by_bytes}
+use Rattle.ks_def_runs.specs.FinMap as fin
+use Rattle.ks_def_runs.specs.Bytes.{by_bytes}
 use Rattle.ks_query.specs.Streams.{Key, Input}
 use Rattle.ks_query.specs.Query.{query}
 use Rattle.ks_def_runs.specs.Run.{Follows}

@@ -14,9 +14,9 @@ use Rattle.ks_expr.specs.Eval.{Row, same_bytes, same_field, joined, holds, proje
 use Rattle.ks_query.specs.Streams.{Key}
 use Rattle.ks_plan.specs.Plan.{Plan, Kind}
 use Rattle.ks_plan.specs.Plan.Kind.{TableFilter, TableMap, StreamAggregate, TableAggregate, KeyJoin, ForeignKeyJoin}
-use Rattle.ks_def_maps.specs.FinMap as map
+use Rattle.ks_def_runs.specs.FinMap as map
 use Rattle.ks_query.specs.Query.{with_number}
-use Rattle.ks_def_maps.specs.Bytes.{by_bytes}
+use Rattle.ks_def_runs.specs.Bytes.{by_bytes}
 use Rattle.ks_query.specs.Streams.{StreamItem}
 use Rattle.ks_def_runs.specs.Run.{RunState, take_first, initial, run}
 use Rattle.ks_row.specs.declared.record.TaskId.{TaskId}
@@ -25,7 +25,7 @@ use Rattle.ks_def_tasks.specs.Messages.{Place, Stored, Item, Store, Rules, same_
 use Rattle.ks_def_tasks.specs.Step.{Arrival, Values, row_in, changed, kept_row, of_row, value_at, values_from, whole_step, step_key, items_from, tables_after, news_at, olds_at, applied, added, arrived, item_into, responded, direct}
 use Rattle.ks_def_tasks.specs.Tasks.{machine, step}
 use Rattle.ks_law_quiescence.proofs.Following.{EachFollows, values_of, InOrder}
-use Rattle.ks_def_maps.proofs.Tables.{equal, get-write}
+use Rattle.ks_def_runs.proofs.Tables.{equal, get-write}
 use Rattle.ks_def_runs.proofs.Runs.{kept_by_run}
 use Rattle.ks_law_quiescence.proofs.Mixed.{Stands_at}
 use Rattle.ks_plan.specs.declared.node.Topic.TheVariants.{Repartition, Responses}

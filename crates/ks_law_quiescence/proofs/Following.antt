@@ -4,7 +4,7 @@ use Rattle.ks_expr.specs.Eval.{holds, project, joined}
 use Rattle.ks_query.specs.Streams.{Key}
 use Rattle.ks_plan.specs.Plan.{Kind}
 use Rattle.ks_plan.specs.Plan.Kind.{TableFilter, TableMap, KeyJoin}
-use Rattle.ks_def_maps.specs.FinMap as map
+use Rattle.ks_def_runs.specs.FinMap as map
 use Rattle.ks_def_tasks.specs.Messages.{Store}
 use Rattle.ks_def_tasks.specs.Step.{Values, row_in, kept_row, of_row}
 

@@ -10,9 +10,9 @@ use Rattle.ks_expr.specs.Eval.{Row}
 use Rattle.ks_wire.specs.declared.values.Agg.{Agg}
 use Rattle.ks_plan.specs.Plan.{Plan}
 use Rattle.ks_plan.specs.Plan.Kind.{TableAggregate}
-use Rattle.ks_def_maps.specs.FinMap as fin
-use Rattle.ks_def_maps.specs.Bytes.{by_bytes}
-use Rattle.ks_def_maps.proofs.Tables.{equal}
+use Rattle.ks_def_runs.specs.FinMap as fin
+use Rattle.ks_def_runs.specs.Bytes.{by_bytes}
+use Rattle.ks_def_runs.proofs.Tables.{equal}
 use Rattle.ks_query.specs.Streams.{Key, Input}
 use Rattle.ks_query.specs.Query.{query, grouped_rows, add_to}
 use Rattle.ks_query.specs.Aggregates.{agg_row, with_members, is_zero}

@@ -14,10 +14,10 @@ use Rattle.ks_plan.specs.declared.node.Topic.TheVariants.{Input as InputTopic}
 use Rattle.ks_plan.specs.Plan.{Plan, Kind}
 use Rattle.ks_plan.specs.Plan.Kind.{TableSource}
 use Rattle.ks_plan.specs.Layout.{sub_of, is_read, at}
-use Rattle.ks_def_maps.specs.FinMap as fin
-use Rattle.ks_def_maps.specs.Table.{Change, latest}
-use Rattle.ks_def_maps.specs.Bytes.{by_bytes}
-use Rattle.ks_def_maps.proofs.Tables.{equal, get-latest}
+use Rattle.ks_def_runs.specs.FinMap as fin
+use Rattle.ks_def_runs.specs.Table.{Change, latest}
+use Rattle.ks_def_runs.specs.Bytes.{by_bytes}
+use Rattle.ks_def_runs.proofs.Tables.{equal, get-latest}
 use Rattle.ks_query.specs.Streams.{Key, Input, with_some}
 use Rattle.ks_query.specs.Query.{of_topic, table_changes, query}
 use Rattle.ks_def_runs.specs.Run.{Outcome, Taken, RunState, sent_to, received, local, run, Follows, same_channel}

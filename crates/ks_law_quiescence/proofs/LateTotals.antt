@@ -10,8 +10,8 @@ use Rattle.ks_expr.specs.Eval.{Row}
 use Rattle.ks_plan.specs.Plan.{Plan, Kind, Window, is_windowed}
 use Rattle.ks_plan.specs.Plan.Kind.{StreamSource, TableSource, StreamFilter, TableFilter, StreamMap, TableMap, KeySelected, StreamAggregate, TableAggregate, Windowed, KeyJoin, ForeignKeyJoin}
 use Rattle.ks_plan.specs.Layout.{kind_at}
-use Rattle.ks_def_maps.specs.FinMap as fin
-use Rattle.ks_def_maps.proofs.Tables.{equal, find_below, head_of, tail_of}
+use Rattle.ks_def_runs.specs.FinMap as fin
+use Rattle.ks_def_runs.proofs.Tables.{equal, find_below, head_of, tail_of}
 use Rattle.ks_query.specs.Streams.{Key, Input, StreamItem}
 use Rattle.ks_query.specs.Windows.{WindowKey, by_window, windows}
 use Rattle.ks_query.specs.Grace.{is_open}

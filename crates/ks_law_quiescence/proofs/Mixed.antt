@@ -11,7 +11,7 @@ use Rattle.ks_wire.specs.declared.values.Delta.{Delta}
 use Rattle.ks_wire.specs.declared.values.Response.{Response}
 use Rattle.ks_query.specs.Aggregates.{table_parts}
 use Rattle.ks_query.specs.Streams.{StreamItem, group_key}
-use Rattle.ks_def_maps.specs.FinMap as fin
+use Rattle.ks_def_runs.specs.FinMap as fin
 use Rattle.ks_def_runs.specs.Run.{sent_to}
 use Rattle.ks_row.specs.declared.record.TaskId.{TaskId}
 use Rattle.ks_def_tasks.specs.Messages.{Place, same_place, Subscription, Message, Item, Store, Rules}

@@ -6,7 +6,7 @@ use Rattle.std.specs.Cmp.Lexicographic.{nat_list_cmp_total}
 use Rattle.std.specs.FinMap.{slice_cmp-IsAntisymmetric, nat_cmp-IsAntisymmetric}
 use Rattle.ks_expr.specs.Eval.{same_bytes}
 use Rattle.ks_query.specs.Streams.{Key}
-use Rattle.ks_def_maps.proofs.Tables.{equal}
+use Rattle.ks_def_runs.proofs.Tables.{equal}
 use Rattle.std.proofs.lemmas.Bool.{cases_eq, or_left, or_right}
 use Rattle.std.proofs.lemmas.Bool.Decides.{Decides-eqb}
 use Rattle.std.proofs.lemmas.List.Sums.{fold-append}

@@ -20,9 +20,9 @@ use Rattle.ks_plan.specs.declared.node.Topic.TheVariants.{Input as InputTopic, R
 use Rattle.ks_plan.specs.Plan.{Plan, Kind}
 use Rattle.ks_plan.specs.Plan.Kind.{StreamSource, TableSource, StreamFilter, TableFilter, StreamMap, TableMap, KeySelected, StreamAggregate, TableAggregate, Windowed, KeyJoin, ForeignKeyJoin}
 use Rattle.ks_plan.specs.Layout.{same_topic, parts_of_topic, parts_of, sub_of, sub_count, is_read, source_of}
-use Rattle.ks_def_maps.specs.FinMap as fin
-use Rattle.ks_def_maps.specs.Bytes.{by_bytes}
-use Rattle.ks_def_maps.proofs.Tables.{equal, get-write}
+use Rattle.ks_def_runs.specs.FinMap as fin
+use Rattle.ks_def_runs.specs.Bytes.{by_bytes}
+use Rattle.ks_def_runs.proofs.Tables.{equal, get-write}
 use Rattle.ks_query.specs.Streams.{Key, Input, StreamItem, filter_item, map_item, rekey_item}
 use Rattle.ks_query.specs.Query.{with_number}
 use Rattle.ks_query.specs.Aggregates.{table_parts}

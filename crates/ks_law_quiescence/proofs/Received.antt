@@ -14,11 +14,11 @@ use Rattle.ks_plan.specs.declared.node.Topic.TheVariants.{Repartition}
 use Rattle.ks_plan.specs.Plan.{Plan}
 use Rattle.ks_plan.specs.Plan.Kind.{TableAggregate}
 use Rattle.ks_plan.specs.Layout.{same_topic, sub_of}
-use Rattle.ks_def_maps.specs.FinMap as fin
-use Rattle.ks_def_maps.specs.FinMap.{FinMap}
-use Rattle.ks_def_maps.specs.Table.{total, sum_of}
-use Rattle.ks_def_maps.specs.Bytes.{by_bytes}
-use Rattle.ks_def_maps.proofs.Tables.{equal, get-write}
+use Rattle.ks_def_runs.specs.FinMap as fin
+use Rattle.ks_def_runs.specs.FinMap.{FinMap}
+use Rattle.ks_def_runs.specs.Table.{total, sum_of}
+use Rattle.ks_def_runs.specs.Bytes.{by_bytes}
+use Rattle.ks_def_runs.proofs.Tables.{equal, get-write}
 use Rattle.ks_query.specs.Streams.{Key, Input, StreamItem}
 use Rattle.ks_query.specs.Aggregates.{nothing_yet, or_nothing, with_members, is_zero, moved, table_apply}
 use Rattle.ks_def_runs.specs.Run.{Taken, RunState, Follows, received, take_first, initial, run}

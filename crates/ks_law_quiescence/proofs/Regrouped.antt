@@ -14,9 +14,9 @@ use Rattle.ks_plan.specs.Plan.Kind.{TableAggregate}
 use Rattle.ks_plan.specs.declared.node.Topic.{Topic}
 use Rattle.ks_plan.specs.Layout.{same_topic, parts_of_topic}
 use Rattle.ks_plan.specs.declared.node.Topic.TheVariants.{Repartition}
-use Rattle.ks_def_maps.specs.FinMap as fin
-use Rattle.ks_def_maps.specs.FinMap.{FinMap}
-use Rattle.ks_def_maps.specs.Bytes.{by_bytes}
+use Rattle.ks_def_runs.specs.FinMap as fin
+use Rattle.ks_def_runs.specs.FinMap.{FinMap}
+use Rattle.ks_def_runs.specs.Bytes.{by_bytes}
 use Rattle.ks_query.specs.Streams.{StreamItem}
 use Rattle.ks_row.specs.Rows.{field_of}
 use Rattle.ks_query.specs.Aggregates.{as_i64, int_of, amount_in, with_amount, deltas_of, same_share, share_under}
@@ -28,7 +28,7 @@ use Rattle.ks_def_tasks.specs.Messages.{Place, Stored, shown, Message, Item, Sto
 use Rattle.ks_def_tasks.specs.Messages.Message.{Moved}
 use Rattle.ks_def_tasks.specs.Step.{Arrival, Values, row_in, step_key, sends_at, send_deltas, whole_step, olds_at, news_at, items_from, tables_after}
 use Rattle.ks_def_tasks.specs.Tasks.{machine, step, empty_store}
-use Rattle.ks_def_maps.proofs.Tables.{equal, total-empty}
+use Rattle.ks_def_runs.proofs.Tables.{equal, total-empty}
 use Rattle.ks_def_runs.proofs.Sums.{Begins, steps, kept_from_start}
 use Rattle.ks_def_runs.proofs.Runs.{after, sent_to-append}
 use Rattle.ks_law_quiescence.proofs.Mixed.{messages-append, picked, picked_none, own_topic, avoids_sends, apart, made_is, Stands_at}

@@ -4,11 +4,11 @@ use Rattle.std.proofs.lemmas.Bool.Decides.{Decides-eqb}
 use Rattle.std.specs.declared.cmp.Ordering.{Ordering}
 use Rattle.std.specs.Ordering.{eq_by_cmp}
 use Rattle.std.specs.Cmp.{IsTotalOrder}
-use Rattle.ks_def_maps.specs.FinMap as map
-use Rattle.ks_def_maps.specs.FinMap.{FinMap}
+use Rattle.ks_def_runs.specs.FinMap as map
+use Rattle.ks_def_runs.specs.FinMap.{FinMap}
 use Rattle.std.specs.FinMap.{IsAntisymmetric}
-use Rattle.ks_def_maps.specs.Table.{write, total, share_of}
-use Rattle.ks_def_maps.proofs.Tables.{total-write, equal}
+use Rattle.ks_def_runs.specs.Table.{write, total, share_of}
+use Rattle.ks_def_runs.proofs.Tables.{total-write, equal}
 use Rattle.ks_def_runs.proofs.Sums.{sum_map, sum_map-append, Begins, begins_few}
 
 wrapped_step : (a b m n so sn : ℕ) → a % 2 ^ 64 ≡ m % 2 ^ 64 → n + so ≡ m + sn → (b + so) % 2 ^ 64 ≡ sn % 2 ^ 64 → (a + b) % 2 ^ 64 ≡ n % 2 ^ 64

@@ -6,10 +6,10 @@ use Rattle.std.proofs.lemmas.Int.{to_z_pos}
 use Rattle.ks_row.specs.declared.record.TaskId.{TaskId}
 use Rattle.ks_plan.specs.Plan.{Plan}
 use Rattle.ks_plan.specs.Plan.Kind.{TableAggregate}
-use Rattle.ks_def_maps.specs.FinMap as fin
-use Rattle.ks_def_maps.specs.FinMap.{FinMap}
-use Rattle.ks_def_maps.specs.Table.{sum_of, total}
-use Rattle.ks_def_maps.specs.Bytes.{by_bytes}
+use Rattle.ks_def_runs.specs.FinMap as fin
+use Rattle.ks_def_runs.specs.FinMap.{FinMap}
+use Rattle.ks_def_runs.specs.Table.{sum_of, total}
+use Rattle.ks_def_runs.specs.Bytes.{by_bytes}
 use Rattle.ks_query.specs.Streams.{Key, Input}
 use Rattle.ks_def_runs.specs.Run.{Machine, Taken, RunState, Follows, received, sent, local}
 use Rattle.ks_def_runs.proofs.Sums.{sum_map, steps}

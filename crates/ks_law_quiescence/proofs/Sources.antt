@@ -13,10 +13,10 @@ use Rattle.ks_plan.specs.declared.node.Topic.TheVariants.{Input as InputTopic}
 use Rattle.ks_plan.specs.Plan.{Plan}
 use Rattle.ks_plan.specs.Plan.Kind.{TableSource}
 use Rattle.ks_plan.specs.Layout.{same_topic, sub_of, sub_count, source_of}
-use Rattle.ks_def_maps.specs.FinMap as fin
-use Rattle.ks_def_maps.specs.Table.{Change, write, latest}
-use Rattle.ks_def_maps.specs.Bytes.{by_bytes}
-use Rattle.ks_def_maps.proofs.Tables.{get-write, write_same}
+use Rattle.ks_def_runs.specs.FinMap as fin
+use Rattle.ks_def_runs.specs.Table.{Change, write, latest}
+use Rattle.ks_def_runs.specs.Bytes.{by_bytes}
+use Rattle.ks_def_runs.proofs.Tables.{get-write, write_same}
 use Rattle.ks_query.specs.Streams.{Key, StreamItem, some_of, with_some}
 use Rattle.ks_def_runs.specs.Run.{Taken, RunState, take_first, initial, run}
 use Rattle.ks_def_runs.proofs.Runs.{kept_by_run}

@@ -20,7 +20,7 @@ use Rattle.ks_plan.specs.Plan.{Plan, Kind, Known, is_stream, known_of, learn, kn
 use Rattle.ks_plan.specs.Plan.Kind.{StreamFilter, TableFilter, StreamMap, TableMap}
 use Rattle.ks_plan.specs.Layout.{is_source_of, any_source_of}
 use Rattle.ks_plan.specs.Faults.{Line, first_fitting, first_of, has_name, names_of, topic_names, unknown_lines, taken_lines, inputs_in, topics_in, sources_of, parts_in, node_table, nodes_fault, side_lines, size_lines, print_fault, wrong_kind, wiring_in, window_lines, is_window, is_time, is_advance, int_or}
-use Rattle.ks_def_maps.proofs.Tables.{equal}
+use Rattle.ks_def_runs.proofs.Tables.{equal}
 use Rattle.ks_law_quiescence.specs.WellFormed.{IsWellFormed}
 use Rattle.ks_law_quiescence.proofs.Fits.{Fits, NodeShape, EachShape, fits_of_shape, own_next, own_keys, GroupsByKey, own_same, own_count}
 

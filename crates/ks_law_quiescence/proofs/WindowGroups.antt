@@ -14,10 +14,10 @@ use Rattle.ks_plan.specs.declared.node.Topic.TheVariants.{Repartition}
 use Rattle.ks_plan.specs.Plan.{Plan, Kind, Window}
 use Rattle.ks_plan.specs.Plan.Kind.{StreamSource, Windowed}
 use Rattle.ks_plan.specs.Layout.{same_topic, kind_at, parts_of_topic}
-use Rattle.ks_def_maps.specs.FinMap as fin
-use Rattle.ks_def_maps.specs.FinMap.{FinMap}
-use Rattle.ks_def_maps.specs.Bytes.{by_bytes}
-use Rattle.ks_def_maps.proofs.Tables.{equal}
+use Rattle.ks_def_runs.specs.FinMap as fin
+use Rattle.ks_def_runs.specs.FinMap.{FinMap}
+use Rattle.ks_def_runs.specs.Bytes.{by_bytes}
+use Rattle.ks_def_runs.proofs.Tables.{equal}
 use Rattle.ks_query.specs.Streams.{Key, Input, StreamItem, group_key, grouped, with_some}
 use Rattle.ks_query.specs.Windows.{WindowKey, by_window, windows}
 use Rattle.ks_query.specs.Grace.{is_open}

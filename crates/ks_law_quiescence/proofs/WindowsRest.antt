@@ -13,8 +13,8 @@ use Rattle.ks_plan.specs.declared.node.Topic.TheVariants.{Input as InputTopic, R
 use Rattle.ks_plan.specs.Plan.{Plan, Kind, Window}
 use Rattle.ks_plan.specs.Plan.Kind.{StreamSource, TableSource, StreamFilter, TableFilter, StreamMap, TableMap, KeySelected, StreamAggregate, TableAggregate, Windowed, KeyJoin, ForeignKeyJoin}
 use Rattle.ks_plan.specs.Layout.{same_topic, parts_of, parts_of_topic}
-use Rattle.ks_def_maps.specs.FinMap as fin
-use Rattle.ks_def_maps.proofs.Tables.{equal}
+use Rattle.ks_def_runs.specs.FinMap as fin
+use Rattle.ks_def_runs.proofs.Tables.{equal}
 use Rattle.ks_query.specs.Streams.{Key, Input, StreamItem, filter_item, map_item, rekey_item, group_key, grouped}
 use Rattle.ks_query.specs.Windows.{WindowKey, by_window, windows}
 use Rattle.ks_query.specs.Query.{with_number, add_to, in_windows, query}

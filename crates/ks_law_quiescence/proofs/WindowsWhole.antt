@@ -11,9 +11,9 @@ use Rattle.ks_wire.specs.declared.values.Agg.{Agg}
 use Rattle.ks_plan.specs.Plan.{Plan, Window}
 use Rattle.ks_plan.specs.Plan.Kind.{Windowed}
 use Rattle.ks_plan.specs.Layout.{kind_at}
-use Rattle.ks_def_maps.specs.FinMap as fin
-use Rattle.ks_def_maps.specs.FinMap.{FinMap}
-use Rattle.ks_def_maps.proofs.Tables.{equal}
+use Rattle.ks_def_runs.specs.FinMap as fin
+use Rattle.ks_def_runs.specs.FinMap.{FinMap}
+use Rattle.ks_def_runs.proofs.Tables.{equal}
 use Rattle.ks_query.specs.Streams.{Key, Input, StreamItem, group_key, with_some}
 use Rattle.ks_query.specs.Windows.{WindowKey, by_window, windows}
 use Rattle.ks_query.specs.Grace.{is_open}

@@ -5,7 +5,7 @@ use Rattle.ks_row.specs.Parts.{same_task}
 use Rattle.ks_plan.specs.Drafts.{DraftView}
 use Rattle.ks_plan.specs.Plan.{Plan, Kind, plan_of}
 use Rattle.ks_plan.specs.Plan.Kind.{TableSource, TableFilter, TableMap, KeyJoin, TableAggregate, StreamAggregate}
-use Rattle.ks_def_maps.specs.FinMap as map
+use Rattle.ks_def_runs.specs.FinMap as map
 use Rattle.ks_query.specs.Streams.{Key, Input}
 use Rattle.ks_query.specs.Query.{query}
 use Rattle.ks_def_tasks.specs.Messages.{Place, Rules}

@@ -5,8 +5,8 @@ use Rattle.std.specs.Int.{IsNonNegative}
 use Rattle.ks_row.specs.declared.record.TaskId.{TaskId}
 use Rattle.ks_expr.specs.Eval.{Row, same_bytes}
 use Rattle.ks_wire.specs.declared.values.Agg.{Agg}
-use Rattle.ks_def_maps.specs.FinMap as map
-use Rattle.ks_def_maps.specs.Bytes.{by_bytes}
+use Rattle.ks_def_runs.specs.FinMap as map
+use Rattle.ks_def_runs.specs.Bytes.{by_bytes}
 use Rattle.ks_plan.specs.Drafts.{DraftView, Name}
 use Rattle.ks_plan.specs.Plan.{Plan, plan_of}
 use Rattle.ks_plan.specs.Plan.Kind.{TableAggregate}

@@ -4,7 +4,7 @@ use Rattle.ks_row.specs.declared.record.TaskId.{TaskId}
 use Rattle.ks_expr.specs.Eval.{Row}
 use Rattle.ks_plan.specs.Plan.{Plan}
 use Rattle.ks_plan.specs.Layout.{sub_of}
-use Rattle.ks_def_maps.specs.FinMap as map
+use Rattle.ks_def_runs.specs.FinMap as map
 use Rattle.ks_def_runs.specs.Run.{RunState, run}
 use Rattle.ks_query.specs.Streams.{Key, Input}
 use Rattle.ks_def_tasks.specs.Messages.{Place, shown, Item, Store, Rules}

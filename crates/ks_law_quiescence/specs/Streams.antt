@@ -9,8 +9,8 @@ use Rattle.ks_wire.specs.declared.values.Agg.{Agg}
 use Rattle.ks_plan.specs.Drafts.{DraftView, Name}
 use Rattle.ks_plan.specs.Plan.{Plan, plan_of}
 use Rattle.ks_plan.specs.Plan.Kind.{StreamAggregate}
-use Rattle.ks_def_maps.specs.FinMap as map
-use Rattle.ks_def_maps.specs.Bytes.{by_bytes}
+use Rattle.ks_def_runs.specs.FinMap as map
+use Rattle.ks_def_runs.specs.Bytes.{by_bytes}
 use Rattle.ks_def_runs.specs.Run.{Taken}
 use Rattle.ks_query.specs.Streams.{Key, Input, StreamItem, some_of, grouped}
 use Rattle.ks_query.specs.Query.{add_to, item_rows}

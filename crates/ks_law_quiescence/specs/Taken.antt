@@ -2,7 +2,7 @@
 use Rattle.std.specs.Prelude.{List, [], ◌∷◌, map, Option, Some, None, cond}
 use Rattle.ks_row.specs.declared.record.TaskId.{TaskId}
 use Rattle.ks_expr.specs.Eval.{Row}
-use Rattle.ks_def_maps.specs.Table.{Change}
+use Rattle.ks_def_runs.specs.Table.{Change}
 use Rattle.ks_def_runs.specs.Run.{Taken}
 use Rattle.ks_query.specs.Streams.{Key, some_of}
 use Rattle.ks_def_tasks.specs.Messages.{Place, same_place, Message, Item}

@@ -18,7 +18,7 @@ use Rattle.ks_row.specs.Parts.{same_task}
 use Rattle.ks_plan.specs.Drafts.{DraftView, Name}
 use Rattle.ks_plan.specs.Plan.{Plan, Kind, Window, plan_of, is_windowed}
 use Rattle.ks_plan.specs.Plan.Kind.{Windowed}
-use Rattle.ks_def_maps.specs.FinMap as map
+use Rattle.ks_def_runs.specs.FinMap as map
 use Rattle.ks_query.specs.Streams.{Key, Input, StreamItem, group_key}
 use Rattle.ks_query.specs.Windows.{WindowKey, by_window, windows}
 use Rattle.ks_query.specs.Aggregates.{agg_row}

@@ -1,6 +1,6 @@
 -- A task follows every longer journal that commits nothing for it; a replica follows every longer journal.
 use Rattle.std.proofs.Common.{◌≡◌, ℕ, ◌+◌, ◌≤◌, Bool, true, false, cond, inl, inr, List, [], ◌∷◌, ◌++◌, length, Some, refl, sym, ap, ap₂, subst, ◌∙◌, arith, append-nil, ⊎_elim}
-use Rattle.ks_def_maps.specs.Bytes.{empty_store}
+use Rattle.ks_def_runs.specs.Bytes.{empty_store}
 use Rattle.ks_row.specs.declared.record.Rec.{Rec}
 use Rattle.ks_row.specs.declared.record.PartId.{PartId}
 use Rattle.ks_row.specs.declared.record.TaskId.{TaskId}

@@ -2,7 +2,7 @@
 -- hands to a transaction (KIP-447: the offsets are committed with what was made of them).
 use Rattle.std.specs.Prelude.{◌≡◌, ◌≢◌, ℕ, ◌+◌, ◌==◌, ◌≤◌, ◌&&◌, Bool, true, false, not, if◌then◌else◌, List, [], ◌∷◌, ◌++◌, length, map}
 use Rattle.std.specs.List.Sorted.{IsPermutation}
-use Rattle.ks_def_maps.specs.Bytes.{empty_store}
+use Rattle.ks_def_runs.specs.Bytes.{empty_store}
 use Rattle.ks_row.specs.declared.record.Rec.{Rec}
 use Rattle.ks_row.specs.declared.record.PartId.{PartId}
 use Rattle.ks_row.specs.declared.record.TaskId.{TaskId}

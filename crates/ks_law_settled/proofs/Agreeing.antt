@@ -2,7 +2,7 @@
 use Rattle.std.specs.Prelude.{◌≡◌, ℕ, true, false, Some}
 use Rattle.ks_row.specs.declared.record.TaskId.{TaskId}
 use Rattle.ks_plan.specs.Plan.{Plan}
-use Rattle.ks_def_maps.specs.Bytes.{empty_store as no_bytes}
+use Rattle.ks_def_runs.specs.Bytes.{empty_store as no_bytes}
 use Rattle.ks_def_tasks.specs.Messages.{Place, Item, Rules}
 use Rattle.ks_def_tasks.specs.Tasks.{step, taker, is_changelog, empty_store}
 use Rattle.ks_def_tasks.specs.Bytes.{ByteStores, byte_step, rec_of, part_id, message_in, store_from, is_own_number}

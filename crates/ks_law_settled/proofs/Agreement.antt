@@ -20,10 +20,10 @@ use Rattle.ks_plan.specs.Plan.{Plan, Kind, Window, is_windowed, is_stream}
 use Rattle.ks_plan.specs.Plan.Kind.{StreamSource, TableSource, StreamFilter, TableFilter, StreamMap, TableMap, KeySelected, StreamAggregate, TableAggregate, Windowed, KeyJoin, ForeignKeyJoin}
 use Rattle.ks_plan.specs.Layout.{same_topic, sub_of, sub_count, kind_at, no_kind, number_of, topic_at, reads, changelogs_of}
 use Rattle.ks_plan.specs.Infos.{changelog_numbers}
-use Rattle.ks_def_maps.specs.FinMap as fin
-use Rattle.ks_def_maps.specs.FinMap.{FinMap}
-use Rattle.ks_def_maps.specs.Bytes.{by_bytes, empty_store as no_bytes}
-use Rattle.ks_def_maps.proofs.Tables.{write_same}
+use Rattle.ks_def_runs.specs.FinMap as fin
+use Rattle.ks_def_runs.specs.FinMap.{FinMap}
+use Rattle.ks_def_runs.specs.Bytes.{by_bytes, empty_store as no_bytes}
+use Rattle.ks_def_runs.proofs.Tables.{write_same}
 use Rattle.ks_query.specs.Streams.{Key, StreamItem}
 use Rattle.ks_query.specs.Query.{with_number}
 use Rattle.ks_query.specs.Windows.{by_window, windows}

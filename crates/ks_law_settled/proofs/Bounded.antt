@@ -15,8 +15,8 @@ use Rattle.ks_plan.specs.Faults.{Line, first_fitting, first_of, any_past, node_t
 use Rattle.ks_law_quiescence.specs.WellFormed.{IsWellFormed}
 use Rattle.ks_law_settled.proofs.Printed.{none_of, not_first, of_not, map-append, map_length}
 use Rattle.ks_law_settled.proofs.Parts.{group_none}
-use Rattle.ks_def_maps.specs.FinMap as fin
-use Rattle.ks_def_maps.specs.FinMap.{FinMap}
+use Rattle.ks_def_runs.specs.FinMap as fin
+use Rattle.ks_def_runs.specs.FinMap.{FinMap}
 use Rattle.ks_wire.specs.declared.values.Agg.{Agg}
 use Rattle.ks_def_runs.specs.Run.{Machine, take_first, initial}
 use Rattle.ks_def_runs.proofs.Runs.{kept_by_run}

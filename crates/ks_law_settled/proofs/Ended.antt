@@ -8,7 +8,7 @@ use Rattle.ks_expr.specs.Terms.{Set}
 use Rattle.ks_plan.specs.Drafts.{DraftView, Name}
 use Rattle.ks_plan.specs.Plan.{Plan, plan_of}
 use Rattle.ks_plan.specs.Plan.Kind.{ForeignKeyJoin}
-use Rattle.ks_def_maps.specs.FinMap as fin
+use Rattle.ks_def_runs.specs.FinMap as fin
 use Rattle.ks_query.specs.Streams.{Key, Input}
 use Rattle.ks_query.specs.Query.{query}
 use Rattle.ks_history.specs.declared.journal.Entry.{Entry}

@@ -24,3 +24,6 @@ pub mod Nodes
 pub mod Sending
 pub mod Inside
 pub mod Readers
+pub mod Members
+pub mod Counting
+pub mod Times

@@ -9,9 +9,9 @@ use Rattle.ks_row.specs.Texts.{key_from}
 use Rattle.ks_expr.specs.Eval.{Row}
 use Rattle.ks_plan.specs.Plan.{Plan, Kind}
 use Rattle.ks_plan.specs.Layout.{up_to, kind_at}
-use Rattle.ks_def_maps.specs.FinMap as fin
-use Rattle.ks_def_maps.specs.FinMap.{FinMap}
-use Rattle.ks_def_maps.specs.Bytes.{by_bytes}
+use Rattle.ks_def_runs.specs.FinMap as fin
+use Rattle.ks_def_runs.specs.FinMap.{FinMap}
+use Rattle.ks_def_runs.specs.Bytes.{by_bytes}
 use Rattle.ks_query.specs.Streams.{Key}
 use Rattle.ks_history.specs.State.{State}
 use Rattle.ks_def_tasks.specs.Messages.{Stored, shown}

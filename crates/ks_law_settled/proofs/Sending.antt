@@ -15,7 +15,7 @@ use Rattle.ks_plan.specs.declared.node.Topic.TheVariants.{Repartition, Subscript
 use Rattle.ks_plan.specs.Plan.{Plan, Kind, is_stream}
 use Rattle.ks_plan.specs.Plan.Kind.{StreamSource, TableSource, StreamFilter, TableFilter, StreamMap, TableMap, KeySelected, StreamAggregate, TableAggregate, Windowed, KeyJoin, ForeignKeyJoin}
 use Rattle.ks_plan.specs.Layout.{same_topic, parts_of, parts_of_topic, through_topics, changelogs_of, by_node, input_topics, topics_of, kind_at, no_kind, right_of}
-use Rattle.ks_def_maps.specs.FinMap as fin
+use Rattle.ks_def_runs.specs.FinMap as fin
 use Rattle.ks_query.specs.Streams.{Key, StreamItem, group_key}
 use Rattle.ks_query.specs.Query.{with_number}
 use Rattle.ks_query.specs.Aggregates.{table_parts, share_under, same_share, deltas_of}

@@ -17,10 +17,10 @@ use Rattle.ks_plan.specs.declared.node.Topic.TheVariants.{Input, Repartition, Su
 use Rattle.ks_plan.specs.Plan.{Plan, Kind, Window, is_windowed, is_stream}
 use Rattle.ks_plan.specs.Plan.Kind.{StreamSource, TableSource, StreamFilter, TableFilter, StreamMap, TableMap, KeySelected, StreamAggregate, TableAggregate, Windowed, KeyJoin, ForeignKeyJoin}
 use Rattle.ks_plan.specs.Layout.{same_topic, parts_of, parts_of_topic, sub_of, kind_at, reads, tasks, is_drained, through_topics, right_of}
-use Rattle.ks_def_maps.specs.FinMap as fin
-use Rattle.ks_def_maps.specs.FinMap.{FinMap}
-use Rattle.ks_def_maps.specs.Bytes.{by_bytes}
-use Rattle.ks_def_maps.proofs.Tables.{get-write}
+use Rattle.ks_def_runs.specs.FinMap as fin
+use Rattle.ks_def_runs.specs.FinMap.{FinMap}
+use Rattle.ks_def_runs.specs.Bytes.{by_bytes}
+use Rattle.ks_def_runs.proofs.Tables.{get-write}
 use Rattle.ks_query.specs.Streams.{Key, StreamItem, group_key}
 use Rattle.ks_query.specs.Query.{with_number}
 use Rattle.ks_query.specs.Windows.{windows}

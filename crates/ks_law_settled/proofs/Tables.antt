@@ -17,9 +17,9 @@ use Rattle.ks_plan.specs.Plan.{Plan, Kind, Window, plan_of, known_nodes, node_nu
 use Rattle.ks_plan.specs.Plan.Kind.{StreamSource, TableSource, StreamFilter, TableFilter, StreamMap, TableMap, KeySelected, StreamAggregate, TableAggregate, Windowed, KeyJoin, ForeignKeyJoin}
 use Rattle.ks_plan.specs.declared.node.Topic.TheVariants.{Changelog}
 use Rattle.ks_plan.specs.Layout.{parts_of, kind_at, number_of, sub_of, reads}
-use Rattle.ks_def_maps.specs.FinMap as fin
-use Rattle.ks_def_maps.specs.FinMap.{FinMap}
-use Rattle.ks_def_maps.specs.Bytes.{by_bytes, Store, empty_store}
+use Rattle.ks_def_runs.specs.FinMap as fin
+use Rattle.ks_def_runs.specs.FinMap.{FinMap}
+use Rattle.ks_def_runs.specs.Bytes.{by_bytes, Store, empty_store}
 use Rattle.ks_wire.specs.declared.values.Agg.{Agg}
 use Rattle.ks_wire.specs.Reading.{agg_from, window_key_from}
 use Rattle.ks_def_runs.specs.Run.{initial}
@@ -59,7 +59,7 @@ use Rattle.ks_law_fk_quiescence.proofs.TablesRest.{tables_rest}
 use Rattle.ks_law_fk_quiescence.proofs.WindowCounts.{windows_count_less}
 use Rattle.ks_law_topology.specs.Work.{setup_of}
 use Rattle.ks_law_topology.proofs.Networks.{works_are_networks}
-use Rattle.ks_law_in_time.proofs.Times.{nothing_is_late}
+use Rattle.ks_law_settled.proofs.Times.{nothing_is_late}
 use Rattle.ks_law_settled.specs.Folded.{log_part, fold_pairs, node_rows}
 use Rattle.ks_law_settled.proofs.Lists.{EachNode, at_node}
 use Rattle.ks_def_tasks.proofs.Names.{same_task-is}

@@ -140,16 +140,16 @@ module _ (p : Plan) where
       ap (λ l. place_of l (Input t)) (append_assoc (input_topics p) (by_node through_topics 0 p.kinds) (by_node changelogs_of 0 p.kinds))
       ∙ place_input (length p.counts) (by_node through_topics 0 p.kinds ++ by_node changelogs_of 0 p.kinds) t lt
 
-  kept_topics : AllOf (λ t. is_drained p t ≡ true → IsTopic t) (input_topics p ++ by_node through_topics 0 p.kinds)
-  kept_topics = all_kept IsTopic (is_drained p) (input_topics p ++ by_node through_topics 0 p.kinds) drawn_topics
+  changelog_topics : AllOf (λ t. is_drained p t ≡ true → IsTopic t) (input_topics p ++ by_node through_topics 0 p.kinds)
+  changelog_topics = all_kept IsTopic (is_drained p) (input_topics p ++ by_node through_topics 0 p.kinds) drawn_topics
 
   pub input_topic : (t : ℕ) → t < length p.counts → is_read p t ≡ true → IsTopic (Input t)
   input_topic t lt read =
-      let all : AllOf (λ t. is_drained p t ≡ true → IsTopic t) (map Input (up_to (length p.counts))) = all_left (λ t. is_drained p t ≡ true → IsTopic t) (input_topics p) (by_node through_topics 0 p.kinds) kept_topics in
+      let all : AllOf (λ t. is_drained p t ≡ true → IsTopic t) (map Input (up_to (length p.counts))) = all_left (λ t. is_drained p t ≡ true → IsTopic t) (input_topics p) (by_node through_topics 0 p.kinds) changelog_topics in
       all_up_to (λ t. is_read p t ≡ true → IsTopic (Input t)) (length p.counts) (all_unmapped (λ t. is_drained p t ≡ true → IsTopic t) Input (up_to (length p.counts)) all) t lt read
 
   pub through_topic : EachNode (λ n k. AllOf (λ t. is_drained p t ≡ true → IsTopic t) (through_topics n k)) 0 p.kinds
-  through_topic = of_nodes (λ t. is_drained p t ≡ true → IsTopic t) through_topics 0 p.kinds (all_right (λ t. is_drained p t ≡ true → IsTopic t) (input_topics p) (by_node through_topics 0 p.kinds) kept_topics)
+  through_topic = of_nodes (λ t. is_drained p t ≡ true → IsTopic t) through_topics 0 p.kinds (all_right (λ t. is_drained p t ≡ true → IsTopic t) (input_topics p) (by_node through_topics 0 p.kinds) changelog_topics)
 
 -- a place of such a topic that a task reads
 pub record IsPlace (p : Plan) (q : Place) : Type 0 where

@@ -9,9 +9,9 @@ use Rattle.ks_plan.specs.Plan.{Plan, Kind, plan_of, known_nodes, node_number, is
 use Rattle.ks_plan.specs.Layout.{up_to, parts_of, kind_at, number_of}
 use Rattle.ks_plan.specs.declared.node.Topic.TheVariants.{Changelog}
 use Rattle.ks_expr.specs.Eval.{Row}
-use Rattle.ks_def_maps.specs.FinMap as fin
-use Rattle.ks_def_maps.specs.FinMap.{FinMap}
-use Rattle.ks_def_maps.specs.Bytes.{by_bytes}
+use Rattle.ks_def_runs.specs.FinMap as fin
+use Rattle.ks_def_runs.specs.FinMap.{FinMap}
+use Rattle.ks_def_runs.specs.Bytes.{by_bytes}
 use Rattle.ks_history.specs.State.{State}
 use Rattle.ks_history.specs.Faithful as history
 use Rattle.ks_query.specs.declared.table.Table.{Table}

@@ -4,3 +4,4 @@ pub mod Collision
 pub mod Replayed
 pub mod Settled
 pub mod Routes
+pub mod InTime

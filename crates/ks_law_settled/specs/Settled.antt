@@ -10,7 +10,7 @@ use Rattle.ks_plan.specs.Drafts.{DraftView, Name}
 use Rattle.ks_plan.specs.Plan.{Plan, Kind, Window, plan_of, known_nodes, node_number, is_windowed}
 use Rattle.ks_plan.specs.Plan.Kind.{Windowed, ForeignKeyJoin}
 use Rattle.ks_plan.specs.Layout.{kind_at}
-use Rattle.ks_def_maps.specs.FinMap as fin
+use Rattle.ks_def_runs.specs.FinMap as fin
 use Rattle.ks_query.specs.Streams.{Key, Input}
 use Rattle.ks_query.specs.Windows.{WindowKey}
 use Rattle.ks_query.specs.Query.{query}

@@ -1,6 +1,7 @@
 //! What a settled journal of a job answers. Laws alone: each public function has an empty body, and its contract is the law.
 #![tactic(auto)]
 
+pub mod in_time;
 pub mod routes;
 
 ghost use Rattle.ks_law_settled.specs.Replayed.{StatesAgree};

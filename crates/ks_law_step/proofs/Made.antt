@@ -11,9 +11,9 @@ use Rattle.ks_row.specs.declared.record.TaskId.{TaskId}
 use Rattle.ks_row.specs.Texts.{IsKey, key_from}
 use Rattle.ks_row.specs.Reading.{◌>>=◌}
 use Rattle.ks_row.proofs.Spelled.{key_again, key_takes}
-use Rattle.ks_def_maps.specs.FinMap as fin
-use Rattle.ks_def_maps.specs.FinMap.{FinMap}
-use Rattle.ks_def_maps.specs.Bytes.{Store as ByteStore, empty_store as no_bytes}
+use Rattle.ks_def_runs.specs.FinMap as fin
+use Rattle.ks_def_runs.specs.FinMap.{FinMap}
+use Rattle.ks_def_runs.specs.Bytes.{Store as ByteStore, empty_store as no_bytes}
 use Rattle.ks_wire.specs.declared.values.Agg.{Agg}
 use Rattle.ks_wire.specs.Spelling.{time_key}
 use Rattle.ks_wire.specs.Reading.{window_key_from, agg_from, time_from}
@@ -45,9 +45,9 @@ use Rattle.ks_law_quiescence.proofs.WellFormed.{well_formed_fits}
 use Rattle.ks_law_topology.specs.Spelled.{IfThere}
 use Rattle.ks_law_topology.proofs.Kept.{nothing_is_held_back}
 use Rattle.ks_law_topology.proofs.Writes.{comes, owned as items_owned}
-use Rattle.ks_window.specs.Counting.{CountedBytes, counted, time_in}
-use Rattle.ks_window.specs.Laws.{counts_in}
-use Rattle.ks_window.proofs.Agreeing.{counts_agree}
+use Rattle.ks_def_lookups.specs.Windows.{CountedBytes, counted, time_in}
+use Rattle.ks_def_lookups.specs.WindowsDecoded.{counts_in}
+use Rattle.ks_def_lookups.proofs.WindowsDecoded.{counts_agree}
 use Rattle.ks_law_kinds.specs.Fitting.{FitsPlan}
 use Rattle.ks_law_kinds.proofs.Arriving.{MessageFits}
 use Rattle.ks_law_kinds.proofs.Values.{ItemFits, ItemsFit, items_fit, into_fits}

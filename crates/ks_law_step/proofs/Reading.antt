@@ -25,14 +25,14 @@ use Rattle.ks_law_kinds.proofs.Arriving.{MessageFits, message_fits}
 use Rattle.std.specs.Prelude.{Bool, cond, ◌^◌}
 use Rattle.std.specs.Ordering.{eq_by_cmp}
 use Rattle.std.specs.FinMap.Entries.{find}
-use Rattle.ks_def_maps.specs.FinMap as fin
-use Rattle.ks_def_maps.specs.Bytes.{by_bytes, Store}
+use Rattle.ks_def_runs.specs.FinMap as fin
+use Rattle.ks_def_runs.specs.Bytes.{by_bytes, Store}
 use Rattle.ks_wire.specs.Spelling.{time_key}
 use Rattle.ks_wire.specs.Reading.{time_from}
 use Rattle.ks_wire.proofs.Wired.{time_codec}
 use Rattle.ks_def_tasks.specs.Laws.{AreBytes}
-use Rattle.ks_window.specs.Counting.{time_in}
-use Rattle.ks_store.specs.Pairs.{ArePairs}
+use Rattle.ks_def_lookups.specs.Windows.{time_in}
+use Rattle.ks_def_runs.specs.Pairs.{ArePairs}
 use Rattle.ks_law_step.specs.Whole.{IsRecord}
 
 bytes_are : (b : List ℕ) → IsBytes b → are_bytes b ≡ true

@@ -4,8 +4,8 @@ use Rattle.ks_row.specs.declared.record.Rec.{Rec}
 use Rattle.ks_row.specs.declared.record.PartId.{PartId}
 use Rattle.ks_row.specs.declared.record.TaskId.{TaskId}
 use Rattle.ks_row.specs.Spelling.{IsBytes}
-use Rattle.ks_def_maps.specs.FinMap as fin
-use Rattle.ks_def_maps.specs.Bytes.{Store}
+use Rattle.ks_def_runs.specs.FinMap as fin
+use Rattle.ks_def_runs.specs.Bytes.{Store}
 use Rattle.ks_plan.specs.Drafts.{DraftView}
 use Rattle.ks_plan.specs.declared.node.Topic.{Topic}
 use Rattle.ks_plan.specs.declared.node.Topic.TheVariants.{Subscriptions, Changelog, HashChangelog}
@@ -21,8 +21,8 @@ use Rattle.ks_def_tasks.specs.Bytes.{ByteStores, byte_step, is_own, rec_of, stor
 use Rattle.ks_def_tasks.specs.Laws.{IsTakenBy}
 use Rattle.ks_law_quiescence.specs.WellFormed.{IsWellFormed}
 use Rattle.ks_law_topology.specs.Spelled.{IfThere}
-use Rattle.ks_store.specs.Pairs.{ArePairs}
-use Rattle.ks_window.specs.Counting.{CountedBytes}
+use Rattle.ks_def_runs.specs.Pairs.{ArePairs}
+use Rattle.ks_def_lookups.specs.Windows.{CountedBytes}
 use Rattle.ks_law_kinds.specs.Fitting.{FitsPlan}
 use Rattle.ks_def_lookups.specs.Lists.{item_in, all_items, value_in, all_values}
 use Rattle.ks_def_lookups.specs.Stores.{table_at, hash_at, kept_at}

@@ -21,7 +21,7 @@ use Rattle.ks_plan.specs.declared.node.Topic.TheVariants.{Input as InputTopic, R
 use Rattle.ks_plan.specs.Plan.{Plan, Kind, plan_of}
 use Rattle.ks_plan.specs.Plan.Kind.{StreamSource, TableSource, StreamFilter, TableFilter, StreamMap, TableMap, KeySelected, StreamAggregate, TableAggregate, Windowed, KeyJoin, ForeignKeyJoin}
 use Rattle.ks_plan.specs.Layout.{same_topic, topics_of, topic_at, number_of, reads}
-use Rattle.ks_def_maps.specs.FinMap as fin
+use Rattle.ks_def_runs.specs.FinMap as fin
 use Rattle.ks_query.specs.Streams.{Key, StreamItem, filter_item, map_item, rekey_item, group_key}
 use Rattle.ks_query.specs.Query.{with_number}
 use Rattle.ks_query.specs.Aggregates.{table_parts, share_under, same_share, deltas_of}

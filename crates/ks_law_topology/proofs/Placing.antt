@@ -27,8 +27,8 @@ use Rattle.ks_def_tasks.specs.Tasks.{step, sent_item, written_item, taker, is_ch
 use Rattle.ks_def_tasks.specs.Step.{Arrival, Sent, Written, whole_step, step_key, write_all, value_changes, counted_at, hash_changes, changes_at, over_nodes, items_from, item_into, olds_at, news_at, arrived, Values, value_at, values_from, item_keyed}
 use Rattle.ks_def_tasks.specs.Windowed.{Counted, greater, count_window, time_changes, count_group, count_item}
 use Rattle.ks_def_tasks.specs.Foreign.{subscribed}
-use Rattle.ks_def_maps.specs.FinMap as fin
-use Rattle.ks_def_maps.specs.FinMap.{FinMap}
+use Rattle.ks_def_runs.specs.FinMap as fin
+use Rattle.ks_def_runs.specs.FinMap.{FinMap}
 use Rattle.ks_query.specs.Windows.{by_window, windows}
 use Rattle.ks_query.specs.Grace.{is_open}
 use Rattle.ks_query.specs.Aggregates.{stream_add}

@@ -15,7 +15,7 @@ use Rattle.ks_plan.specs.Plan.{Plan, Kind}
 use Rattle.ks_plan.specs.Plan.Kind.{StreamSource, TableSource, StreamFilter, TableFilter, StreamMap, TableMap, KeySelected, StreamAggregate, TableAggregate, Windowed, KeyJoin, ForeignKeyJoin}
 use Rattle.ks_plan.specs.Layout.{same_topic, reads, sub_of}
 use Rattle.ks_expr.specs.Eval.{Row, same_field}
-use Rattle.ks_def_maps.specs.FinMap as fin
+use Rattle.ks_def_runs.specs.FinMap as fin
 use Rattle.ks_query.specs.Streams.{Key, StreamItem, group_key}
 use Rattle.ks_query.specs.Aggregates.{table_parts}
 use Rattle.ks_def_tasks.specs.Messages.{same_row, Stored, Subscription, Message, Store, Rules, same_bool, same_option, same_agg, same_stored}

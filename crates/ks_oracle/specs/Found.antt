@@ -1,13 +1,13 @@
 -- The answers of nodes as the program keeps them, in a list.
 use Rattle.std.specs.Prelude.{ℕ, suc, true, List, [], ◌∷◌, get_or, Option, Some, None, cond, fold, option_map, unwrap_or}
 use Rattle.ks_plan.specs.Plan.{Kind}
-use Rattle.ks_def_maps.specs.FinMap as fin
+use Rattle.ks_def_runs.specs.FinMap as fin
 use Rattle.ks_expr.specs.Eval.{holds, project}
 use Rattle.ks_plan.specs.declared.node.Wiring.{Wiring}
 use Rattle.ks_plan.specs.declared.node.Wiring.TheVariants as wired
 use Rattle.ks_plan.specs.Drafts.{OpView}
-use Rattle.ks_def_maps.specs.Bytes.{by_bytes}
-use Rattle.ks_def_maps.specs.Table.{latest}
+use Rattle.ks_def_runs.specs.Bytes.{by_bytes}
+use Rattle.ks_def_runs.specs.Table.{latest}
 use Rattle.ks_oracle.specs.Nodes.{test_in, set_in, key_in, group_in, window_in, join_in, foreign_in}
 use Rattle.ks_query.specs.Streams.{Input, StreamItem, some_of, item_of, filter_item, map_item, rekey_item, grouped}
 use Rattle.ks_query.specs.Aggregates.{agg_row}
@@ -15,7 +15,7 @@ use Rattle.ks_query.specs.Query.{Table, WindowTable, Answers, give_items, give_t
 use Rattle.ks_oracle.specs.declared.answers.Answer.{Answer}
 use Rattle.ks_oracle.specs.declared.answers.Answer.TheVariants.{Nothing, Items, Table as TableFound, Windows}
 use Rattle.ks_wire.specs.declared.values.Agg.{Agg}
-use Rattle.ks_def_maps.specs.FinMap.{FinMap}
+use Rattle.ks_def_runs.specs.FinMap.{FinMap}
 use Rattle.ks_query.specs.Windows.{by_window}
 
 -- counts by windows, as rows

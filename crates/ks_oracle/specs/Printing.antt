@@ -4,7 +4,7 @@ use Rattle.ks_plan.specs.declared.node.Node.{Node}
 use Rattle.ks_plan.specs.declared.node.Wiring.{Wiring}
 use Rattle.ks_plan.specs.Drafts.{Name}
 use Rattle.ks_plan.specs.Plan.{name_place, gives_windows}
-use Rattle.ks_def_maps.specs.FinMap as fin
+use Rattle.ks_def_runs.specs.FinMap as fin
 use Rattle.ks_query.specs.declared.table.Table.{Table}
 use Rattle.ks_query.specs.declared.table.TableRow.{TableRow}
 use Rattle.ks_query.specs.Query.{Answers}

@@ -2,7 +2,7 @@
 use Rattle.std.specs.Prelude.{List, T}
 use Rattle.std.specs.declared.cmp.Ordering.{Ordering}
 use Rattle.std.specs.FinMap.Entries.{is_sorted}
-use Rattle.ks_def_maps.specs.FinMap.{FinMap, from_sorted}
+use Rattle.ks_def_runs.specs.FinMap.{FinMap, from_sorted}
 
 -- the keys strictly rise
 abbrev pub Rises : {K V : Type 0} → (K → K → Ordering) → List (K × V) → Type 0

@@ -1,7 +1,7 @@
 //! Counts and sums: of streams, of tables, and by windows.
 ghost use Rattle.std.specs.Prelude.{◌≡◌, ◌≤◌, [], ◌∷◌, Some, None, cond, fold, map, is_none, option_copied, OnOk, IfOk};
-ghost use Rattle.ks_def_maps.specs.Bytes.{by_bytes};
-ghost use Rattle.ks_def_maps.specs.FinMap as fin;
+ghost use Rattle.ks_def_runs.specs.Bytes.{by_bytes};
+ghost use Rattle.ks_def_runs.specs.FinMap as fin;
 ghost use Rattle.ks_query.specs.Streams.{grouped as in_groups};
 ghost use Rattle.ks_query.specs.Windows.{by_window};
 ghost use Rattle.ks_query.specs.Aggregates.{agg_row as row_of_agg};

@@ -1,8 +1,8 @@
 //! The answers of nodes.
 ghost use Rattle.std.specs.Prelude.{◌≡◌, suc, [], length, map, fold, cond, option_map, unwrap_or, is_none, Some, None, IfOk, OnOk};
-ghost use Rattle.ks_def_maps.specs.FinMap as fin;
-ghost use Rattle.ks_def_maps.specs.Bytes.{by_bytes};
-ghost use Rattle.ks_def_maps.specs.Table.{write};
+ghost use Rattle.ks_def_runs.specs.FinMap as fin;
+ghost use Rattle.ks_def_runs.specs.Bytes.{by_bytes};
+ghost use Rattle.ks_def_runs.specs.Table.{write};
 ghost use Rattle.ks_expr.specs.Eval.{holds, project};
 ghost use Rattle.ks_plan.specs.Drafts.{op_view};
 ghost use Rattle.ks_query.specs.Streams.{some_of, filter_item, map_item, rekey_item, grouped};

@@ -1,6 +1,6 @@
 //! Aggregates by groups, in a tree.
 ghost use Rattle.std.specs.Prelude.{◌≡◌, ◌++◌, Some, None, OnOk, IfOk};
-ghost use Rattle.ks_def_maps.specs.FinMap as fin;
+ghost use Rattle.ks_def_runs.specs.FinMap as fin;
 
 use ks_row::Key;
 use ks_wire::Agg;
@@ -25,8 +25,8 @@ pub struct Groups {
 }
 
 impl Model for Groups {
-    ghost use Rattle.ks_def_maps.specs.Bytes.{by_bytes};
-    ghost use Rattle.ks_def_maps.specs.FinMap.{FinMap};
+    ghost use Rattle.ks_def_runs.specs.Bytes.{by_bytes};
+    ghost use Rattle.ks_def_runs.specs.FinMap.{FinMap};
     ghost use Rattle.ks_wire.specs.declared.values.Agg.{Agg};
     ghost use Rattle.ks_oracle.specs.Trees.{map_of, Rises};
 

@@ -59,7 +59,7 @@ impl Item {
     }
 
     /// The item again, where its row meets the predicate.
-    pub fn filtered(&self, test: &Pred) -> Result<Option<Item>, AllocError>
+    pub fn where_holds(&self, test: &Pred) -> Result<Option<Item>, AllocError>
         ensures { IfOk result (λ o. o ≡ filter_item (test_of test.now) self.now) }
     {
         if holds(test, &self.row) {
@@ -74,7 +74,7 @@ impl Item {
     }
 
     /// The item with the projected row; none where it has no field.
-    pub fn mapped(&self, alloc: Global, set: &Proj) -> Result<Option<Item>, AllocError>
+    pub fn with_row_of(&self, alloc: Global, set: &Proj) -> Result<Option<Item>, AllocError>
         ensures { IfOk result (λ o. o ≡ map_item (set_of set.now) self.now) }
     {
         let Some(row) = project(alloc, set, Some(&self.row), None)? else {
@@ -88,7 +88,7 @@ impl Item {
     }
 
     /// The item with the key that a field gives; none where it gives none.
-    pub fn rekeyed(&self, alloc: Global, name: &Name) -> Result<Option<Item>, AllocError>
+    pub fn with_key_of(&self, alloc: Global, name: &Name) -> Result<Option<Item>, AllocError>
         ensures { IfOk result (λ o. o ≡ rekey_item name.now self.now) }
     {
         let Some(key) = key_of_field(alloc, &self.row, name.as_str().as_bytes())? else {

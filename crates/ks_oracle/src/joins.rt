@@ -3,9 +3,9 @@ ghost use Rattle.std.specs.Prelude.{◌≡◌, ◌++◌, Some, None, fold, map, 
 ghost use Rattle.ks_expr.specs.Terms.{set_of};
 ghost use Rattle.ks_expr.specs.Eval.{joined as joined_row};
 ghost use Rattle.ks_row.specs.FieldKeys.{field_key};
-ghost use Rattle.ks_def_maps.specs.Bytes.{by_bytes};
-ghost use Rattle.ks_def_maps.specs.FinMap as fin;
-ghost use Rattle.ks_def_maps.specs.Table.{write};
+ghost use Rattle.ks_def_runs.specs.Bytes.{by_bytes};
+ghost use Rattle.ks_def_runs.specs.FinMap as fin;
+ghost use Rattle.ks_def_runs.specs.Table.{write};
 ghost use Rattle.ks_query.specs.Query.{map_values, key_join, foreign_join, right_row};
 
 use crate::rows::Rows;

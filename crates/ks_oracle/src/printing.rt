@@ -1,7 +1,7 @@
 //! The tables that are printed.
 ghost use Rattle.std.specs.Prelude.{◌≡◌, true, map, IfOk};
 ghost use Rattle.ks_expr.specs.Eval.{same_bytes};
-ghost use Rattle.ks_def_maps.specs.FinMap as fin;
+ghost use Rattle.ks_def_runs.specs.FinMap as fin;
 ghost use Rattle.ks_plan.specs.Plan.{name_place};
 ghost use Rattle.ks_query.specs.Streams.{some_of};
 ghost use Rattle.ks_query.specs.Printed.{plain_row, window_row};

@@ -1,8 +1,8 @@
 //! Tables: rows by keys, in a tree.
 ghost use Rattle.std.specs.Prelude.{◌≡◌, ◌++◌, Some, None, option_copied, OnOk, IfOk};
-ghost use Rattle.ks_def_maps.specs.Bytes.{by_bytes};
-ghost use Rattle.ks_def_maps.specs.FinMap as fin;
-ghost use Rattle.ks_def_maps.specs.Table.{write};
+ghost use Rattle.ks_def_runs.specs.Bytes.{by_bytes};
+ghost use Rattle.ks_def_runs.specs.FinMap as fin;
+ghost use Rattle.ks_def_runs.specs.Table.{write};
 
 use ks_row::{Key, Row};
 use std::alloc::{AllocError, Global};
@@ -27,8 +27,8 @@ pub struct Rows {
 
 impl Model for Rows {
     ghost use Rattle.std.specs.Prelude.{List};
-    ghost use Rattle.ks_def_maps.specs.Bytes.{by_bytes};
-    ghost use Rattle.ks_def_maps.specs.FinMap.{FinMap};
+    ghost use Rattle.ks_def_runs.specs.Bytes.{by_bytes};
+    ghost use Rattle.ks_def_runs.specs.FinMap.{FinMap};
     ghost use Rattle.ks_expr.specs.Eval.{Row};
     ghost use Rattle.ks_oracle.specs.Trees.{map_of, Rises};
 

@@ -1,6 +1,6 @@
 //! Aggregates by groups and starts of windows, in a tree.
 ghost use Rattle.std.specs.Prelude.{◌≡◌, ◌++◌, Some, None, OnOk, IfOk};
-ghost use Rattle.ks_def_maps.specs.FinMap as fin;
+ghost use Rattle.ks_def_runs.specs.FinMap as fin;
 
 use ks_row::Key;
 use ks_wire::Agg;
@@ -28,7 +28,7 @@ pub struct Spans {
 }
 
 impl Model for Spans {
-    ghost use Rattle.ks_def_maps.specs.FinMap.{FinMap};
+    ghost use Rattle.ks_def_runs.specs.FinMap.{FinMap};
     ghost use Rattle.ks_query.specs.Windows.{by_window};
     ghost use Rattle.ks_wire.specs.declared.values.Agg.{Agg};
     ghost use Rattle.ks_oracle.specs.Trees.{map_of, Rises};

@@ -47,7 +47,7 @@ pub fn filtered_items(alloc: Global, test: &Pred, items: &[Item]) -> Result<Vec<
     let mut found = Vec::new(alloc);
     let mut rest = items;
     while let [item, more @ ..] = rest {
-        push_some(&mut found, item.filtered(test)?)?;
+        push_some(&mut found, item.where_holds(test)?)?;
         rest = more;
     }
     Ok(found)
@@ -61,7 +61,7 @@ pub fn mapped_items(alloc: Global, set: &Proj, items: &[Item]) -> Result<Vec<Ite
     let mut found = Vec::new(alloc);
     let mut rest = items;
     while let [item, more @ ..] = rest {
-        push_some(&mut found, item.mapped(alloc, set)?)?;
+        push_some(&mut found, item.with_row_of(alloc, set)?)?;
         rest = more;
     }
     Ok(found)
@@ -75,7 +75,7 @@ pub fn rekeyed_items(alloc: Global, name: &Name, items: &[Item]) -> Result<Vec<I
     let mut found = Vec::new(alloc);
     let mut rest = items;
     while let [item, more @ ..] = rest {
-        push_some(&mut found, item.rekeyed(alloc, name)?)?;
+        push_some(&mut found, item.with_key_of(alloc, name)?)?;
         rest = more;
     }
     Ok(found)

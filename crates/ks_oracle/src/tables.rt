@@ -2,9 +2,9 @@
 ghost use Rattle.std.specs.Prelude.{◌≡◌, [], ◌∷◌, Some, None, cond, fold, OnOk, IfOk};
 ghost use Rattle.ks_expr.specs.Terms.{test_of, set_of};
 ghost use Rattle.ks_expr.specs.Eval.{holds, project};
-ghost use Rattle.ks_def_maps.specs.Bytes.{by_bytes};
-ghost use Rattle.ks_def_maps.specs.FinMap as fin;
-ghost use Rattle.ks_def_maps.specs.Table.{write, latest};
+ghost use Rattle.ks_def_runs.specs.Bytes.{by_bytes};
+ghost use Rattle.ks_def_runs.specs.FinMap as fin;
+ghost use Rattle.ks_def_runs.specs.Table.{write, latest};
 ghost use Rattle.ks_query.specs.Query.{of_topic, table_changes, map_values};
 
 use crate::record::JobRecord;

@@ -5,6 +5,8 @@ use denote.Param.SendFields.{declared_sync, variants_sync}
 use Rattle.std.proofs.Crossing.{crosses}
 use Rattle.std.proofs.MapsCrossing.{crosses as map_crosses}
 use Rattle.ks_row.proofs.lists.Blob.TheSendSync.{the_sync as blob_sync}
+use Rattle.ks_row.proofs.texts.Name.TheSendSync.{the_sync as name_sync}
+use Rattle.ks_row.proofs.texts.Text.TheSendSync.{the_sync as text_sync}
 use Rattle.ks_row.specs.contracts.lists.Seq as Seq
 use Rattle.ks_row.specs.contracts.lists.Seq.TheInside as Inside
 use Rattle.ks_expr.proofs.terms.Expr.TheLaws.TheKnot.{crosses as expr_crosses}
@@ -17,7 +19,7 @@ use Rattle.ks_plan.specs.contracts.draft.NodeDraft as NodeDraft
 use Rattle.ks_plan.specs.contracts.draft.Draft as Draft
 use Rattle.ks_plan.specs.contracts.node.Node as Node
 
-ruleset plain = (blob_sync, sendable, crosses)
+ruleset plain = (blob_sync, name_sync, text_sync, sendable, crosses)
 
 expr_sync : IsSync Expr.the_row
 expr_sync = search (expr_crosses, plain) depth 20

@@ -1,3 +1,4 @@
 pub mod Resolving
 pub mod Tasks
 pub mod Crossing
+pub mod Numbers

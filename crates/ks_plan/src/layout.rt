@@ -60,7 +60,7 @@ fn parts_of(alloc: Global, counts: &[u8], wirings: &[Wiring]) -> Result<Vec<u8>,
 }
 
 // The labels with one of them replaced by another.
-fn relabelled(alloc: Global, labels: &[u8], new: u8, old: u8) -> Result<Vec<u8>, AllocError>
+fn with_labels(alloc: Global, labels: &[u8], new: u8, old: u8) -> Result<Vec<u8>, AllocError>
     ensures { IfOk result (λ v. v.items ≡ relabel new old labels.now) }
 {
     let mut changed = Vec::new(alloc);
@@ -98,7 +98,7 @@ fn with_label(alloc: Global, labels: Vec<u8>, wiring: Wiring) -> Result<Vec<u8>,
         Wiring::KeyJoin { left, right } => {
             let left = number_at(&labels, left as usize);
             let right = number_at(&labels, right as usize);
-            labels = relabelled(alloc, &labels, left.min(right), left.max(right))?;
+            labels = with_labels(alloc, &labels, left.min(right), left.max(right))?;
             left.min(right)
         }
     };

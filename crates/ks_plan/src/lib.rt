@@ -22,6 +22,6 @@ pub use resolve::{Input, Resolved, find_input, gives_stream, resolve_op};
 pub use shape::Shape;
 pub use sharing::{share_draft, share_node};
 pub use topics::{
-    drained_topics, flowing_topics, kept_topics, number_of, numbers_by_sub, numbers_of,
-    parts_of_topic, tasks_of,
+    changelog_topics, drained_topics, drained_topics_by_node, number_of, numbers_by_sub,
+    numbers_of, parts_of_topic, tasks_of,
 };

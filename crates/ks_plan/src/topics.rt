@@ -24,7 +24,7 @@ fn input_topics(alloc: Global, count: u16) -> Result<Vec<Topic>, AllocError>
 
 /// The topics that are drained where somebody reads them: inputs, then those between nodes.
 /// At most 64 nodes; an error only where memory runs out.
-pub fn flowing_topics(
+pub fn drained_topics_by_node(
     alloc: Global,
     count: u16,
     wirings: &[Wiring],
@@ -42,7 +42,7 @@ pub fn flowing_topics(
 }
 
 /// The changelogs, by node, of at most 64 nodes. An error only where memory runs out.
-pub fn kept_topics(alloc: Global, wirings: &[Wiring]) -> Result<Vec<Topic>, AllocError>
+pub fn changelog_topics(alloc: Global, wirings: &[Wiring]) -> Result<Vec<Topic>, AllocError>
     requires { length wirings.now ≤ 64 }
     ensures { IfOk result (λ v. v.items ≡ kept wirings.now) }
 {

@@ -6,9 +6,9 @@ use Rattle.ks_row.specs.FieldKeys.{field_key}
 use Rattle.ks_expr.specs.declared.terms.JoinKind.{JoinKind}
 use Rattle.ks_expr.specs.Terms.{Set}
 use Rattle.ks_expr.specs.Eval.{Row, joined}
-use Rattle.ks_def_maps.specs.FinMap as map
-use Rattle.ks_def_maps.specs.Bytes.{by_bytes}
-use Rattle.ks_def_maps.specs.Table.{Change, last, latest}
+use Rattle.ks_def_runs.specs.FinMap as map
+use Rattle.ks_def_runs.specs.Bytes.{by_bytes}
+use Rattle.ks_def_runs.specs.Table.{Change, last, latest}
 use Rattle.ks_wire.specs.declared.values.Agg.{Agg}
 use Rattle.ks_query.specs.Aggregates.{agg_row, stream_add}
 use Rattle.ks_query.specs.Streams.{Key}

@@ -11,7 +11,7 @@ use Rattle.ks_expr.specs.Eval.{Row}
 use Rattle.ks_plan.specs.Drafts.{Name, DraftView}
 use Rattle.ks_plan.specs.Plan.{Plan, plan_of, known_nodes, node_number, is_windowed}
 use Rattle.ks_plan.specs.Layout.{kind_at}
-use Rattle.ks_def_maps.specs.FinMap as fin
+use Rattle.ks_def_runs.specs.FinMap as fin
 use Rattle.ks_query.specs.declared.table.Table.{Table}
 use Rattle.ks_query.specs.declared.table.TableRow.{TableRow}
 use Rattle.ks_query.specs.Streams.{Key, Input}

@@ -11,10 +11,10 @@ use Rattle.ks_expr.specs.Eval.{Row, holds, project, joined}
 use Rattle.ks_query.specs.Streams.{Key}
 use Rattle.ks_plan.specs.Plan.{Plan, Kind, Window}
 use Rattle.ks_plan.specs.Plan.Kind.{StreamSource, TableSource, StreamFilter, TableFilter, StreamMap, TableMap, KeySelected, StreamAggregate, TableAggregate, Windowed, KeyJoin, ForeignKeyJoin}
-use Rattle.ks_def_maps.specs.FinMap as map
-use Rattle.ks_def_maps.specs.FinMap.{FinMap}
-use Rattle.ks_def_maps.specs.Bytes.{by_bytes}
-use Rattle.ks_def_maps.specs.Table.{Change, write, latest}
+use Rattle.ks_def_runs.specs.FinMap as map
+use Rattle.ks_def_runs.specs.FinMap.{FinMap}
+use Rattle.ks_def_runs.specs.Bytes.{by_bytes}
+use Rattle.ks_def_runs.specs.Table.{Change, write, latest}
 use Rattle.ks_query.specs.Windows.{WindowKey, by_window, windows}
 use Rattle.ks_wire.specs.declared.values.Agg.{Agg}
 use Rattle.ks_query.specs.Aggregates.{agg_row, stream_add}

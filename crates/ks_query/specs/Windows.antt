@@ -4,7 +4,7 @@ use Rattle.std.specs.Prelude.{ℕ, zero, suc, ◌+◌, ◌*◌, ◌/◌, List, [
 use Rattle.std.specs.List.{filter}
 use Rattle.std.specs.declared.cmp.Ordering.{Ordering}
 use Rattle.std.specs.Ordering.{nat_cmp, ordering_then}
-use Rattle.ks_def_maps.specs.Bytes.{by_bytes}
+use Rattle.ks_def_runs.specs.Bytes.{by_bytes}
 use Rattle.ks_plan.specs.Plan.{Window}
 
 -- a group's key and the start of a window

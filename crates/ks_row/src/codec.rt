@@ -5,14 +5,15 @@ ghost use Rattle.ks_row.specs.Spelling.{field_bytes, member_bytes, spelling, Fit
 ghost use Rattle.ks_row.specs.Codecs.{IsCodec};
 ghost use Rattle.ks_row.specs.Reading.{row_from};
 
+use crate::builder::BlobBuilder;
 use crate::lists::Blob;
 use crate::reading::read_row;
 use crate::row::{Field, Row};
 use crate::texts::Name;
 use std::alloc::{AllocError, Global};
 
-fn push_field(out: &mut Vec<u8>, field: &Field) -> Result<(), AllocError>
-    ensures bytes { OnOk result (out.new.items ≡ out.old.items ++ field_bytes field.now) }
+fn push_field(out: &mut BlobBuilder, field: &Field) -> Result<(), AllocError>
+    ensures bytes { OnOk result (out.new ≡ out.old ++ field_bytes field.now) }
     ensures fits { OnOk result (FitsField field.now) }
 {
     match field {
@@ -31,8 +32,8 @@ fn push_field(out: &mut Vec<u8>, field: &Field) -> Result<(), AllocError>
 }
 
 #[tactic(auto, unfolding(crate::specs::Spelling::member_bytes))]
-fn push_member(out: &mut Vec<u8>, name: &Name, field: &Field) -> Result<(), AllocError>
-    ensures bytes { OnOk result (out.new.items ≡ out.old.items
+fn push_member(out: &mut BlobBuilder, name: &Name, field: &Field) -> Result<(), AllocError>
+    ensures bytes { OnOk result (out.new ≡ out.old
         ++ member_bytes (name.now, field.now)) }
     ensures fits { OnOk result (FitsMember (name.now, field.now)) }
 {
@@ -49,12 +50,12 @@ pub fn encode(alloc: Global, row: &Row) -> Result<Blob, AllocError>
     ensures fits { OnOk result (FitsRow row.now) }
 {
     let members = row.members();
-    let mut out = Vec::new(alloc);
+    let mut out = BlobBuilder::new(alloc);
     out.push(members.len() as u8)?;
     for (name, field) in members {
         push_member(&mut out, name, field)?;
     }
-    Blob::of(out)
+    out.into_blob()
 }
 
 /// The row that the bytes spell, all of them; none where they spell no row.

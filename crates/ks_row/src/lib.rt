@@ -2,6 +2,8 @@
 #![tactic(auto)]
 
 mod assignment;
+mod builder;
+mod chars;
 mod codec;
 mod equal;
 mod lists;
@@ -11,6 +13,7 @@ mod row;
 mod texts;
 
 pub use assignment::{Assignment, Marker, Refused};
+pub use builder::BlobBuilder;
 pub use codec::{decode, encode, reading_undoes_spelling, reread, spelling_is_injective};
 pub use equal::{equal_bytes, equal_numbers};
 pub use lists::{Blob, Seq};

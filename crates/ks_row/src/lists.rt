@@ -146,6 +146,15 @@ impl Blob {
         }
     }
 
+    /// Few bytes.
+    pub(crate) fn of_short(bytes: ArrayVec<u8, 32>) -> Blob
+        ensures { result ≡ bytes.items }
+    {
+        Blob {
+            payload: Payload::Short(bytes),
+        }
+    }
+
     /// A copy of these bytes.
     pub fn from_slice(alloc: Global, bytes: &[u8]) -> Result<Blob, AllocError>
         ensures { IfOk result (λ b. b ≡ bytes.now) }

@@ -123,7 +123,7 @@ fn read_members(
     ensures { IfOk result (λ o. option_map (λ x. (x.0.items, x.1.now)) o
         ≡ members_at count bytes.now) }
 {
-    let mut members = Vec::new(alloc);
+    let mut members = Vec::with_capacity(alloc, count as usize)?;
     let mut rest = bytes;
     for _ in 0..count {
         let Some((member, after)) = read_member(alloc, rest)? else {

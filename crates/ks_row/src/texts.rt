@@ -9,6 +9,7 @@ ghost use Rattle.std.specs.Ordering.{nat_cmp, as_partial_cmp};
 ghost use Rattle.std.specs.Cmp.Lexicographic.{slice_cmp, pointwise};
 ghost use Rattle.ks_row.specs.Texts.{IsKey, IsName, IsText, key_of, name_of, text_of, key_from, name_from, text_from};
 
+use crate::chars::Chars;
 use std::alloc::{AllocError, Global};
 use std::cmp::Ordering;
 use std::marker::Model;
@@ -28,18 +29,18 @@ fn utf8_text(bytes: &[u8]) -> Option<&str>
 /// The key of a record.
 #[derive(Drop, Debug)]
 pub struct Key {
-    text: String,
+    text: Chars,
 }
 
 impl Model for Key {
-    ghost use Rattle.std.specs.Prelude.{ℕ, List, string_bytes};
+    ghost use Rattle.std.specs.Prelude.{ℕ, List};
     ghost use Rattle.ks_row.specs.Texts.{IsKey};
 
     ghost Value = { List ℕ };
 
-    ghost view = { λ k. string_bytes k.text };
+    ghost view = { λ k. k.text };
 
-    ghost invariant = { λ k. IsKey (string_bytes k.text) };
+    ghost invariant = { λ k. IsKey k.text };
 }
 
 impl Clone for Key {
@@ -81,7 +82,7 @@ impl Key {
         if text.is_empty() {
             Ok(None)
         } else if text.len() <= 1024 {
-            let text = String::from_str(alloc, text)?;
+            let text = Chars::from_str(alloc, text)?;
             Ok(Some(Key { text }))
         } else {
             Ok(None)
@@ -94,7 +95,8 @@ impl Key {
     pub fn of_number(alloc: Global, number: i64) -> Result<Key, AllocError>
         ensures { IfOk result (λ k. k ≡ signed_decimal number) }
     {
-        let text = format!(in alloc; "{number}")?;
+        let digits = format!(in alloc; "{number}")?;
+        let text = Chars::from_str(alloc, digits.as_str())?;
         Ok(Key { text })
     }
 }
@@ -105,7 +107,7 @@ impl PartialEq for Key {
     ghost laws = { Prim.search (comparing, rules) };
 
     fn eq(&self, other: &Key) -> bool {
-        self.text == other.text
+        self.text.as_str() == other.text.as_str()
     }
 }
 
@@ -133,25 +135,25 @@ impl Ord for Key {
     ghost matches_eq = { Prim.search (comparing, rules) };
 
     fn cmp(&self, other: &Key) -> Ordering {
-        self.text.cmp(&other.text)
+        self.text.as_str().cmp(other.text.as_str())
     }
 }
 
 /// The name of a field.
 #[derive(Drop, Debug)]
 pub struct Name {
-    text: String,
+    text: Chars,
 }
 
 impl Model for Name {
-    ghost use Rattle.std.specs.Prelude.{ℕ, List, string_bytes};
+    ghost use Rattle.std.specs.Prelude.{ℕ, List};
     ghost use Rattle.ks_row.specs.Texts.{IsName};
 
     ghost Value = { List ℕ };
 
-    ghost view = { λ n. string_bytes n.text };
+    ghost view = { λ n. n.text };
 
-    ghost invariant = { λ n. IsName (string_bytes n.text) };
+    ghost invariant = { λ n. IsName n.text };
 }
 
 impl Name {
@@ -183,7 +185,7 @@ impl Name {
         if text.is_empty() {
             Ok(None)
         } else if text.len() <= 64 {
-            let text = String::from_str(alloc, text)?;
+            let text = Chars::from_str(alloc, text)?;
             Ok(Some(Name { text }))
         } else {
             Ok(None)
@@ -207,7 +209,7 @@ impl PartialEq for Name {
     ghost laws = { Prim.search (comparing, rules) };
 
     fn eq(&self, other: &Name) -> bool {
-        self.text == other.text
+        self.text.as_str() == other.text.as_str()
     }
 }
 
@@ -235,25 +237,25 @@ impl Ord for Name {
     ghost matches_eq = { Prim.search (comparing, rules) };
 
     fn cmp(&self, other: &Name) -> Ordering {
-        self.text.cmp(&other.text)
+        self.text.as_str().cmp(other.text.as_str())
     }
 }
 
 /// The text of a field.
 #[derive(Drop, Debug)]
 pub struct Text {
-    text: String,
+    text: Chars,
 }
 
 impl Model for Text {
-    ghost use Rattle.std.specs.Prelude.{ℕ, List, string_bytes};
+    ghost use Rattle.std.specs.Prelude.{ℕ, List};
     ghost use Rattle.ks_row.specs.Texts.{IsText};
 
     ghost Value = { List ℕ };
 
-    ghost view = { λ t. string_bytes t.text };
+    ghost view = { λ t. t.text };
 
-    ghost invariant = { λ t. IsText (string_bytes t.text) };
+    ghost invariant = { λ t. IsText t.text };
 }
 
 impl Clone for Text {
@@ -293,7 +295,7 @@ impl Text {
         ensures { IfOk result (λ o. o ≡ text_of text.now) }
     {
         if text.len() <= 65536 {
-            let text = String::from_str(alloc, text)?;
+            let text = Chars::from_str(alloc, text)?;
             Ok(Some(Text { text }))
         } else {
             Ok(None)

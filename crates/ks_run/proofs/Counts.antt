@@ -16,7 +16,7 @@ use Rattle.ks_plan.specs.declared.node.TopicInfo.{TopicInfo}
 use Rattle.ks_plan.specs.Faults.{first_fitting, is_past, any_past, size_lines, parts_fault, fault_of}
 use Rattle.ks_topo.proofs.Sorting.{past_sorted}
 use Rattle.ks_law_inputs.specs.Records.{HavePartitions}
-use Rattle.ks_feed.specs.Placing.{IsParted}
+use Rattle.ks_run_workers.specs.Placing.{IsParted}
 
 none_of : {A : Type 0} (a b : Option A) → option_or a b ≡ None → (a ≡ None) × (b ≡ None)
 none_of None b e = (refl, e)

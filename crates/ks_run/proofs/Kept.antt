@@ -21,7 +21,7 @@ use Rattle.ks_law_inputs.specs.Records.{input_of, records_of}
 use Rattle.ks_law_settled.specs.Jobs.{produces}
 use Rattle.ks_run.specs.Told.{TellsLate, TellsCollision}
 use Rattle.ks_run.specs.Journals.{draft_in, placed_records, SettlesBytes, HasJournal, TookFront, IsUndrained, IsEmptyIf, IsInTime, IsWithoutCollision}
-use Rattle.ks_job_source.specs.declared.stop.Stop.{Stop}
+use Rattle.ks_job_source.specs.declared.stop.JobStop.{JobStop}
 use Rattle.ks_job_source.specs.Stops.{stop_of}
 use Rattle.ks_job_source.specs.Texts.{bad_job_text}
 use Rattle.ks_job_source.specs.Reading.{Read}
@@ -32,8 +32,8 @@ use Rattle.ks_job_source.specs.declared.rest.Standing.TheVariants as standings
 use Rattle.ks_job_source.specs.declared.rest.JobEnd.{JobEnd}
 use Rattle.ks_job_source.specs.declared.rest.JobEnd.TheVariants.{Whole, Stopped, Failed}
 use Rattle.ks_job_source.proofs.Opened.{opened_and_read, front_of_whole}
-use Rattle.ks_feed.specs.Feeding.{FaultsBy}
-use Rattle.ks_output.specs.Texts.{read_fault_text}
+use Rattle.ks_run_workers.specs.Feeding.{FaultsBy}
+use Rattle.ks_run_output.specs.Texts.{read_fault_text}
 use Rattle.ks_run.specs.Settling.{SettlesJob, KeepsJob, TellsEnd, RunsJob}
 use Rattle.ks_run.specs.Answers.{IsRefused, IsJudged}
 use Rattle.ks_run.proofs.Told.{Tells, tells}
@@ -90,7 +90,7 @@ not_some e f = absurd (cc)
 is_topology : (o : Option DraftView) (d : DraftView) → o ≡ Some d → IfSome o (λ e. e ≡ d)
 is_topology o d h = rw h refl
 
-pub bad_job_read : (left : Option (List ℕ)) (stop : Stop) (text : List ℕ) → Read left (Err stop) → text ≡ bad_job_text stop → IsRefused left text
+pub bad_job_read : (left : Option (List ℕ)) (stop : JobStop) (text : List ℕ) → Read left (Err stop) → text ≡ bad_job_text stop → IsRefused left text
 bad_job_read left stop text h e = record { bytes = h.bytes; known = h.known; bad = (stop, h.ends, e) }
 
 -- ---- the journal of a job's run
@@ -198,7 +198,7 @@ module _ (rules : Rules) (placing : Placing) (shown ahead : Bool) (old new : Opt
       (tells rules shown d (records_of is) status text journal a.kept a.told)
 
   -- one that was read to a fault
-  judged_stopped : (stop : Stop) (d : DraftView) (is : List ItemView) (status : ℕ) (text : List ℕ) (journal : List Entry) → fault_of d ≡ None → IsEmptyIf ahead journal → now ≡ before → HoldsJob old (Some stop) d is → KeepsJob rules placing d (records_of is) journal →
+  judged_stopped : (stop : JobStop) (d : DraftView) (is : List ItemView) (status : ℕ) (text : List ℕ) (journal : List Entry) → fault_of d ≡ None → IsEmptyIf ahead journal → now ≡ before → HoldsJob old (Some stop) d is → KeepsJob rules placing d (records_of is) journal →
       (status ≡ 2) × (text ≡ bad_job_text stop) × IsUndrained journal → IsJudged rules placing shown ahead old new before now status text journal
   judged_stopped stop d is status text journal fine empty k h kept t =
       judged_bad_job text status journal t.0 k (record { bytes = h.bytes; known = h.known; bad = (stop, h.stops, t.1) }) t.2 empty

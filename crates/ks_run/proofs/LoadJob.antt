@@ -11,7 +11,7 @@ use Rattle.ks_law_inputs.specs.Records.{records_of}
 use Rattle.ks_law_load_job.specs.Items.{load_draft, load_items}
 use Rattle.ks_law_load_job.proofs.Valid.{in_time, well_formed}
 use Rattle.ks_law_load_job.proofs.WholeJob.{load_read}
-use Rattle.ks_job_source.specs.declared.stop.Stop.TheVariants.{BadTopology}
+use Rattle.ks_job_source.specs.declared.stop.JobStop.TheVariants.{BadTopology}
 use Rattle.ks_job_source.specs.Stops.{topology_stop, line_stop}
 use Rattle.ks_run.specs.Journals.{draft_in, IsInTime}
 

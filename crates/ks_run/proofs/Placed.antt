@@ -16,10 +16,10 @@ use Rattle.ks_plan.specs.Layout.{topics_of, parts_of_topic}
 use Rattle.ks_law_topology.specs.Spelled.{IfThere}
 use Rattle.ks_job.specs.Items.{ItemView, TopologyAt, RecordTo}
 use Rattle.ks_law_inputs.specs.Records.{row_in, input_of, records_of, IsRowBytes, IsRecord, AreRecords}
-use Rattle.ks_nodes.specs.Rules.{rules_of}
+use Rattle.ks_def_tasks.specs.Rules.{rules_of}
 use Rattle.ks_law_kinds.specs.OfKind.{is_in_range}
 use Rattle.ks_law_settled.specs.Jobs.{produced_of, FitInputs, InRange, HasParts}
-use Rattle.ks_feed.specs.Placing.{part_at, placed, placed_all}
+use Rattle.ks_run_workers.specs.Placing.{part_at, placed, placed_all}
 use Rattle.ks_run.specs.Journals.{placed_records}
 use Rattle.ks_run.proofs.Counts.{part_count, counts_length}
 

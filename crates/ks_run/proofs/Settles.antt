@@ -24,34 +24,34 @@ use Rattle.ks_cluster.specs.View as kept
 use Rattle.ks_cluster.specs.Placed.{PlacementTest, ArePlaced}
 use Rattle.ks_assign.specs.declared.clients.Placing.{Placing}
 use Rattle.ks_commit.specs.Everything.{everything, IsGoodForAll}
-use Rattle.ks_placement.specs.Groups.{good_by}
+use Rattle.ks_assign_group.specs.Groups.{good_by}
 use Rattle.ks_task.specs.Placing.{placed_by}
 use Rattle.ks_task.proofs.Alone.{everything_is_good}
 use Rattle.ks_query.specs.Streams.{Input}
 use Rattle.ks_def_tasks.specs.Messages.{Rules}
-use Rattle.ks_feed.specs.declared.feeding.Intake.{Intake}
-use Rattle.ks_feed.specs.Feeding.{FaultsBy}
+use Rattle.ks_run_workers.specs.declared.feeding.JobInput.{JobInput}
+use Rattle.ks_run_workers.specs.Feeding.{FaultsBy}
 use Rattle.ks_job_source.specs.declared.rest.JobEnd.{JobEnd}
 use Rattle.ks_job_source.specs.declared.rest.JobEnd.TheVariants as end
 use Rattle.ks_job_source.specs.declared.rest.JobRest.{JobRest}
 use Rattle.ks_job_source.specs.Opening.{IsReadable, StandsPast}
 use Rattle.ks_job_source.proofs.Opened.{all_records}
-use Rattle.ks_crew.specs.Ready.{HasWorked}
+use Rattle.ks_run_workers.specs.Ready.{HasWorked}
 use Rattle.ks_law_exactly_once.proofs.Replays.{is_run}
 use Rattle.ks_law_topology.specs.Work.{work_of, setup_of}
 use Rattle.ks_law_topology.proofs.Networks.{works_are_networks}
 use Rattle.ks_law_topology.proofs.Setups.{setups_are_made}
-use Rattle.ks_nodes.specs.Rules.{HaveParts, rules_of}
+use Rattle.ks_def_tasks.specs.Rules.{HaveParts, rules_of}
 use Rattle.ks_law_kinds.specs.Fitting.{FitsPlan, FitsRules}
 use Rattle.ks_law_settled.specs.Jobs.{IsJob, produces}
 use Rattle.ks_law_settled.proofs.Parts.{have_parts as nodes_have_parts}
 use Rattle.ks_job.specs.Items.{ItemView, item_views}
 use Rattle.ks_law_inputs.specs.Records.{records_of, HavePartitions, AreRecords}
 use Rattle.ks_shared.specs.declared.state.Frame.{Frame}
-use Rattle.ks_feed.specs.Placing.{placed_all, IsParted}
-use Rattle.ks_feed.specs.Producing.{IsFilled}
+use Rattle.ks_run_workers.specs.Placing.{placed_all, IsParted}
+use Rattle.ks_run_workers.specs.Producing.{IsFilled}
 use Rattle.ks_settle.specs.Drained.{Extends, drain_worker}
-use Rattle.ks_report.specs.Report.{IsOf}
+use Rattle.ks_settle_report.specs.Report.{IsOf}
 use Rattle.ks_task.proofs.Subs.{inputs_there}
 use Rattle.ks_run.specs.Told.{told, with_lines}
 use Rattle.ks_run.specs.Journals.{placed_records, IsUndrained}
@@ -191,7 +191,7 @@ alone_ready test placing d ts wanted named fine threads =
     (subst (λ us. IsGoodForAll (placed_by (plan_of d) (Some placing)) (drain_worker ∷ []) (everything drain_worker us)) (sym named) (everything_is_good d (Some placing) drain_worker fine threads (omega arith)))
 
 -- ---- the end of a run
-module _ {W : Type 0} (hash : List ℕ → ℕ) (plan : W → TaskPlan) (good : W → PlacementTest) (placing : Placing) (shown : Bool) (d : DraftView) (begun filled : ClusterView W) (intake : Intake) (left now : Option (List ℕ)) (e : JobEnd)
+module _ {W : Type 0} (hash : List ℕ → ℕ) (plan : W → TaskPlan) (good : W → PlacementTest) (placing : Placing) (shown : Bool) (d : DraftView) (begun filled : ClusterView W) (intake : JobInput) (left now : Option (List ℕ)) (e : JobEnd)
     (start : kept.setup_of plan begun ≡ setup_of (rules_of hash) (plan_of d)) (wanted : IsWantedBy good begun.work d placing) (counts : intake.counts.items ≡ map (parts_of_topic (plan_of d)) (topics_of (plan_of d)))
     (job : IsReadable d (item_views intake.records.items) intake.rest) (work : HasWorked begun filled intake left now e) where
   abbrev its_items : List ItemView
@@ -241,7 +241,7 @@ module _ {W : Type 0} (hash : List ℕ → ℕ) (plan : W → TaskPlan) (good : 
         }
 
 -- one of any end
-pub ran_so : {W : Type 0} (hash : List ℕ → ℕ) (plan : W → TaskPlan) (good : W → PlacementTest) (placing : Placing) (shown : Bool) (d : DraftView) (begun filled : ClusterView W) (intake : Intake) (left now : Option (List ℕ)) (e : JobEnd) →
+pub ran_so : {W : Type 0} (hash : List ℕ → ℕ) (plan : W → TaskPlan) (good : W → PlacementTest) (placing : Placing) (shown : Bool) (d : DraftView) (begun filled : ClusterView W) (intake : JobInput) (left now : Option (List ℕ)) (e : JobEnd) →
     kept.setup_of plan begun ≡ setup_of (rules_of hash) (plan_of d) → IsWantedBy good begun.work d placing → intake.counts.items ≡ map (parts_of_topic (plan_of d)) (topics_of (plan_of d)) →
     IsReadable d (item_views intake.records.items) intake.rest → HasWorked begun filled intake left now e → fault_of d ≡ None → FitsPlan (plan_of d) → FitsRules (rules_of hash) →
     (before after status : ℕ) (text : List ℕ) (journal : List Entry) → FaultsBy e before after → EndsBy plan good (rules_of hash) shown d filled e status text journal →

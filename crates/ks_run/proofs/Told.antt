@@ -15,7 +15,7 @@ use Rattle.ks_law_settled.specs.Replayed.{decoded_run}
 use Rattle.ks_law_settled.specs.Settled.{IsRunOf, end_of}
 use Rattle.ks_law_settled.proofs.Tables.{tables_same, plain_same, counts_at_most, total_lack, in_time_none}
 use Rattle.ks_law_settled.proofs.Collisions.{none_in_run, none_found}
-use Rattle.ks_output.specs.Texts.{settled_text, late_text}
+use Rattle.ks_run_output.specs.Texts.{settled_text, late_text}
 use Rattle.ks_run.specs.Journals.{IsJournal}
 use Rattle.ks_run.specs.Told.{told_by, told, lines_of, with_lines, TellsQuery, TellsLate, TellsCollision}
 

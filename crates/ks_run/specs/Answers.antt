@@ -6,19 +6,19 @@ use Rattle.ks_assign.specs.declared.clients.Placing.{Placing}
 use Rattle.ks_def_tasks.specs.Messages.{Rules}
 use Rattle.ks_history.specs.declared.journal.Entry.{Entry}
 use Rattle.ks_job.specs.Reader.{whole}
-use Rattle.ks_job_source.specs.declared.stop.Stop.{Stop}
+use Rattle.ks_job_source.specs.declared.stop.JobStop.{JobStop}
 use Rattle.ks_job_source.specs.Stops.{stop_of}
-use Rattle.ks_output.specs.Texts.{read_fault_text}
+use Rattle.ks_run_output.specs.Texts.{read_fault_text}
 use Rattle.ks_job_source.specs.Texts.{bad_job_text}
 use Rattle.ks_run.specs.Journals.{IsSettledRun, IsLateRun, IsCollidedRun, HasJournal, TookFront, IsUndrained, IsEmptyIf}
 
 -- the bytes are no job that can be run, for this reason
-abbrev pub IsStopped : List ℕ → Stop → Type 0
+abbrev pub IsStopped : List ℕ → JobStop → Type 0
 IsStopped bytes stop = stop_of (whole bytes) ≡ Some stop
 
 -- and the text names it
 abbrev pub IsBadJob : List ℕ → List ℕ → Type 0
-IsBadJob bytes text = (stop : Stop) × IsStopped bytes stop × (text ≡ bad_job_text stop)
+IsBadJob bytes text = (stop : JobStop) × IsStopped bytes stop × (text ≡ bad_job_text stop)
 
 -- some bytes, which are those that the source has left where it tells them, are no job that can be run, and the text names why
 pub record IsRefused (left : Option (List ℕ)) (text : List ℕ) : Type 0 where

@@ -1,10 +1,10 @@
 -- What a run answers, by the words.
 use Rattle.std.specs.Prelude.{◌≡◌, ℕ, Bool, false, List, [], Option, Some, None, is_some}
 use Rattle.ks_assign.specs.declared.clients.Placing.{Placing}
-use Rattle.ks_crew.specs.Members.{placing_of}
+use Rattle.ks_run_workers.specs.Members.{placing_of}
 use Rattle.ks_def_tasks.specs.Messages.{Rules}
 use Rattle.ks_history.specs.declared.journal.Entry.{Entry}
-use Rattle.ks_output.specs.Texts.{bad_words_text}
+use Rattle.ks_run_output.specs.Texts.{bad_words_text}
 use Rattle.ks_words.specs.declared.command.Command.{Command}
 use Rattle.ks_words.specs.declared.command.Command.TheVariants.{Run, Load}
 use Rattle.ks_words.specs.Grammar.{usual}

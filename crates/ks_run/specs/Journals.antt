@@ -15,9 +15,9 @@ use Rattle.ks_history.specs.Settled.{IsSettled as IsAtRest}
 use Rattle.ks_row.specs.declared.record.Rec.{Rec}
 use Rattle.ks_row.specs.declared.record.PartId.{PartId}
 use Rattle.ks_assign.specs.declared.clients.Placing.{Placing}
-use Rattle.ks_placement.specs.Groups.{good_by}
+use Rattle.ks_assign_group.specs.Groups.{good_by}
 use Rattle.ks_cluster.specs.Placed.{ArePlaced}
-use Rattle.ks_feed.specs.Producing.{begins_drain}
+use Rattle.ks_run_workers.specs.Producing.{begins_drain}
 use Rattle.ks_law_exactly_once.specs.Law.{IsRun}
 use Rattle.ks_law_topology.specs.Work.{setup_of}
 use Rattle.ks_job.specs.Items.{ItemView, TopologyAt, RecordTo}

@@ -6,7 +6,7 @@ use Rattle.ks_def_tasks.specs.Messages.{Rules}
 use Rattle.ks_history.specs.declared.journal.Entry.{Entry}
 use Rattle.ks_plan.specs.Plan.{plan_of}
 use Rattle.ks_assign.specs.declared.clients.Placing.{Placing}
-use Rattle.ks_placement.specs.Groups.{good_by}
+use Rattle.ks_assign_group.specs.Groups.{good_by}
 use Rattle.ks_plan.specs.Layout.{tasks}
 use Rattle.ks_plan.specs.Infos.{changelog_numbers}
 use Rattle.ks_history.specs.Machine.{TaskPlan}
@@ -27,8 +27,8 @@ use Rattle.ks_job_source.specs.declared.rest.JobEnd.{JobEnd}
 use Rattle.ks_job_source.specs.declared.rest.JobEnd.TheVariants.{Whole, Stopped, Failed}
 use Rattle.ks_job_source.specs.Opening.{EndsFrom}
 use Rattle.ks_job_source.specs.Texts.{bad_job_text}
-use Rattle.ks_output.specs.Texts.{read_fault_text}
-use Rattle.ks_feed.specs.Feeding.{FaultsBy}
+use Rattle.ks_run_output.specs.Texts.{read_fault_text}
+use Rattle.ks_run_workers.specs.Feeding.{FaultsBy}
 use Rattle.ks_law_settled.specs.Settled.{end_of}
 use Rattle.ks_run.specs.Told.{told, with_lines}
 use Rattle.ks_run.specs.Journals.{IsJournal, IsPlaced, IsUndrained, placed_records}

@@ -12,9 +12,9 @@ use Rattle.ks_history.specs.State.{State}
 use Rattle.ks_law_settled.specs.Collision.{OffsetPair, NodePair, first_pair}
 use Rattle.ks_law_settled.specs.Folded.{folded_tables}
 use Rattle.ks_law_settled.specs.Settled.{end_of, OthersAre, CountsLack}
-use Rattle.ks_report.specs.Joins.{named}
+use Rattle.ks_settle_report.specs.Joins.{named}
 use Rattle.ks_journal.specs.Lines.{journal_text}
-use Rattle.ks_output.specs.Texts.{settled_text, late_text, collision_text}
+use Rattle.ks_run_output.specs.Texts.{settled_text, late_text, collision_text}
 
 -- ---- the text of a collision, of the join by its name
 abbrev pub key_bytes : Option (List ℕ) → List ℕ

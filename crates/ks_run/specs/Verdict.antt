@@ -1,7 +1,7 @@
 -- The status and the text of what a settled cluster has come to.
 use Rattle.std.specs.Prelude.{ℕ, List}
-use Rattle.ks_output.specs.Texts.{settled_text, late_text}
-use Rattle.ks_report.specs.Joins.{join_pair}
+use Rattle.ks_run_output.specs.Texts.{settled_text, late_text}
+use Rattle.ks_settle_report.specs.Joins.{join_pair}
 use Rattle.ks_run.specs.declared.verdict.Verdict.{Verdict}
 use Rattle.ks_run.specs.declared.verdict.Verdict.TheVariants.{Settled, Late, Collided}
 use Rattle.ks_run.specs.Told.{pair_text}

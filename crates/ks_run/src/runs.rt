@@ -2,22 +2,22 @@
 ghost use Rattle.std.specs.Prelude.{◌≡◌, ◌⊎◌, ℕ, List, [], length, is_some};
 ghost use Rattle.std.specs.Io.KnownBytes.{Appends, IsAtEnd};
 ghost use Rattle.ks_edge.specs.Causes.{Rose};
-ghost use Rattle.ks_nodes.specs.Rules.{rules_of};
-ghost use Rattle.ks_output.specs.Bytes.{AppendsFront};
-ghost use Rattle.ks_output.specs.Texts.{read_fault_text};
-ghost use Rattle.ks_crew.specs.Members.{placing_of};
+ghost use Rattle.ks_def_tasks.specs.Rules.{rules_of};
+ghost use Rattle.ks_run_output.specs.Bytes.{AppendsFront};
+ghost use Rattle.ks_run_output.specs.Texts.{read_fault_text};
+ghost use Rattle.ks_run_workers.specs.Members.{placing_of};
 ghost use Rattle.ks_words.specs.Ranges.{HasRanges};
 ghost use Rattle.ks_run.specs.Journals.{IsSettledRun, IsLateRun, IsCollidedRun, HasJournal, TookFront, IsUndrained, IsEmptyIf, IsInTime, IsWithoutCollision};
 ghost use Rattle.ks_run.specs.Answers.{IsRefused, IsJudged, IsStatus};
 
 use crate::outcome::judge_job;
 use crate::status::{NO_MEMORY, WRITE_FAULT};
-use ks_crew::Crew;
 use ks_edge::{Gate, Sink, Source};
 use ks_hash::Hash128;
 use ks_history::Journal;
-use ks_output::write_output;
 use ks_row::Seq;
+use ks_run_output::write_output;
+use ks_run_workers::RunWorkers;
 use ks_words::Settings;
 use std::alloc::Global;
 use std::sync::Wait;
@@ -46,7 +46,7 @@ pub struct Ended {
 /// hash.
 ///
 /// The source is read until the topology is whole. Then each record is produced as soon as its line is, while the workers run, each in a thread of its own: `threads` of them for each of so many
-/// `instances`, with `standbys` of each task. They take and commit the records, and what they leave the drain does (`ks_crew`, `ks_settle`); where a line is faulty or the source fails there is none.
+/// `instances`, with `standbys` of each task. They take and commit the records, and what they leave the drain does (`ks_run_workers`, `ks_settle`); where a line is faulty or the source fails there is none.
 /// With `stop` the source is read whole first. The worker w is told its acts by the gate w, which begins for it with `chaos` and `interval`, and has the
 /// turns of `stop`; gates that are left over are dropped unasked. The journal is empty where the topology isn't known, or is refused, and with `stop` under statuses 2 and 6.
 /// With `journal` the journal's lines come last under statuses 0, 3 and 5 (`ks_journal`). A line is whole at its line feed, at its byte 65,537, or at the end of the input; the source isn't asked again once a
@@ -116,7 +116,7 @@ pub fn run_job<H: Hash128 + Send + Sync, R: Threads + Wait + Sync, S: Source + S
     ensures only { IsStatus result.status }
     ensures words { result.status ≡ 1 → ⊥ }
 {
-    let crew = Crew {
+    let crew = RunWorkers {
         settings: *settings,
         gates,
     };

@@ -14,9 +14,9 @@ ghost use Rattle.ks_job_source.specs.Opening.{IsReadable};
 ghost use Rattle.ks_law_inputs.specs.Records.{HavePartitions};
 ghost use Rattle.ks_law_topology.specs.Work.{work_of, setup_of as topology_setup};
 ghost use Rattle.ks_law_kinds.specs.Fitting.{FitsRules};
-ghost use Rattle.ks_nodes.specs.Rules.{rules_of};
+ghost use Rattle.ks_def_tasks.specs.Rules.{rules_of};
 ghost use Rattle.ks_words.specs.Ranges.{HasRanges};
-ghost use Rattle.ks_crew.specs.Members.{placing_of};
+ghost use Rattle.ks_run_workers.specs.Members.{placing_of};
 ghost use Rattle.ks_run.specs.Told.{lines_of, with_lines};
 ghost use Rattle.ks_run.specs.Verdict.{told_as};
 ghost use Rattle.ks_run.specs.Settling.{IsWantedBy, AreWanted, IsEnded, IsLeft, EndsBy, RunsJob};
@@ -25,17 +25,15 @@ use crate::answer::Answer;
 use crate::status::{BAD_JOB, READ_FAULT};
 use crate::verdict::{Verdict, judge, print_verdict};
 use ks_cluster::{Cluster, Work};
-use ks_crew::{Crew, placing_of, run_crew};
 use ks_edge::{Gate, Source};
-use ks_feed::{Intake, counts_of};
 use ks_hash::Hash128;
 use ks_history::Entry;
 use ks_job_source::{JobEnd, OpenJob, print_bad_job};
 use ks_journal::push_journal;
-use ks_law_kinds::topology_fits;
-use ks_output::print_read_fault;
+use ks_run_output::print_read_fault;
+use ks_run_workers::{JobInput, RunWorkers, counts_of, placing_of, run_workers};
 use ks_settle::drain;
-use ks_task::TaskWork;
+use ks_task::{TaskWork, topology_fits};
 use ks_topo::{Topology, share_topology};
 use std::alloc::{AllocError, Global};
 use std::sync::Wait;
@@ -179,9 +177,9 @@ fn settle<H: Hash128 + Send + Sync, R: Threads + Wait + Sync, W: Work + Send + S
     alloc: Global,
     topology: &Topology,
     work: W,
-    intake: Intake,
+    intake: JobInput,
     input: &mut S,
-    crew: Crew<Box<dyn Gate + Send>>,
+    crew: RunWorkers<Box<dyn Gate + Send>>,
 ) -> Result<Answer, AllocError>
     requires settings { HasRanges crew.settings }
     requires gates { length crew.gates.items ≡ 16 }
@@ -202,8 +200,9 @@ fn settle<H: Hash128 + Send + Sync, R: Threads + Wait + Sync, W: Work + Send + S
     let _nodes = topology.nodes();
     let empty = begin(alloc, topology, work, intake.counts.as_slice())?;
     let shown = crew.settings.journal;
-    let Ok((cluster, end)) = run_crew::<H, R, W, S>(rt, alloc, topology, empty, intake, input, crew)
-    else {
+    let Ok((cluster, end)) = run_workers::<H, R, W, S>(
+        rt, alloc, topology, empty, intake, input, crew,
+    ) else {
         return Err(AllocError);
     };
     end_by::<H, R, W>(rt, alloc, topology, cluster, end, shown)
@@ -216,7 +215,7 @@ pub fn settle_job<H: Hash128 + Send + Sync, R: Threads + Wait + Sync, S: Source>
     alloc: Global,
     job: OpenJob,
     input: &mut S,
-    crew: Crew<Box<dyn Gate + Send>>,
+    crew: RunWorkers<Box<dyn Gate + Send>>,
 ) -> Result<Answer, AllocError>
     requires settings { HasRanges crew.settings }
     requires gates { length crew.gates.items ≡ 16 }
@@ -238,7 +237,7 @@ pub fn settle_job<H: Hash128 + Send + Sync, R: Threads + Wait + Sync, S: Source>
     let placing = placing_of(&crew.settings);
     let work = TaskWork::<H>::new(&topology, Some(placing));
     let counts = counts_of(alloc, topology.topics())?;
-    let intake = Intake {
+    let intake = JobInput {
         counts,
         records,
         rest,

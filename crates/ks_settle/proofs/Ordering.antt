@@ -28,7 +28,7 @@ use Rattle.ks_law_settled.proofs.Inside.{topologies_send_inside}
 use Rattle.ks_law_settled.specs.Routes.{JoinsHaveParts}
 use Rattle.ks_cluster.specs.View.{ClusterView, setup_of, state_of}
 use Rattle.ks_commit.specs.declared.publisher.Publisher.{Publisher}
-use Rattle.ks_nodes.specs.Rules.{HaveParts, rules_of}
+use Rattle.ks_def_tasks.specs.Rules.{HaveParts, rules_of}
 use Rattle.ks_law_quiescence.proofs.Fits.{each_at, node_stands}
 use Rattle.ks_law_quiescence.proofs.WellFormed.{well_formed_fits}
 use Rattle.ks_task.specs.declared.task.Task.{Task}

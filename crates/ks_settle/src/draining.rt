@@ -9,13 +9,13 @@ ghost use Rattle.ks_cluster.specs.View.{setup_of, state_of};
 ghost use Rattle.ks_commit.specs.Committed.{works_of, tasks_in as worked_in, IsReady};
 ghost use Rattle.ks_commit.specs.Everything.{everything, IsGoodForAll};
 ghost use Rattle.ks_commit.specs.Work.{work_view};
-ghost use Rattle.ks_nodes.specs.Rules.{HaveParts, rules_of};
+ghost use Rattle.ks_def_tasks.specs.Rules.{HaveParts, rules_of};
 ghost use Rattle.ks_settle.specs.Drained.{MayDrain, IsOfTopology, MayRead, with_work, IsRead, Rests, tasks_in, AreTried, AreReading, AreResting, HasTasksOf, drain_worker, DrainsOn, Extends};
 
+use crate::committed::tell;
 use crate::reading::read_task;
 use crate::removing::{remove_workers, write_all_markers};
 use crate::restoring::restore_tasks;
-use crate::telling::tell;
 use ks_cluster::{Cluster, Work};
 use ks_commit::{Frozen, Publisher, commit};
 use ks_hash::Hash128;

@@ -1,10 +1,10 @@
 //! A cluster is brought to rest.
 #![tactic(auto)]
 
+mod committed;
 mod draining;
 mod reading;
 mod removing;
 mod restoring;
-mod telling;
 
 pub use draining::drain;

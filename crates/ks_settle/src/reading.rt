@@ -7,7 +7,7 @@ ghost use Rattle.ks_law_topology.specs.Work.{work_of};
 ghost use Rattle.ks_cluster.specs.View.{ClusterView, setup_of, state_of};
 ghost use Rattle.ks_law_restore.specs.Views.{take_all};
 ghost use Rattle.ks_commit.specs.Work.{work_view};
-ghost use Rattle.ks_nodes.specs.Rules.{rules_of};
+ghost use Rattle.ks_def_tasks.specs.Rules.{rules_of};
 ghost use Rattle.ks_task.specs.Tasks.{task_view, IsTaskOf};
 ghost use Rattle.ks_settle.specs.Drained.{MayRead, Rests, IsFetched, IsReadOn, IsRead, IsReader};
 

@@ -5,7 +5,7 @@ ghost use Rattle.ks_history.specs.State.{has_task};
 ghost use Rattle.ks_topo.specs.Topologies.{draft_of, plan_in};
 ghost use Rattle.ks_cluster.specs.View.{setup_of, state_of};
 ghost use Rattle.ks_commit.specs.Committed.{IsReady};
-ghost use Rattle.ks_nodes.specs.Rules.{HaveParts};
+ghost use Rattle.ks_def_tasks.specs.Rules.{HaveParts};
 ghost use Rattle.ks_settle.specs.Drained.{MayDrain, HasTasksOf, Rests, AreRestored};
 ghost use Rattle.ks_settle.specs.Restoring.{IsQuiet, IsReplicaOf, IsFedOn, IsFedTo, HasReachedFirst};
 

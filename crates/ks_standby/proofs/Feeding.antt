@@ -3,7 +3,7 @@ use Rattle.std.proofs.Common.{◌≡◌, ℕ, zero, suc, ◌+◌, ◌<◌, ◌==
 use Rattle.std.specs.Prelude.{if◌then◌else◌}
 use Rattle.std.proofs.Math.Path.{fun_ext}
 use Rattle.std.proofs.lemmas.Bool.{eqb-true, true≢false}
-use Rattle.ks_def_maps.specs.Bytes.{Store, empty_store}
+use Rattle.ks_def_runs.specs.Bytes.{Store, empty_store}
 use Rattle.ks_row.specs.declared.record.Rec.{Rec}
 use Rattle.ks_row.specs.declared.record.TaskId.{TaskId}
 use Rattle.ks_history.specs.declared.journal.Entry.{Entry}
@@ -13,9 +13,9 @@ use Rattle.ks_history.specs.Follows.{ReplicaView, ReplicaFollows}
 use Rattle.ks_law_restore.specs.Replicas.{fresh_replica, fed_replica}
 use Rattle.ks_law_restore.proofs.Replicas.{feeding_follows}
 use Rattle.ks_store.specs.Restored.{records_of}
-use Rattle.ks_processors.specs.declared.changelogs.Changelog.{Changelog}
+use Rattle.ks_store.specs.declared.changelogs.Changelog.{Changelog}
 use Rattle.ks_standby.specs.declared.replica.Replica.{Replica}
-use Rattle.ks_processors.specs.Steps.{stores_in}
+use Rattle.ks_store.specs.Changelogs.{stores_in}
 use Rattle.ks_standby.specs.Replicas.{positions_in, numbers_of, fed, view_in, replica_view, IsReplicaIn, GivesFetched, FollowsOn}
 
 -- ---- a loop that changes each element

@@ -9,8 +9,8 @@ use Rattle.ks_history.specs.Reads.{fetched}
 use Rattle.ks_history.specs.Follows.{ReplicaView, ReplicaFollows}
 use Rattle.ks_history.specs.History.{at}
 use Rattle.ks_store.specs.Restored.{records_of}
-use Rattle.ks_processors.specs.Steps.{stores_in}
-use Rattle.ks_processors.specs.declared.changelogs.Changelog.{Changelog}
+use Rattle.ks_store.specs.Changelogs.{stores_in}
+use Rattle.ks_store.specs.declared.changelogs.Changelog.{Changelog}
 use Rattle.ks_standby.specs.declared.replica.Replica.{Replica}
 
 abbrev pub positions_in : List Changelog → ℕ → ℕ

@@ -1,11 +1,10 @@
 //! The changelogs of a task, and feeding them.
 ghost use Rattle.std.specs.Prelude.{◌≡◌, IfOk, OnOk, map};
-ghost use Rattle.ks_def_maps.specs.Bytes.{empty_store};
+ghost use Rattle.ks_def_runs.specs.Bytes.{empty_store};
 ghost use Rattle.ks_standby.specs.Replicas.{positions_in, fed};
 
-use ks_processors::Changelog;
 use ks_row::Rec;
-use ks_store::{OrderedStore, restore};
+use ks_store::{Changelog, OrderedStore, restore};
 use std::alloc::{AllocError, Global};
 
 /// New changelogs, with empty stores.

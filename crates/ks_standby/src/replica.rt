@@ -7,8 +7,8 @@ ghost use Rattle.ks_law_restore.specs.Replicas.{fresh_replica, fed_replica};
 ghost use Rattle.ks_standby.specs.Replicas.{replica_view, changelogs_of, position_sum, GivesFetched, FollowsOn};
 
 use crate::changelogs::{feed_changelogs, new_changelogs, position_in_changelog};
-use ks_processors::Changelog;
 use ks_row::{Rec, TaskId};
+use ks_store::Changelog;
 use std::alloc::{AllocError, Global};
 
 /// The stores of a task, and a position in each of its changelogs. Kafka Streams: a `StandbyTask`.

@@ -11,7 +11,7 @@ use Rattle.std.specs.List.{starts_with}
 use Rattle.std.specs.FinMap.Entries.{where_key, below_all, is_sorted-where_key}
 use Rattle.std.specs.BTreeMap.Range.{entries_between}
 use Rattle.std.proofs.lemmas.Bool.{true≢false}
-use Rattle.ks_def_maps.specs.Bytes.{by_bytes}
+use Rattle.ks_def_runs.specs.Bytes.{by_bytes}
 use Rattle.ks_store.specs.Pairs.{pairs_of, Rises}
 use Rattle.ks_store.proofs.Trees.{Entry, by_items, first, second, less_is, under}
 
@@ -133,19 +133,19 @@ walk_begins front start all rest found is up these none =
 
 pub walked_on : (front : List ℕ) (all rest next : List Entry) (found more : Pairs) (e : Entry) → Walked front all found rest → rest ≡ e ∷ next → starts_with ◌==◌ e.0.items front ≡ true → more ≡ found ++ (e.0.items, e.1.items) ∷ [] → Walked front all more next
 walked_on front all rest next found more e walked is begins longer =
-    let held : Walked front all found (e ∷ next) = subst (λ (r : List Entry). Walked front all found r) is walked in
+    let with_found : Walked front all found (e ∷ next) = subst (λ (r : List Entry). Walked front all found r) is walked in
     let x : List ℕ × List ℕ = (e.0.items, e.1.items) in
     let under_next = under front (pairs_of next) in (
       ap (λ (f : Pairs). f ++ under_next) longer ∙ (append_assoc found (x ∷ []) under_next
-          ∙ (ap (λ (t : Bool). found ++ cond t (x ∷ under_next) under_next) (sym begins) ∙ held.0)),
-      second _ _ held.1,
-      held.2.1,
+          ∙ (ap (λ (t : Bool). found ++ cond t (x ∷ under_next) under_next) (sym begins) ∙ with_found.0)),
+      second _ _ with_found.1,
+      with_found.2.1,
     )
 
 pub walk_ends : (front : List ℕ) (all rest next : List Entry) (found : Pairs) (e : Entry) → Walked front all found rest → rest ≡ e ∷ next → starts_with ◌==◌ e.0.items front ≡ false → found ≡ under front (pairs_of all)
 walk_ends front all rest next found e walked is apart =
-    let held : Walked front all found (e ∷ next) = subst (λ (r : List Entry). Walked front all found r) is walked in
-    sym (append-nil found) ∙ (ap (λ (y : Pairs). found ++ y) (sym (none_more front (e.0.items, e.1.items) (pairs_of next) held.1 held.2 apart)) ∙ held.0)
+    let with_found : Walked front all found (e ∷ next) = subst (λ (r : List Entry). Walked front all found r) is walked in
+    sym (append-nil found) ∙ (ap (λ (y : Pairs). found ++ y) (sym (none_more front (e.0.items, e.1.items) (pairs_of next) with_found.1 with_found.2 apart)) ∙ with_found.0)
 
 pub walked_all : (front : List ℕ) (all rest : List Entry) (found : Pairs) → Walked front all found rest → rest ≡ [] → found ≡ under front (pairs_of all)
 walked_all front all rest found walked is =

@@ -1,4 +1,6 @@
 pub mod Trees
+pub mod Tables
 pub mod Fronts
 pub mod Applied
 pub mod Called
+pub mod NoChangelog

@@ -13,9 +13,10 @@ use Rattle.std.specs.BTreeMap.{insert_entry, is_at}
 use Rattle.std.specs.FinMap.Entries.{find, put, where_key, by_order, below_all}
 use Rattle.std.proofs.lemmas.Cmp.{nat_list_cmp_total}
 use Rattle.std.proofs.lemmas.List.{length-map}
-use Rattle.ks_def_maps.specs.Bytes.{by_bytes, empty_store}
-use Rattle.ks_def_maps.specs.FinMap as fin
-use Rattle.ks_store.specs.Pairs.{pairs_of, Rises, ArePairs, IsTree, store_of}
+use Rattle.ks_def_runs.specs.Bytes.{by_bytes, empty_store}
+use Rattle.ks_def_runs.specs.FinMap as fin
+use Rattle.ks_store.specs.Pairs.{pairs_of, Rises, IsTree, store_of}
+use Rattle.ks_def_runs.specs.Pairs.{ArePairs}
 use Rattle.ks_row.specs.Spelling.{IsBytes}
 use Rattle.std.specs.Prelude.{Result, Ok, Err, OnOk, OnErr, ⊤}
 use Rattle.std.specs.declared.alloc.AllocError.{AllocError}

@@ -1,8 +1,8 @@
 -- What a finite map answers to calls, and what they leave of it.
 use Rattle.std.specs.Prelude.{List, [], ◌∷◌}
-use Rattle.ks_def_maps.specs.Bytes.{Store}
-use Rattle.ks_def_maps.specs.FinMap as map
-use Rattle.ks_store.specs.Prefixes.{pairs_under}
+use Rattle.ks_def_runs.specs.Bytes.{Store}
+use Rattle.ks_def_runs.specs.FinMap as map
+use Rattle.ks_def_runs.specs.Prefixes.{pairs_under}
 use Rattle.ks_store.specs.declared.calls.StoreCall.{StoreCall}
 use Rattle.ks_store.specs.declared.calls.StoreCall.TheVariants.{Put, Delete, Get, Prefix}
 use Rattle.ks_store.specs.declared.calls.StoreReply.{StoreReply}

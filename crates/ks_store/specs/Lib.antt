@@ -1,4 +1,5 @@
-pub mod Prefixes
 pub mod Restored
 pub mod Pairs
+pub mod Rows
 pub mod Calls
+pub mod Changelogs

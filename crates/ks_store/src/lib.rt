@@ -2,14 +2,18 @@
 #![tactic(auto)]
 
 mod calls;
+mod changelogs;
 mod ordered;
 mod pairs;
 mod plain;
 mod restoring;
+mod rows;
 mod store;
+mod table;
 mod tree;
 
 pub use calls::{StoreCall, StoreReply, run_calls};
+pub use changelogs::{Changelog, find_bytes};
 pub use ordered::OrderedStore;
 pub use plain::PlainStore;
 pub use restoring::restore;

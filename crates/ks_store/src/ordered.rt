@@ -1,27 +1,27 @@
 //! A store that looks at the pairs of a prefix alone.
 ghost use Rattle.std.specs.Prelude.{◌≡◌};
-ghost use Rattle.ks_def_maps.specs.Bytes.{empty_store};
-ghost use Rattle.ks_def_maps.specs.FinMap as map;
-ghost use Rattle.ks_store.specs.Pairs.{ArePairs};
+ghost use Rattle.ks_def_runs.specs.Bytes.{empty_store};
+ghost use Rattle.ks_def_runs.specs.FinMap as map;
+ghost use Rattle.ks_def_runs.specs.Pairs.{ArePairs};
 
 use crate::store::KvStore;
-use crate::tree::Tree;
+use crate::table::Table;
 use ks_row::Blob;
 use std::alloc::{AllocError, Global};
 use std::marker::Model;
 
-/// A store in a tree by keys; `prefix` looks its first pair up and goes on to the last.
+/// A store in a hash table by keys; `prefix` looks its first pair up and goes on to the last where it begins with a length.
 #[derive(Drop)]
 pub struct OrderedStore {
-    tree: Tree,
+    table: Table,
 }
 
 impl Model for OrderedStore {
-    ghost use Rattle.ks_def_maps.specs.Bytes.{Store};
+    ghost use Rattle.ks_def_runs.specs.Bytes.{Store};
 
     ghost Value = { Store };
 
-    ghost view = { λ s. s.tree };
+    ghost view = { λ s. s.table };
 }
 
 impl OrderedStore {
@@ -30,7 +30,7 @@ impl OrderedStore {
         ensures { result ≡ empty_store }
     {
         OrderedStore {
-            tree: Tree::new(alloc),
+            table: Table::new(alloc),
         }
     }
 
@@ -38,7 +38,7 @@ impl OrderedStore {
     pub fn holds_bytes(&self)
         ensures { ArePairs (map.entries self.now) }
     {
-        self.tree.holds_bytes();
+        self.table.holds_bytes();
     }
 }
 
@@ -46,22 +46,22 @@ impl KvStore for OrderedStore {
     ghost contents = { λ s. s };
 
     fn get(&self, key: &[u8]) -> Option<&[u8]> {
-        self.tree.get(key)
+        self.table.get(key)
     }
 
     fn put(&mut self, key: &[u8], value: &[u8]) -> Result<(), AllocError> {
-        self.tree.put(key, value)
+        self.table.put(key, value)
     }
 
     fn delete(&mut self, key: &[u8]) {
-        self.tree.delete(key);
+        self.table.delete(key);
     }
 
     fn prefix(&self, front: &[u8]) -> Result<Vec<(Blob, Blob)>, AllocError> {
-        self.tree.seek(front)
+        self.table.seek(front)
     }
 
     fn len(&self) -> usize {
-        self.tree.len()
+        self.table.len()
     }
 }

@@ -3,7 +3,7 @@ ghost use Rattle.std.specs.Prelude.{◌≡◌, ℕ, List, IfOk, OnOk, OnErr, opt
 ghost use Rattle.std.specs.List.{filter, starts_with};
 ghost use Rattle.std.specs.Ordering.{eq_by_cmp};
 ghost use Rattle.std.specs.FinMap.Entries.{find, put, where_key, is_sorted};
-ghost use Rattle.ks_def_maps.specs.Bytes.{by_bytes};
+ghost use Rattle.ks_def_runs.specs.Bytes.{by_bytes};
 ghost use Rattle.ks_store.specs.Pairs.{pairs_of, Rises};
 
 use ks_row::Blob;

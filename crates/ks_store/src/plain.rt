@@ -1,8 +1,8 @@
 //! A store that looks at every pair to find those of a prefix.
 ghost use Rattle.std.specs.Prelude.{◌≡◌};
-ghost use Rattle.ks_def_maps.specs.Bytes.{empty_store};
-ghost use Rattle.ks_def_maps.specs.FinMap as map;
-ghost use Rattle.ks_store.specs.Pairs.{ArePairs};
+ghost use Rattle.ks_def_runs.specs.Bytes.{empty_store};
+ghost use Rattle.ks_def_runs.specs.FinMap as map;
+ghost use Rattle.ks_def_runs.specs.Pairs.{ArePairs};
 
 use crate::store::KvStore;
 use crate::tree::Tree;
@@ -17,7 +17,7 @@ pub struct PlainStore {
 }
 
 impl Model for PlainStore {
-    ghost use Rattle.ks_def_maps.specs.Bytes.{Store};
+    ghost use Rattle.ks_def_runs.specs.Bytes.{Store};
 
     ghost Value = { Store };
 

@@ -1,6 +1,6 @@
 //! A store from its changelog.
 ghost use Rattle.std.specs.Prelude.{◌≡◌, ◌≤◌, OnOk, OnErr, ℕ, List, map, take, length};
-ghost use Rattle.ks_def_maps.specs.Bytes.{Store};
+ghost use Rattle.ks_def_runs.specs.Bytes.{Store};
 ghost use Rattle.ks_history.specs.Machine.{applied, latest_from};
 ghost use Rattle.ks_store.specs.Restored.{records_of};
 

@@ -1,8 +1,8 @@
 //! What a store is, however it is kept.
 ghost use Rattle.std.specs.Prelude.{◌≡◌, IfOk, OnOk, OnErr, option_map};
-ghost use Rattle.ks_def_maps.specs.Bytes.{Store};
-ghost use Rattle.ks_def_maps.specs.FinMap as map;
-ghost use Rattle.ks_store.specs.Prefixes.{pairs_under};
+ghost use Rattle.ks_def_runs.specs.Bytes.{Store};
+ghost use Rattle.ks_def_runs.specs.FinMap as map;
+ghost use Rattle.ks_def_runs.specs.Prefixes.{pairs_under};
 
 use ks_row::Blob;
 use std::alloc::AllocError;

@@ -1,11 +1,11 @@
-//! A finite map from bytes to bytes in a tree by keys, of which the stores are made.
+//! A finite map from bytes to bytes in a tree by keys, of which the plain store is made.
 ghost use Rattle.std.specs.Prelude.{◌≡◌, IfOk, OnOk, OnErr, option_map};
-ghost use Rattle.ks_def_maps.specs.Bytes.{Store, empty_store};
-ghost use Rattle.ks_def_maps.specs.FinMap as map;
-ghost use Rattle.ks_store.specs.Pairs.{ArePairs};
-ghost use Rattle.ks_store.specs.Prefixes.{pairs_under};
+ghost use Rattle.ks_def_runs.specs.Bytes.{Store, empty_store};
+ghost use Rattle.ks_def_runs.specs.FinMap as map;
+ghost use Rattle.ks_def_runs.specs.Pairs.{ArePairs};
+ghost use Rattle.ks_def_runs.specs.Prefixes.{pairs_under};
 
-use crate::pairs::{Pairs, pairs_from, pairs_with, set_at, take_away, value_at};
+use crate::pairs::{Pairs, pairs_with, set_at, take_away, value_at};
 use ks_row::Blob;
 use std::alloc::{AllocError, Global};
 use std::collections::BTreeMap;
@@ -19,7 +19,7 @@ pub struct Tree {
 }
 
 impl Model for Tree {
-    ghost use Rattle.ks_def_maps.specs.Bytes.{Store};
+    ghost use Rattle.ks_def_runs.specs.Bytes.{Store};
     ghost use Rattle.ks_store.specs.Pairs.{store_of, pairs_of, IsTree};
 
     ghost Value = { Store };
@@ -73,13 +73,6 @@ impl Tree {
         ensures { IfOk result (λ v. v.items ≡ pairs_under front.now self.now) }
     {
         pairs_with(self.alloc, &self.pairs, front)
-    }
-
-    /// The same; looks the first of them up, and stops behind the last.
-    pub fn seek(&self, front: &[u8]) -> Result<Vec<(Blob, Blob)>, AllocError>
-        ensures { IfOk result (λ v. v.items ≡ pairs_under front.now self.now) }
-    {
-        pairs_from(self.alloc, &self.pairs, front)
     }
 
     pub fn len(&self) -> usize

@@ -6,7 +6,7 @@ use Rattle.ks_plan.specs.Layout.{tasks}
 use Rattle.ks_plan.specs.Plan.{plan_of}
 use Rattle.ks_law_topology.proofs.Setups.{setups_are_made}
 use Rattle.ks_commit.specs.Everything.{at_worker, everything}
-use Rattle.ks_placement.proofs.Alone.{alone_is_good}
+use Rattle.ks_assign_group.proofs.Alone.{alone_is_good}
 use Rattle.ks_task.specs.Placing.{EverythingIsGood}
 
 all_at : (w : ℕ) (ts : List TaskId) → at_worker w ts ≡ map (λ t. (t, w)) ts

@@ -8,7 +8,7 @@ use Rattle.ks_row.specs.declared.record.Rec.{Rec}
 use Rattle.ks_row.specs.declared.record.PartId.{PartId}
 use Rattle.ks_row.specs.declared.record.TaskId.{TaskId}
 use Rattle.ks_row.specs.Parts.{same_part}
-use Rattle.ks_def_maps.specs.Bytes.{Store}
+use Rattle.ks_def_runs.specs.Bytes.{Store}
 use Rattle.ks_def_runs.specs.Run.{Outcome, sent_to}
 use Rattle.ks_plan.specs.Drafts.{DraftView}
 use Rattle.ks_plan.specs.Plan.{Plan, Kind, plan_of}
@@ -22,13 +22,14 @@ use Rattle.ks_law_topology.specs.Work.{work_of}
 use Rattle.ks_law_restore.specs.Replicas.{restored_view}
 use Rattle.ks_law_restore.specs.Views.{with_taken, take_view, skip_view, committed_view, WorkView, IsFrozen, recs_at, are_outputs}
 use Rattle.ks_task.specs.declared.inputs.Input.{Input}
-use Rattle.ks_processors.specs.declared.changelogs.Changelog.{Changelog}
-use Rattle.ks_nodes.specs.declared.topics.NodeTopics.{NodeTopics}
-use Rattle.ks_nodes.specs.Rules.{rules_of}
+use Rattle.ks_store.specs.declared.changelogs.Changelog.{Changelog}
+use Rattle.ks_task_nodes.specs.declared.topics.NodeTopics.{NodeTopics}
+use Rattle.ks_def_tasks.specs.Rules.{rules_of}
 use Rattle.ks_law_step.specs.Whole.{IsRecord, AreStores}
-use Rattle.ks_nodes.specs.Nodes.{nodes_of}
-use Rattle.ks_nodes.specs.Records.{arrival_at}
-use Rattle.ks_processors.specs.Steps.{stores_in, made_or_none, late_or_none}
+use Rattle.ks_task_nodes.specs.Nodes.{nodes_of}
+use Rattle.ks_task_nodes.specs.Records.{arrival_at}
+use Rattle.ks_task_step.specs.Steps.{made_or_none, late_or_none}
+use Rattle.ks_store.specs.Changelogs.{stores_in}
 use Rattle.ks_standby.specs.Replicas.{positions_in, numbers_of, view_in}
 use Rattle.ks_task.specs.Views.{position_in, committed_in, topics_in, moved_to, with_committed, input_at, log_after, ended, own_ends, view_of, IsTask, are_committed, grouped}
 use Rattle.ks_task.proofs.Stepping.{step_is}

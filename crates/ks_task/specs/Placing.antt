@@ -8,7 +8,7 @@ use Rattle.ks_plan.specs.Plan.{Plan, plan_of}
 use Rattle.ks_cluster.specs.Placed.{PlacementTest}
 use Rattle.ks_commit.specs.Everything.{everything, IsGoodForAll}
 use Rattle.ks_assign.specs.declared.clients.Placing.{Placing}
-use Rattle.ks_placement.specs.Groups.{good_by}
+use Rattle.ks_assign_group.specs.Groups.{good_by}
 
 -- with a placing those that are good by it; without one each
 abbrev pub placed_by : Plan → Option Placing → PlacementTest

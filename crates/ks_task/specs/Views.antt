@@ -1,5 +1,5 @@
 -- A task's inputs and changelogs as lists, and the view that they are.
-use Rattle.std.specs.Prelude.{◌≡◌, ℕ, ◌+◌, ◌==◌, Bool, true, false, List, [], ◌∷◌, ◌++◌, map, None, Option, Some, if◌then◌else◌}
+use Rattle.std.specs.Prelude.{◌≡◌, ℕ, ◌+◌, ◌-◌, ◌==◌, Bool, true, false, List, [], ◌∷◌, ◌++◌, map, None, Option, Some, if◌then◌else◌}
 use Rattle.std.specs.List.{filter}
 use Rattle.ks_row.specs.declared.record.Rec.{Rec}
 use Rattle.ks_row.specs.declared.record.PartId.{PartId}
@@ -17,11 +17,11 @@ use Rattle.ks_history.specs.Machine.{has_topic}
 use Rattle.ks_history.specs.State.{has_task, offset_in}
 use Rattle.ks_history.specs.Follows.{TaskView}
 use Rattle.ks_task.specs.declared.inputs.Input.{Input}
-use Rattle.ks_nodes.specs.declared.topics.NodeTopics.{NodeTopics}
-use Rattle.ks_nodes.specs.Rules.{HaveParts}
-use Rattle.ks_nodes.specs.Nodes.{topics_from}
-use Rattle.ks_processors.specs.declared.changelogs.Changelog.{Changelog}
-use Rattle.ks_processors.specs.Steps.{stores_in}
+use Rattle.ks_task_nodes.specs.declared.topics.NodeTopics.{NodeTopics}
+use Rattle.ks_def_tasks.specs.Rules.{HaveParts}
+use Rattle.ks_task_nodes.specs.Nodes.{topics_from}
+use Rattle.ks_store.specs.declared.changelogs.Changelog.{Changelog}
+use Rattle.ks_store.specs.Changelogs.{stores_in}
 use Rattle.ks_standby.specs.Replicas.{positions_in, numbers_of}
 use Rattle.ks_law_kinds.specs.Fitting.{FitsPlan}
 
@@ -42,6 +42,11 @@ moved_to topic position x = if topic == x.topic then record { topic = x.topic; c
 
 abbrev pub with_committed : Input → Input
 with_committed x = record { topic = x.topic; committed = x.position; position = x.position }
+
+-- how far the positions are past the committed offsets, in all
+abbrev pub uncommitted_in : List Input → ℕ
+uncommitted_in [] = 0
+uncommitted_in (x ∷ xs) = (x.position - x.committed) + uncommitted_in xs
 
 -- an input at an offset that is committed
 abbrev pub input_at : ℕ × ℕ → Input

@@ -4,13 +4,12 @@ ghost use Rattle.ks_def_tasks.specs.Bytes.{keep_bytes, keep_all as kept_all, rec
 ghost use Rattle.ks_history.specs.State.{offset_in};
 ghost use Rattle.ks_row.specs.Spelling.{IsBytes};
 ghost use Rattle.ks_law_step.specs.Whole.{IsRecord, AreStores};
-ghost use Rattle.ks_processors.specs.Steps.{stores_in};
+ghost use Rattle.ks_store.specs.Changelogs.{stores_in};
 ghost use Rattle.ks_standby.specs.Replicas.{numbers_of};
 ghost use Rattle.ks_task.specs.Views.{log_after, ended};
 
-use ks_processors::Changelog;
 use ks_row::{PartId, Rec};
-use ks_store::{KvStore, OrderedStore};
+use ks_store::{Changelog, KvStore, OrderedStore};
 use std::alloc::{AllocError, Global};
 
 fn keep_rec(store: &mut OrderedStore, rec: &Rec) -> Result<(), AllocError>

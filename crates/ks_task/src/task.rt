@@ -1,5 +1,5 @@
 //! A task at work.
-ghost use Rattle.std.specs.Prelude.{◌≡◌, ℕ, List, IfOk, IfErr, OnOk, map, true, slice_get, option_map};
+ghost use Rattle.std.specs.Prelude.{◌≡◌, ◌-◌, ◌^◌, ℕ, List, IfOk, IfErr, OnOk, map, min, true, slice_get, option_map};
 ghost use Rattle.ks_plan.specs.Drafts.{DraftView};
 ghost use Rattle.ks_plan.specs.Plan.{plan_of};
 ghost use Rattle.ks_topo.specs.Topologies.{draft_of, plan_in};
@@ -12,29 +12,31 @@ ghost use Rattle.ks_law_topology.specs.Work.{work_of};
 ghost use Rattle.ks_law_restore.specs.Replicas.{restored_view, rested_view};
 ghost use Rattle.ks_law_restore.specs.Views.{take_view, skip_view, committed_view, IsFrozen};
 ghost use Rattle.ks_commit.specs.Work.{work_view};
-ghost use Rattle.ks_nodes.specs.Rules.{HaveParts, rules_of};
-ghost use Rattle.ks_nodes.specs.Nodes.{node_view, kinds_in, nodes_of};
-ghost use Rattle.ks_nodes.specs.Records.{arrival_of, arrival_at};
-ghost use Rattle.ks_processors.specs.Steps.{stores_in, made_or_none, late_or_none};
+ghost use Rattle.ks_def_tasks.specs.Rules.{HaveParts, rules_of};
+ghost use Rattle.ks_task_nodes.specs.Nodes.{node_view, kinds_in, nodes_of};
+ghost use Rattle.ks_task_nodes.specs.Records.{arrival_of, arrival_at};
+ghost use Rattle.ks_task_step.specs.Steps.{made_or_none, late_or_none};
+ghost use Rattle.ks_store.specs.Changelogs.{stores_in};
 ghost use Rattle.ks_standby.specs.Replicas.{replica_view, changelogs_of};
 ghost use Rattle.ks_task.specs.Views.{own_ends};
-ghost use Rattle.ks_task.specs.Tasks.{task_view, IsClean, IsTaskOf};
+ghost use Rattle.ks_task.specs.Tasks.{task_view, uncommitted, IsClean, IsTaskOf};
 
 use crate::changelogs::{end_changelogs, hold_bytes, keep_records, record_is_bytes};
+use crate::fitting::topology_fits;
 use crate::freezing::group;
 use crate::inputs::{
     Input, are_all_committed, commit_inputs, inputs_at, move_input, offsets_of, position_of,
-    take_in_order,
+    take_in_order, uncommitted_of,
 };
 use ks_commit::Frozen;
 use ks_hash::Hash128;
-use ks_law_kinds::topology_fits;
-use ks_nodes::{
-    NodeTopics, ProcessorNode, StampedRecord, node_topics, processor_nodes, read_record,
-};
-use ks_processors::{Changelog, Step, StepOutput, process};
 use ks_row::{PartId, Rec, Seq, TaskId};
 use ks_standby::{Replica, position_in_changelog};
+use ks_store::Changelog;
+use ks_task_nodes::{
+    NodeTopics, ProcessorNode, StampedRecord, node_topics, processor_nodes, read_record,
+};
+use ks_task_step::{Step, StepOutput, process};
 use ks_topo::{Topic, Topology};
 use std::alloc::{AllocError, AllocFailed, Global};
 
@@ -286,6 +288,14 @@ impl Task {
         ensures { result ≡ (task_view self.now).inputs topic }
     {
         position_of(&self.inputs, topic)
+    }
+
+    /// How far it has read past its committed offsets: the sum of position minus committed offset over its inputs, or 2^64 - 1 where
+    /// that would be more. Takes no memory.
+    pub fn uncommitted(&self) -> u64
+        ensures { result ≡ min (uncommitted self.now) (2 ^ 64 - 1) }
+    {
+        uncommitted_of(&self.inputs)
     }
 
     /// Whether it took nothing since its last commit, nor passed over anything: each position is its committed offset. Takes no

@@ -6,8 +6,8 @@ use Rattle.ks_history.specs.Machine.{TaskPlan}
 use Rattle.ks_cluster.specs.Placed.{PlacementTest}
 use Rattle.ks_assign.specs.declared.clients.Placing.{Placing}
 use Rattle.ks_worker_turn.specs.Placing.{PlacesBy}
-use Rattle.ks_client.specs.Turns.{GateCounts}
-use Rattle.ks_client.proofs.Moments.{may_later, same_frame}
+use Rattle.ks_worker_client.specs.Turns.{GateCounts}
+use Rattle.ks_worker_client.proofs.Moments.{may_later, same_frame}
 use Rattle.ks_worker_state.specs.declared.state.WorkerState.{WorkerState}
 use Rattle.ks_worker_state.specs.State.{IsWorkerState, LaterState}
 use Rattle.ks_worker_state.proofs.States.{runs_later}

@@ -16,19 +16,19 @@ use Rattle.ks_cluster.specs.View.{ClusterView}
 use Rattle.ks_law_topology.specs.Work.{setup_of as topology_setup}
 use Rattle.ks_law_topology.proofs.Networks.{works_are_networks}
 use Rattle.ks_law_topology.proofs.Setups.{setups_are_made}
-use Rattle.ks_nodes.specs.Rules.{rules_of}
+use Rattle.ks_def_tasks.specs.Rules.{rules_of}
 use Rattle.ks_growing.specs.Passes.{PassView, Each, IsFresh, IsPass}
 use Rattle.ks_shared.specs.declared.state.Frame.{Frame}
 use Rattle.ks_shared.specs.Calls.{frame_of, setup_in}
-use Rattle.ks_client.specs.Turns.{HasRoomFor}
+use Rattle.ks_worker_client.specs.Turns.{HasRoomFor}
 use Rattle.ks_job.specs.Items.{ItemView}
-use Rattle.ks_feed.proofs.Fresh.{fresh_setup, fresh_seen}
+use Rattle.ks_run_workers.proofs.Fresh.{fresh_setup, fresh_seen}
 use Rattle.ks_worker_turn.specs.Placing.{PlacesBy}
 use Rattle.ks_worker.specs.Beginning.{MayRun, HasRoomForTurns}
 use Rattle.ks_worker.proofs.Beginning.{new_may_act}
 use Rattle.ks_worker_state.specs.declared.state.WorkerState.{WorkerState}
 use Rattle.ks_test_workers.specs.declared.actors.Actor.{Actor}
-use Rattle.ks_crew.specs.Members.{pass_key, IsEnlisted}
+use Rattle.ks_run_workers.specs.Members.{pass_key, IsEnlisted}
 use Rattle.ks_test_workers.specs.Pairs.{MayPlay, IsReady}
 
 pub two_items : {A : Type 0} (all rest none : List A) (a b : A) → all ≡ a ∷ rest → rest ≡ b ∷ none → length all ≡ 2 → all ≡ a ∷ b ∷ []

@@ -10,11 +10,11 @@ use Rattle.ks_history.specs.Machine.{TaskPlan}
 use Rattle.ks_cluster.specs.Placed.{PlacementTest}
 use Rattle.ks_cluster.specs.View.{ClusterView, setup_of}
 use Rattle.ks_law_topology.specs.Work.{setup_of as topology_setup}
-use Rattle.ks_nodes.specs.Rules.{HaveParts, rules_of}
+use Rattle.ks_def_tasks.specs.Rules.{HaveParts, rules_of}
 use Rattle.ks_job.specs.Items.{ItemView}
 use Rattle.ks_law_inputs.specs.Records.{AreRecords}
-use Rattle.ks_placement.specs.Groups.{good_by}
-use Rattle.ks_feed.specs.Placing.{IsParted}
+use Rattle.ks_assign_group.specs.Groups.{good_by}
+use Rattle.ks_run_workers.specs.Placing.{IsParted}
 use Rattle.ks_worker.specs.Beginning.{MayRun}
 use Rattle.ks_test_workers.specs.declared.actors.Actor.{Actor}
 

@@ -2,7 +2,7 @@
 ghost use Rattle.std.specs.Prelude.{◌≡◌, ◌≤◌, OnOk};
 ghost use Rattle.ks_topo.specs.Topologies.{draft_of};
 ghost use Rattle.ks_worker.specs.Beginning.{MayRun};
-ghost use Rattle.ks_crew.specs.Members.{pass_key, IsEnlisted};
+ghost use Rattle.ks_run_workers.specs.Members.{pass_key, IsEnlisted};
 
 use ks_assign::Placing;
 use ks_cluster::Work;

@@ -7,8 +7,8 @@ use Rattle.std.proofs.lemmas.List.{map-append}
 use Rattle.ks_plan.specs.declared.draft.NodeDraft.{NodeDraft}
 use Rattle.ks_plan.specs.declared.draft.Draft.{Draft}
 use Rattle.ks_plan.specs.declared.fault.TopoFault.{TopoFault}
-use Rattle.ks_topo.specs.declared.stop.Stop.{Stop}
-use Rattle.ks_topo.specs.declared.stop.Stop.TheVariants.{Memory, Fault}
+use Rattle.ks_topo.specs.declared.stop.Refusal.{Refusal}
+use Rattle.ks_topo.specs.declared.stop.Refusal.TheVariants.{Memory, Fault}
 use Rattle.ks_plan.specs.Drafts.{Name, NodeView, DraftView, op_view, node_view, nodes_view, draft_view}
 use Rattle.ks_topo.specs.Earlier.{fault_at, IsNode}
 use Rattle.ks_plan.specs.Plan.{Known, Kind, wiring_of, learn, known_from, plan_of}
@@ -38,7 +38,7 @@ add_one i = omega arith
 pub one_more : (ns : List NodeDraft) (i : ℕ) (x : NodeDraft) → i < length ns → nodes_view (take (i + 1) ns) ≡ nodes_view (take i ns) ++ node_view (get_or ns i x) ∷ []
 one_more ns i x h = ap nodes_view (ap (λ n. take n ns) (add_one i) ∙ take-suc ns i x h) ∙ map-append node_view (take i ns) (get_or ns i x ∷ [])
 
-pub stops_first : (e : Stop) (x y : Option TopoFault) → Stops e x → Stops e (option_or x y)
+pub stops_first : (e : Refusal) (x y : Option TopoFault) → Stops e x → Stops e (option_or x y)
 stops_first Memory x y h = tt
 stops_first (Fault f) None y h = cc
 stops_first (Fault f) (Some g) y h = h
@@ -66,7 +66,7 @@ next_fault d i h =
     ap (λ l. nodes_fault (draft_view d) b (nodes_view l)) (rest_at d.nodes i x h)
     ∙ ap₂ (λ l m. option_or (fault_at d (parts_before (draft_view d) b) (take i d.nodes) l) (nodes_fault (draft_view d) m (nodes_view (drop (i + 1) d.nodes)))) (sym (rest_at d.nodes i x h)) (sym (one_more d.nodes i x h))
 
-pub judged_err : {X : Type 0} (d : Draft) (parts : List ℕ) (i : ℕ) (r : Result X Stop) (e : Stop)
+pub judged_err : {X : Type 0} (d : Draft) (parts : List ℕ) (i : ℕ) (r : Result X Refusal) (e : Refusal)
     → i < length d.nodes → parts ≡ parts_before (draft_view d) (nodes_view (take i d.nodes))
     → nodes_fault (draft_view d) (nodes_view (take i d.nodes)) (nodes_view (drop i d.nodes)) ≡ nodes_fault (draft_view d) [] (nodes_view d.nodes)
     → IsErr r → IsErrAnd r (λ y. y ≡ e) → Stops e (fault_at d parts (take i d.nodes) (drop i d.nodes))
@@ -116,11 +116,11 @@ here d ts parts ns before i x h t a b e =
     ∙ (ap (λ z. first_of (node_lines d.app d.topics parts (nodes_view (take i d.nodes)) (node_view z))) y
     ∙ ap (λ l. fault_at d parts (take i d.nodes) l) (sym (rest_at d.nodes i x h)))
 
-pub found_here : {X : Type 0} (d : Draft) (ts : List (Name × ℤ)) (parts : List ℕ) (ns before : List NodeDraft) (i : ℕ) (x : NodeDraft) (r : Result X Stop) → i < length d.nodes → ts ≡ d.topics → ns ≡ d.nodes → before ≡ take i ns → x ≡ get_or ns i x
+pub found_here : {X : Type 0} (d : Draft) (ts : List (Name × ℤ)) (parts : List ℕ) (ns before : List NodeDraft) (i : ℕ) (x : NodeDraft) (r : Result X Refusal) → i < length d.nodes → ts ≡ d.topics → ns ≡ d.nodes → before ≡ take i ns → x ≡ get_or ns i x
     → Finds r (first_of (node_lines d.app ts parts (nodes_view before) (node_view x))) → Finds r (fault_at d parts (take i d.nodes) (drop i d.nodes))
 found_here d ts parts ns before i x r h t a b e f = subst (Finds r) (here d ts parts ns before i x h t a b e) f
 
-pub is_here : (d : Draft) (ts : List (Name × ℤ)) (ns before : List NodeDraft) (i : ℕ) (x : NodeDraft) (r : Result Resolved Stop) → i < length d.nodes → ts ≡ d.topics → ns ≡ d.nodes → before ≡ take i ns → x ≡ get_or ns i x
+pub is_here : (d : Draft) (ts : List (Name × ℤ)) (ns before : List NodeDraft) (i : ℕ) (x : NodeDraft) (r : Result Resolved Refusal) → i < length d.nodes → ts ≡ d.topics → ns ≡ d.nodes → before ≡ take i ns → x ≡ get_or ns i x
     → IfOk r (λ s. s ≡ resolved_op ts (nodes_view before) (op_view x.op)) → IfOk r (λ s. IsNode d.topics (take i d.nodes) (drop i d.nodes) s)
 is_here d ts ns before i x (Err s) h t a b e f = tt
 is_here d ts ns before i x (Ok s) h t a b e f =

@@ -2,8 +2,8 @@
 use Rattle.std.specs.Prelude.{◌≡◌, Result, Ok, Err, None, Some}
 use Rattle.ks_topo.specs.declared.built.Topology.{Topology}
 use Rattle.ks_plan.specs.declared.fault.TopoFault.{TopoFault}
-use Rattle.ks_topo.specs.declared.stop.Stop.{Stop}
-use Rattle.ks_topo.specs.declared.stop.Stop.TheVariants.{Memory, Fault}
+use Rattle.ks_topo.specs.declared.stop.Refusal.{Refusal}
+use Rattle.ks_topo.specs.declared.stop.Refusal.TheVariants.{Memory, Fault}
 use Rattle.ks_plan.specs.Drafts.{DraftView}
 use Rattle.ks_plan.specs.Plan.{Plan, plan_of}
 use Rattle.ks_plan.specs.Faults.{fault_of}
@@ -21,7 +21,7 @@ Builds d (Ok t) = (fault_of d ≡ None) × (draft_of t ≡ d)
 Builds d (Err f) = fault_of d ≡ Some f
 
 -- the same, or want of memory
-abbrev pub BuildsOr : DraftView → Result Topology Stop → Type 0
+abbrev pub BuildsOr : DraftView → Result Topology Refusal → Type 0
 BuildsOr d (Ok t) = (fault_of d ≡ None) × (draft_of t ≡ d)
 BuildsOr d (Err Memory) = Unit {0}
 BuildsOr d (Err (Fault f)) = fault_of d ≡ Some f

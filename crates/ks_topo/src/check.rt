@@ -11,7 +11,7 @@ ghost use Rattle.ks_topo.specs.Earlier.{IsEarlier, known_of};
 ghost use Rattle.ks_plan.specs.Infos.{internal_names};
 ghost use Rattle.ks_plan.specs.Resolve.{resolved_op};
 
-use crate::stop::Stop;
+use crate::stop::Refusal;
 use ks_plan::{
     NodeDraft, Op, Resolved, TopoFault, Wiring, find_input, gives_stream, internal_name, is_node,
     is_source, is_topic, number_at, push_changelogs, push_through, resolve_op,
@@ -70,36 +70,36 @@ fn set_len(op: &Op) -> usize
     }
 }
 
-fn check_name(alloc: Global, before: &[NodeDraft], node: &NodeDraft) -> Result<(), Stop>
+fn check_name(alloc: Global, before: &[NodeDraft], node: &NodeDraft) -> Result<(), Refusal>
     ensures { Finds result (first_fitting (one_line
         (has_name (names_of (nodes_view before.now)) node.now.name)
         (DuplicateName node.now.name))) }
 {
     let name = node.name.as_str().as_bytes();
     if is_node(before, name) {
-        return Err(Stop::Fault(duplicate(alloc, name)?));
+        return Err(Refusal::Fault(duplicate(alloc, name)?));
     }
     Ok(())
 }
 
-fn check_fields(alloc: Global, op: &Op) -> Result<(), Stop>
+fn check_fields(alloc: Global, op: &Op) -> Result<(), Refusal>
     ensures { Finds result (first_fitting (one_line (nat_lt 64 (set_length (op_view op.now)))
         (TooMany (codes "fields") 64))) }
 {
     if set_len(op) > 64 {
-        return Err(Stop::Fault(too_many(alloc, "fields", 64)?));
+        return Err(Refusal::Fault(too_many(alloc, "fields", 64)?));
     }
     Ok(())
 }
 
-fn check_topic(alloc: Global, topics: &[(Name, i64)], op: &Op) -> Result<(), Stop>
+fn check_topic(alloc: Global, topics: &[(Name, i64)], op: &Op) -> Result<(), Refusal>
     ensures { Finds result (first_fitting (unknown_lines (names_of_topics topics.now)
         (topics_in (op_view op.now)))) }
 {
     match op {
         Op::Stream { topic } | Op::Table { topic } => {
             if !is_topic(topics, topic.as_slice()) {
-                return Err(Stop::Fault(unknown(alloc, topic.as_slice())?));
+                return Err(Refusal::Fault(unknown(alloc, topic.as_slice())?));
             }
             Ok(())
         }
@@ -107,14 +107,14 @@ fn check_topic(alloc: Global, topics: &[(Name, i64)], op: &Op) -> Result<(), Sto
     }
 }
 
-fn check_new_topic(alloc: Global, before: &[NodeDraft], op: &Op) -> Result<(), Stop>
+fn check_new_topic(alloc: Global, before: &[NodeDraft], op: &Op) -> Result<(), Refusal>
     ensures { Finds result (first_fitting (taken_lines (sources_of (nodes_view before.now))
         (topics_in (op_view op.now)))) }
 {
     match op {
         Op::Stream { topic } | Op::Table { topic } => {
             if is_source(before, topic.as_slice()) {
-                return Err(Stop::Fault(duplicate(alloc, topic.as_slice())?));
+                return Err(Refusal::Fault(duplicate(alloc, topic.as_slice())?));
             }
             Ok(())
         }
@@ -155,19 +155,19 @@ fn inputs_of(op: &Op) -> Inputs<'_>
     }
 }
 
-fn check_input(alloc: Global, before: &[NodeDraft], name: Option<&Blob>) -> Result<(), Stop>
+fn check_input(alloc: Global, before: &[NodeDraft], name: Option<&Blob>) -> Result<(), Refusal>
     ensures { Finds result (first_fitting (unknown_lines (names_of (nodes_view before.now))
         (option_to_list (option_copied name.entry)))) }
 {
     if let Some(name) = name {
         if !is_node(before, name.as_slice()) {
-            return Err(Stop::Fault(unknown(alloc, name.as_slice())?));
+            return Err(Refusal::Fault(unknown(alloc, name.as_slice())?));
         }
     }
     Ok(())
 }
 
-fn check_inputs(alloc: Global, before: &[NodeDraft], op: &Op) -> Result<(), Stop>
+fn check_inputs(alloc: Global, before: &[NodeDraft], op: &Op) -> Result<(), Refusal>
     ensures { Finds result (first_fitting (unknown_lines (names_of (nodes_view before.now))
         (inputs_in (op_view op.now)))) }
 {
@@ -212,7 +212,7 @@ fn check_sink(
     earlier: Earlier<'_>,
     node: &Name,
     input: Option<&Blob>,
-) -> Result<(), Stop>
+) -> Result<(), Refusal>
     requires { IsEarlier earlier }
     ensures { Finds result (first_fitting (sinks_among (known_of earlier.entry) node.now
         (option_to_list (option_copied input.entry)))) }
@@ -220,13 +220,13 @@ fn check_sink(
     if let Some(input) = input {
         if gives_windows(wiring_of(earlier, input)) {
             let name = blob_of(alloc, node.as_str().as_bytes())?;
-            return Err(Stop::Fault(TopoFault::SinkOnly { name }));
+            return Err(Refusal::Fault(TopoFault::SinkOnly { name }));
         }
     }
     Ok(())
 }
 
-fn check_sinks(alloc: Global, earlier: Earlier<'_>, node: &NodeDraft) -> Result<(), Stop>
+fn check_sinks(alloc: Global, earlier: Earlier<'_>, node: &NodeDraft) -> Result<(), Refusal>
     requires { IsEarlier earlier }
     ensures { Finds result (first_fitting (sink_lines (known_of earlier.entry)
         (node_view node.now))) }
@@ -252,20 +252,20 @@ fn check_kind(
     earlier: Earlier<'_>,
     node: &NodeDraft,
     input: Option<&Blob>,
-) -> Result<(), Stop>
+) -> Result<(), Refusal>
     requires { IsEarlier earlier }
     ensures { Finds result (first_fitting (kinds_among (known_of earlier.entry) (node_view node.now)
         (option_to_list (option_copied input.entry)))) }
 {
     if let Some(input) = input {
         if is_wrong(&node.op, wiring_of(earlier, input)) {
-            return Err(Stop::Fault(wrong_kind(alloc, node.name.as_str().as_bytes())?));
+            return Err(Refusal::Fault(wrong_kind(alloc, node.name.as_str().as_bytes())?));
         }
     }
     Ok(())
 }
 
-fn check_kinds(alloc: Global, earlier: Earlier<'_>, node: &NodeDraft) -> Result<(), Stop>
+fn check_kinds(alloc: Global, earlier: Earlier<'_>, node: &NodeDraft) -> Result<(), Refusal>
     requires { IsEarlier earlier }
     ensures { Finds result (first_fitting (kind_lines (known_of earlier.entry)
         (node_view node.now))) }
@@ -290,7 +290,7 @@ fn parts_of(earlier: Earlier<'_>, parts: &[u8], name: &Blob) -> u8
     number_at(parts, number as usize)
 }
 
-fn check_sides(earlier: Earlier<'_>, parts: &[u8], op: &Op) -> Result<(), Stop>
+fn check_sides(earlier: Earlier<'_>, parts: &[u8], op: &Op) -> Result<(), Refusal>
     requires { IsEarlier earlier }
     ensures { Finds result (first_fitting (sides_among parts.now (known_of earlier.entry)
         (op_view op.now))) }
@@ -298,7 +298,7 @@ fn check_sides(earlier: Earlier<'_>, parts: &[u8], op: &Op) -> Result<(), Stop>
     match op {
         Op::Join { left, right, .. } => {
             if parts_of(earlier, parts, left) != parts_of(earlier, parts, right) {
-                return Err(Stop::Fault(TopoFault::NotCopartitioned {
+                return Err(Refusal::Fault(TopoFault::NotCopartitioned {
                     left: left.clone()?,
                     right: right.clone()?,
                 }));
@@ -334,7 +334,7 @@ fn is_window(size: i64, advance: i64, grace: i64) -> bool
     is_time(size) && is_time(grace) && is_advance(size, advance)
 }
 
-fn check_window(alloc: Global, node: &NodeDraft) -> Result<(), Stop>
+fn check_window(alloc: Global, node: &NodeDraft) -> Result<(), Refusal>
     ensures { Finds result (first_fitting (window_lines node.now.name (op_view node.now.op))) }
 {
     match &node.op {
@@ -346,7 +346,7 @@ fn check_window(alloc: Global, node: &NodeDraft) -> Result<(), Stop>
         } => {
             if !is_window(*size, advance.unwrap_or(*size), grace.unwrap_or(86_400_000)) {
                 let name = blob_of(alloc, node.name.as_str().as_bytes())?;
-                return Err(Stop::Fault(TopoFault::BadWindow { name }));
+                return Err(Refusal::Fault(TopoFault::BadWindow { name }));
             }
             Ok(())
         }
@@ -360,7 +360,7 @@ fn check_internal(
     app: &Name,
     node: &Name,
     wiring: Wiring,
-) -> Result<(), Stop>
+) -> Result<(), Refusal>
     ensures { Finds result (first_fitting (taken_lines (names_of_topics topics.now)
         (internal_names app.now node.now wiring))) }
 {
@@ -370,7 +370,7 @@ fn check_internal(
     for topic in &internal {
         let name = internal_name(alloc, app, node.as_str().as_bytes(), *topic)?;
         if is_topic(topics, name.as_slice()) {
-            return Err(Stop::Fault(TopoFault::DuplicateName { name }));
+            return Err(Refusal::Fault(TopoFault::DuplicateName { name }));
         }
     }
     Ok(())
@@ -383,7 +383,7 @@ pub fn check_node(
     earlier: Earlier<'_>,
     parts: &[u8],
     node: &NodeDraft,
-) -> Result<Resolved, Stop>
+) -> Result<Resolved, Refusal>
     requires { IsEarlier earlier }
     ensures found { Finds result (first_of (node_lines app.now earlier.entry.topics.now parts.now
         (nodes_view earlier.entry.nodes.now) (node_view node.now))) }

@@ -8,7 +8,7 @@ ghost use Rattle.ks_topo.specs.Earlier.{IsEarlier, fault_at, IsNode};
 ghost use Rattle.ks_plan.specs.Resolve.{resolved_from};
 
 use crate::check::{Earlier, check_node, duplicate, too_many, unknown, wiring_of, wrong_kind};
-use crate::stop::Stop;
+use crate::stop::Refusal;
 use ks_plan::{Draft, NodeDraft, Resolved, gives_stream, is_listed, is_node, push_parts};
 use ks_row::{Blob, Name};
 use std::alloc::Global;
@@ -25,20 +25,20 @@ fn is_any_past(topics: &[(Name, i64)]) -> bool
 }
 
 /// Too many topics, partitions of a topic, or nodes.
-pub fn judge_sizes(alloc: Global, draft: &Draft) -> Result<(), Stop>
+pub fn judge_sizes(alloc: Global, draft: &Draft) -> Result<(), Refusal>
     ensures found { Finds result (first_fitting (size_lines (draft_view draft.now))) }
     ensures topics { OnOk result (length draft.now.topics ≤ 64) }
     ensures nodes { OnOk result (length draft.now.nodes ≤ 64) }
     ensures counts { OnOk result (any_past draft.now.topics ≡ false) }
 {
     if draft.topics.len() > 64 {
-        return Err(Stop::Fault(too_many(alloc, "topics", 64)?));
+        return Err(Refusal::Fault(too_many(alloc, "topics", 64)?));
     }
     if is_any_past(draft.topics.as_slice()) {
-        return Err(Stop::Fault(too_many(alloc, "partitions", 64)?));
+        return Err(Refusal::Fault(too_many(alloc, "partitions", 64)?));
     }
     if draft.nodes.len() > 64 {
-        return Err(Stop::Fault(too_many(alloc, "nodes", 64)?));
+        return Err(Refusal::Fault(too_many(alloc, "nodes", 64)?));
     }
     Ok(())
 }
@@ -58,7 +58,7 @@ fn judge_node(
     i: usize,
     known: &[Resolved],
     parts: &[u8],
-) -> Result<Resolved, Stop>
+) -> Result<Resolved, Refusal>
     requires within { i < length draft.now.nodes }
     requires nodes { length draft.now.nodes ≤ 64 }
     requires topics { length draft.now.topics ≤ 64 }
@@ -78,7 +78,7 @@ fn judge_node(
     check_node(alloc, &draft.app, earlier, parts, &nodes[i])
 }
 
-fn judge_nodes(alloc: Global, draft: &Draft, counts: &[u8]) -> Result<Vec<Resolved>, Stop>
+fn judge_nodes(alloc: Global, draft: &Draft, counts: &[u8]) -> Result<Vec<Resolved>, Refusal>
     requires nodes { length draft.now.nodes ≤ 64 }
     requires topics { length draft.now.topics ≤ 64 }
     requires counts { counts.now ≡ (plan_of (draft_view draft.now)).counts }
@@ -97,24 +97,24 @@ fn judge_nodes(alloc: Global, draft: &Draft, counts: &[u8]) -> Result<Vec<Resolv
     Ok(known)
 }
 
-fn check_print(alloc: Global, all: Earlier<'_>, before: &[Blob], name: &Blob) -> Result<(), Stop>
+fn check_print(alloc: Global, all: Earlier<'_>, before: &[Blob], name: &Blob) -> Result<(), Refusal>
     requires { IsEarlier all }
     ensures { Finds result (first_fitting (print_lines all.entry.topics.now
         (nodes_view all.entry.nodes.now) before.now name.now)) }
 {
     if !is_node(all.nodes, name.as_slice()) {
-        return Err(Stop::Fault(unknown(alloc, name.as_slice())?));
+        return Err(Refusal::Fault(unknown(alloc, name.as_slice())?));
     }
     if is_listed(before, name.as_slice()) {
-        return Err(Stop::Fault(duplicate(alloc, name.as_slice())?));
+        return Err(Refusal::Fault(duplicate(alloc, name.as_slice())?));
     }
     if gives_stream(wiring_of(all, name)) {
-        return Err(Stop::Fault(wrong_kind(alloc, name.as_slice())?));
+        return Err(Refusal::Fault(wrong_kind(alloc, name.as_slice())?));
     }
     Ok(())
 }
 
-fn judge_print(alloc: Global, all: Earlier<'_>, print: &[Blob]) -> Result<(), Stop>
+fn judge_print(alloc: Global, all: Earlier<'_>, print: &[Blob]) -> Result<(), Refusal>
     requires { IsEarlier all }
     ensures { Finds result (printed_fault all.entry.topics.now (nodes_view all.entry.nodes.now) []
         print.now) }
@@ -126,7 +126,7 @@ fn judge_print(alloc: Global, all: Earlier<'_>, print: &[Blob]) -> Result<(), St
 }
 
 /// The first fault of a draft that is not too large, else what its nodes are. The partition counts of its topics are given by number.
-pub fn judge_parts(alloc: Global, draft: &Draft, counts: &[u8]) -> Result<Vec<Resolved>, Stop>
+pub fn judge_parts(alloc: Global, draft: &Draft, counts: &[u8]) -> Result<Vec<Resolved>, Refusal>
     requires nodes { length draft.now.nodes ≤ 64 }
     requires topics { length draft.now.topics ≤ 64 }
     requires counts { counts.now ≡ (plan_of (draft_view draft.now)).counts }

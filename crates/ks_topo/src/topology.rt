@@ -14,10 +14,10 @@ ghost use Rattle.ks_topo.specs.Topologies.{draft_of, plan_in, Builds, BuildsOr};
 use crate::built::Topology;
 use crate::infos::{built_nodes, counts_of, sort_topics, topic_infos};
 use crate::judge::{judge_parts, judge_sizes};
-use crate::stop::Stop;
+use crate::stop::Refusal;
 use ks_plan::{
-    Draft, Node, Resolved, Shape, Topic, TopicInfo, TopoFault, Wiring, drained_topics,
-    flowing_topics, kept_topics, numbers_by_sub, numbers_of, shape_of, tasks_of,
+    Draft, Node, Resolved, Shape, Topic, TopicInfo, TopoFault, Wiring, changelog_topics,
+    drained_topics, drained_topics_by_node, numbers_by_sub, numbers_of, shape_of, tasks_of,
 };
 use ks_row::{Blob, Name, Seq, TaskId};
 use std::alloc::{AllocError, Global};
@@ -86,8 +86,8 @@ fn gather_topics(alloc: Global, shape: &Shape) -> Result<Topics, AllocError>
     ensures all { IfOk result (λ t. t.all.items ≡ wired_topics shape.now) }
     ensures drained { IfOk result (λ t. t.drained.items ≡ wired_drained shape.now) }
 {
-    let flowing = flowing_topics(alloc, shape.counts.len() as u16, &shape.wirings)?;
-    let kept = kept_topics(alloc, &shape.wirings)?;
+    let flowing = drained_topics_by_node(alloc, shape.counts.len() as u16, &shape.wirings)?;
+    let kept = changelog_topics(alloc, &shape.wirings)?;
     let all = all_topics(alloc, &flowing, &kept)?;
     let drained = drained_topics(alloc, shape, &flowing)?;
     Ok(Topics { drained, kept, all })
@@ -182,7 +182,7 @@ fn number_lists(lists: &[Seq<u16>], sub: u8) -> &[u16]
     }
 }
 
-fn judge_and_build(alloc: Global, draft: Draft) -> Result<Topology, Stop>
+fn judge_and_build(alloc: Global, draft: Draft) -> Result<Topology, Refusal>
     ensures { BuildsOr (draft_view draft) result }
 {
     judge_sizes(alloc, &draft)?;
@@ -193,7 +193,7 @@ fn judge_and_build(alloc: Global, draft: Draft) -> Result<Topology, Stop>
     Ok(lay_out(alloc, draft, &sorted, &shape)?)
 }
 
-fn judge_draft(alloc: Global, draft: &Draft) -> Result<(), Stop>
+fn judge_draft(alloc: Global, draft: &Draft) -> Result<(), Refusal>
     ensures { Finds result (fault_of (draft_view draft.now)) }
 {
     judge_sizes(alloc, draft)?;
@@ -209,8 +209,8 @@ pub fn first_fault(alloc: Global, draft: &Draft) -> Result<Option<TopoFault>, Al
 {
     match judge_draft(alloc, draft) {
         Ok(()) => Ok(None),
-        Err(Stop::Memory) => Err(AllocError),
-        Err(Stop::Fault(fault)) => Ok(Some(fault)),
+        Err(Refusal::Memory) => Err(AllocError),
+        Err(Refusal::Fault(fault)) => Ok(Some(fault)),
     }
 }
 
@@ -222,8 +222,8 @@ impl Topology {
     {
         match judge_and_build(alloc, draft) {
             Ok(topology) => Ok(Ok(topology)),
-            Err(Stop::Memory) => Err(AllocError),
-            Err(Stop::Fault(fault)) => Ok(Err(fault)),
+            Err(Refusal::Memory) => Err(AllocError),
+            Err(Refusal::Fault(fault)) => Ok(Err(fault)),
         }
     }
 

@@ -7,9 +7,9 @@ use Rattle.std.specs.FinMap.{slice_cmp-IsAntisymmetric, nat_cmp-IsAntisymmetric}
 use Rattle.std.proofs.Math.Nat.{div-mul-le_self, mul-le-mul_right}
 use Rattle.ks_row.specs.Texts.{IsKey}
 use Rattle.ks_row.specs.Reading.{◌>>=◌}
-use Rattle.ks_def_maps.specs.FinMap as fin
-use Rattle.ks_def_maps.specs.Bytes.{Store, by_bytes}
-use Rattle.ks_def_maps.proofs.Tables.{equal}
+use Rattle.ks_def_runs.specs.FinMap as fin
+use Rattle.ks_def_runs.specs.Bytes.{Store, by_bytes}
+use Rattle.ks_def_runs.proofs.Tables.{equal}
 use Rattle.ks_wire.specs.Spelling.{window_key, agg_bytes, time_key, time_bytes}
 use Rattle.ks_wire.specs.Reading.{window_key_from, agg_from, long_key_at}
 use Rattle.ks_wire.proofs.Wired.{window_key_codec}
@@ -22,7 +22,7 @@ use Rattle.ks_def_tasks.specs.Messages.{same_option}
 use Rattle.ks_def_tasks.specs.Windowed.{greater}
 use Rattle.ks_def_tasks.specs.Laws.{AllBelow}
 use Rattle.ks_row.specs.declared.record.Rec.{Rec}
-use Rattle.ks_window.specs.Counting.{CountedBytes, time_in, count_in, kept_rec, next_rec, time_rec, keep, count_start, counted}
+use Rattle.ks_def_lookups.specs.Windows.{CountedBytes, time_in, count_in, kept_rec, next_rec, time_rec, keep, count_start, counted}
 
 -- ---- what an item makes of a store that is read and not written
 pub record ReadCount : Type 0 where

@@ -1,12 +1,13 @@
 //! What an item changes in the store of a windowed count.
 ghost use Rattle.std.specs.Prelude.{◌≡◌, ◌≤◌, ◌++◌, ◌∷◌, [], Some, None, IfOk, OnOk, option_map, nat_eq};
-ghost use Rattle.ks_def_maps.specs.FinMap as fin;
+ghost use Rattle.ks_def_runs.specs.FinMap as fin;
 ghost use Rattle.ks_wire.specs.Spelling.{window_key, time_key, time_bytes};
 ghost use Rattle.ks_query.specs.Grace.{is_open};
 ghost use Rattle.ks_query.specs.Aggregates.{stream_add};
 ghost use Rattle.ks_def_tasks.specs.Messages.{same_option};
 ghost use Rattle.ks_def_tasks.specs.Windowed.{greater};
-ghost use Rattle.ks_window.specs.Counting.{shape, time_in, next_bytes, kept_rec, next_rec, with_next, counted};
+ghost use Rattle.ks_def_lookups.specs.Windows.{time_in, next_bytes, kept_rec, next_rec, with_next, counted};
+ghost use Rattle.ks_window.specs.Shape.{shape};
 
 use crate::windows::starts;
 use ks_row::{Blob, Key, Rec};

@@ -1,7 +1,8 @@
 //! What an item would change in the store of a windowed count, read and not written.
 ghost use Rattle.std.specs.Prelude.{◌≡◌, ◌≤◌, ◌++◌, ◌∷◌, [], IfOk, OnOk};
 ghost use Rattle.ks_wire.specs.Spelling.{window_key};
-ghost use Rattle.ks_window.specs.Counting.{shape, time_rec, next_rec, counted};
+ghost use Rattle.ks_def_lookups.specs.Windows.{time_rec, next_rec, counted};
+ghost use Rattle.ks_window.specs.Shape.{shape};
 
 use crate::counting::{
     TIME_KEY, Window, is_kept, is_taken, later_of, next_count, push_rec, time_of,

@@ -5,21 +5,21 @@ ghost use Rattle.ks_row.specs.Texts.{IsKey};
 ghost use Rattle.ks_wire.specs.Spelling.{hash_flag, hash_or_nothing, hash_bytes, time_bytes, subscription_bytes, response_bytes, delta_bytes, agg_bytes, long_key, subscription_key, window_key, FitsHash, FitsSubscription, FitsResponse, FitsDelta, FitsAgg, FitsKeys, FitsWindow};
 
 use crate::values::{Agg, Delta, Response, Subscription};
-use ks_row::{Blob, Key, encode};
+use ks_row::{Blob, BlobBuilder, Key, encode};
 use std::alloc::{AllocError, Global};
 
 const NO_HASH: u8 = 128;
 
-fn push_flag(out: &mut Vec<u8>, hash: Option<u128>) -> Result<(), AllocError>
-    ensures { OnOk result (out.new.items ≡ out.old.items ++ hash_flag hash ∷ []) }
+fn push_flag(out: &mut BlobBuilder, hash: Option<u128>) -> Result<(), AllocError>
+    ensures { OnOk result (out.new ≡ out.old ++ hash_flag hash ∷ []) }
 {
     let flag = if hash.is_none() { NO_HASH } else { 0 };
     out.push(flag)?;
     Ok(())
 }
 
-fn push_hash(out: &mut Vec<u8>, hash: Option<u128>) -> Result<(), AllocError>
-    ensures bytes { OnOk result (out.new.items ≡ out.old.items ++ hash_or_nothing hash) }
+fn push_hash(out: &mut BlobBuilder, hash: Option<u128>) -> Result<(), AllocError>
+    ensures bytes { OnOk result (out.new ≡ out.old ++ hash_or_nothing hash) }
     ensures fits { FitsHash hash }
 {
     if let Some(hash) = hash {
@@ -34,12 +34,12 @@ pub fn write_subscription(alloc: Global, subscription: &Subscription) -> Result<
     ensures bytes { IfOk result (λ b. b ≡ subscription_bytes subscription.now) }
     ensures fits { OnOk result (FitsSubscription subscription.now) }
 {
-    let mut out = Vec::new(alloc);
+    let mut out = BlobBuilder::new(alloc);
     push_flag(&mut out, subscription.hash())?;
     out.push(subscription.instruction())?;
     push_hash(&mut out, subscription.hash())?;
     out.extend_from_slice(subscription.left().as_str().as_bytes())?;
-    Blob::of(out)
+    out.into_blob()
 }
 
 /// The bytes that spell the response.
@@ -48,14 +48,14 @@ pub fn write_response(alloc: Global, response: &Response) -> Result<Blob, AllocE
     ensures bytes { IfOk result (λ b. b ≡ response_bytes response.now) }
     ensures fits { OnOk result (FitsResponse response.now) }
 {
-    let mut out = Vec::new(alloc);
+    let mut out = BlobBuilder::new(alloc);
     push_flag(&mut out, response.hash)?;
     push_hash(&mut out, response.hash)?;
     if let Some(row) = &response.right {
         let row = encode(alloc, row)?;
         out.extend_from_slice(row.as_slice())?;
     }
-    Blob::of(out)
+    out.into_blob()
 }
 
 /// The bytes that spell the delta.
@@ -64,10 +64,10 @@ pub fn write_delta(alloc: Global, delta: &Delta) -> Result<Blob, AllocError>
     ensures bytes { IfOk result (λ b. b ≡ delta_bytes delta.now) }
     ensures fits { OnOk result (FitsDelta delta.now) }
 {
-    let mut out = Vec::new(alloc);
+    let mut out = BlobBuilder::new(alloc);
     out.push(if delta.add { 1 } else { 0 })?;
     out.extend_from_slice(&delta.amount.to_be_bytes())?;
-    Blob::of(out)
+    out.into_blob()
 }
 
 /// The bytes that spell the aggregate.
@@ -76,10 +76,10 @@ pub fn write_agg(alloc: Global, agg: &Agg) -> Result<Blob, AllocError>
     ensures bytes { IfOk result (λ b. b ≡ agg_bytes agg.now) }
     ensures fits { OnOk result (FitsAgg agg.now) }
 {
-    let mut out = Vec::new(alloc);
+    let mut out = BlobBuilder::new(alloc);
     out.extend_from_slice(&agg.members.to_be_bytes())?;
     out.extend_from_slice(&agg.total.to_be_bytes())?;
-    Blob::of(out)
+    out.into_blob()
 }
 
 /// The bytes of a hash alone.
@@ -96,8 +96,8 @@ pub fn write_time(alloc: Global, time: u64) -> Result<Blob, AllocError>
     Blob::from_slice(alloc, &time.to_be_bytes())
 }
 
-fn push_long_key(out: &mut Vec<u8>, key: &Key) -> Result<(), AllocError>
-    ensures bytes { OnOk result (out.new.items ≡ out.old.items ++ long_key key.now) }
+fn push_long_key(out: &mut BlobBuilder, key: &Key) -> Result<(), AllocError>
+    ensures bytes { OnOk result (out.new ≡ out.old ++ long_key key.now) }
     ensures fits { OnOk result (IsKey key.now) }
 {
     let bytes = key.as_str().as_bytes();
@@ -112,10 +112,10 @@ pub fn write_subscription_key(alloc: Global, foreign: &Key, left: &Key) -> Resul
     ensures bytes { IfOk result (λ b. b ≡ subscription_key foreign.now left.now) }
     ensures fits { OnOk result (FitsKeys (foreign.now, left.now)) }
 {
-    let mut out = Vec::new(alloc);
+    let mut out = BlobBuilder::new(alloc);
     push_long_key(&mut out, foreign)?;
     out.extend_from_slice(left.as_str().as_bytes())?;
-    Blob::of(out)
+    out.into_blob()
 }
 
 /// Where a windowed count keeps the count of a key in the window that starts at `start`.
@@ -124,8 +124,8 @@ pub fn write_window_key(alloc: Global, key: &Key, start: u64) -> Result<Blob, Al
     ensures bytes { IfOk result (λ b. b ≡ window_key key.now start) }
     ensures fits { OnOk result (FitsWindow (key.now, start)) }
 {
-    let mut out = Vec::new(alloc);
+    let mut out = BlobBuilder::new(alloc);
     push_long_key(&mut out, key)?;
     out.extend_from_slice(&start.to_be_bytes())?;
-    Blob::of(out)
+    out.into_blob()
 }

@@ -5,8 +5,8 @@ use Rattle.ks_plan.specs.Drafts.{DraftView}
 use Rattle.ks_history.specs.Machine.{TaskPlan}
 use Rattle.ks_history.specs.History.{IsHistory}
 use Rattle.ks_shared.specs.Calls.{setup_in}
-use Rattle.ks_client.specs.declared.member.Member.{Member}
-use Rattle.ks_client.specs.Calls.{MayCall}
+use Rattle.ks_worker_client.specs.declared.member.Member.{Member}
+use Rattle.ks_worker_client.specs.Calls.{MayCall}
 use Rattle.ks_worker_state.specs.declared.state.WorkerState.{WorkerState}
 use Rattle.ks_worker_state.specs.Topology.{RunsTopology}
 use Rattle.ks_worker_state.specs.Worker.{IsWorker}

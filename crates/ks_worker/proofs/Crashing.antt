@@ -5,11 +5,11 @@ use Rattle.ks_plan.specs.Drafts.{DraftView}
 use Rattle.ks_history.specs.Machine.{TaskPlan}
 use Rattle.ks_history.specs.History.{IsHistory}
 use Rattle.ks_shared.specs.Calls.{setup_in}
-use Rattle.ks_client.specs.declared.client.ClusterClient.{ClusterClient}
-use Rattle.ks_client.specs.declared.member.Member.{Member}
-use Rattle.ks_client.specs.declared.session.Session.{Session}
-use Rattle.ks_client.specs.Calls.{MayCall, Later}
-use Rattle.ks_client.proofs.Moments.{same_frame, not_later}
+use Rattle.ks_worker_client.specs.declared.client.ClusterClient.{ClusterClient}
+use Rattle.ks_worker_client.specs.declared.member.Member.{Member}
+use Rattle.ks_worker_client.specs.declared.session.Session.{Session}
+use Rattle.ks_worker_client.specs.Calls.{MayCall, Later}
+use Rattle.ks_worker_client.proofs.Moments.{same_frame, not_later}
 use Rattle.ks_worker_state.specs.declared.state.WorkerState.{WorkerState}
 use Rattle.ks_worker_state.specs.Worker.{IsWorker, lost}
 use Rattle.ks_worker_state.specs.State.{IsWorkerState, LaterState}

@@ -2,3 +2,4 @@ pub mod Beginning
 pub mod Crashing
 pub mod Shown
 pub mod Turning
+pub mod Summing

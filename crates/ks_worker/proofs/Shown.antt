@@ -13,8 +13,8 @@ use Rattle.ks_history.specs.declared.journal.Request.TheVariants.{Expire}
 use Rattle.ks_history.specs.Machine.{TaskPlan}
 use Rattle.ks_growing.specs.Passes.{PassView}
 use Rattle.ks_shared.specs.declared.state.Frame.{Frame}
-use Rattle.ks_client.specs.Turns.{GateCounts}
-use Rattle.ks_client.specs.Calls.{Later}
+use Rattle.ks_worker_client.specs.Turns.{GateCounts}
+use Rattle.ks_worker_client.specs.Calls.{Later}
 use Rattle.ks_worker_state.specs.declared.state.WorkerState.{WorkerState}
 use Rattle.ks_worker_acts.specs.Gained.{StandAmong, HasGained}
 use Rattle.std.specs.List.{filter}

@@ -8,9 +8,9 @@ use Rattle.ks_growing.specs.Passes.{PassView}
 use Rattle.ks_shared.specs.declared.state.Frame.{Frame}
 use Rattle.ks_assign.specs.declared.clients.Placing.{Placing}
 use Rattle.ks_cluster.specs.Placed.{PlacementTest}
-use Rattle.ks_client.specs.Turns.{GateCounts}
-use Rattle.ks_client.specs.Calls.{MayCall, Later}
-use Rattle.ks_client.proofs.Moments.{may_later}
+use Rattle.ks_worker_client.specs.Turns.{GateCounts}
+use Rattle.ks_worker_client.specs.Calls.{MayCall, Later}
+use Rattle.ks_worker_client.proofs.Moments.{may_later}
 use Rattle.ks_worker_state.specs.declared.state.WorkerState.{WorkerState}
 use Rattle.ks_worker_state.specs.State.{IsWorkerState, MayAct, LaterState}
 use Rattle.ks_worker_state.proofs.States.{runs_later}

@@ -17,8 +17,8 @@ use Rattle.ks_worker_acts.specs.Inputs.{HaveReadOn, HasMoved, HaveReadAll}
 use Rattle.ks_worker_acts.specs.Feeds.{AreFed}
 use Rattle.ks_worker_acts.specs.Gained.{HasGained}
 use Rattle.ks_worker_acts.specs.Telling.{is_clean_task, outside, parks, positions_held}
-use Rattle.ks_task_commit.specs.declared.commit_end.CommitEnd.{CommitEnd}
-use Rattle.ks_task_commit.specs.Ends.{HasEnded}
+use Rattle.ks_worker_acts.specs.declared.commit.commit_end.CommitEnd.{CommitEnd}
+use Rattle.ks_worker_acts.specs.Ends.{HasEnded}
 
 -- it read: an input position rose, or nothing stable of what its pass had seen is left
 pub record HasWorked {W G : Type 0} (plan : W → TaskPlan) (old new : WorkerState W G) : Type 0 where

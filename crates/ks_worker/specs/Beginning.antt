@@ -6,8 +6,8 @@ use Rattle.ks_history.specs.Machine.{TaskPlan}
 use Rattle.ks_shared.specs.Calls.{setup_in}
 use Rattle.ks_assign.specs.declared.clients.Placing.{Placing}
 use Rattle.ks_cluster.specs.Placed.{PlacementTest}
-use Rattle.ks_client.specs.Turns.{GateCounts}
-use Rattle.ks_client.specs.Calls.{MayCall}
+use Rattle.ks_worker_client.specs.Turns.{GateCounts}
+use Rattle.ks_worker_client.specs.Calls.{MayCall}
 use Rattle.ks_worker_state.specs.declared.state.WorkerState.{WorkerState}
 use Rattle.ks_worker_state.specs.Topology.{RunsTopology}
 use Rattle.ks_worker_state.specs.State.{MayAct}

@@ -1,3 +1,4 @@
 pub mod Beginning
 pub mod Acts
 pub mod Running
+pub mod View

@@ -6,7 +6,7 @@ use Rattle.ks_history.specs.declared.journal.Request.TheVariants.{Expire, Probe}
 use Rattle.ks_history.specs.Machine.{TaskPlan}
 use Rattle.ks_growing.specs.Passes.{PassView}
 use Rattle.ks_shared.specs.declared.state.Frame.{Frame}
-use Rattle.ks_client.specs.Turns.{GateCounts}
+use Rattle.ks_worker_client.specs.Turns.{GateCounts}
 
 -- a `probe` of this worker, or an `expire`
 abbrev pub is_group_request : ℕ → Request → Bool

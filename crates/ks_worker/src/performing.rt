@@ -2,45 +2,24 @@
 ghost use Rattle.std.specs.Prelude.{◌≡◌, ◌≢◌, OnOk};
 ghost use Rattle.ks_edge.specs.declared.gate.Act.TheVariants.{Work as Working, Commit as Committing};
 ghost use Rattle.ks_topo.specs.Topologies.{draft_of};
-ghost use Rattle.ks_client.specs.Turns.{counts_after};
+ghost use Rattle.ks_worker_client.specs.Turns.{counts_after};
 ghost use Rattle.ks_worker_state.specs.State.{MayAct, LaterState, IsWorkerState};
 ghost use Rattle.ks_worker.specs.Acts.{HasLostAll, Does};
 ghost use Rattle.ks_worker.specs.Running.{IsCutOnce};
 
 use crate::worker::Worker;
-use ks_client::Halt;
 use ks_cluster::Work;
 use ks_edge::{Act, Gate};
 use ks_hash::Hash128;
 use ks_shared::Shared;
-use ks_task::Task;
-use ks_task_commit::commit_tasks;
 use ks_topo::Topology;
-use ks_worker_acts::{abort, evict, leave, probe, pump, work};
-use ks_worker_state::inputs_in;
+use ks_worker_acts::{abort, commit_tasks, evict, leave, probe, pump, work};
+use ks_worker_client::Halt;
 use std::alloc::{AllocError, Global};
 use std::sync::Wait;
 
-// The sum of a task's positions in these inputs; it stays at its type's greatest value.
-fn positions_in(task: &Task, topics: &[u16]) -> u64 {
-    let mut sum: u64 = 0;
-    for topic in topics {
-        sum = sum.saturating_add(task.input_position(*topic));
-    }
-    sum
-}
-
-// The sum of the input positions of these tasks; it stays at its type's greatest value.
-fn positions_of(topology: &Topology, tasks: &[Task]) -> u64 {
-    let mut sum: u64 = 0;
-    for task in tasks {
-        sum = sum.saturating_add(positions_in(task, inputs_in(topology, task.id().sub)));
-    }
-    sum
-}
-
 impl<W: Work, G: Gate> Worker<W, G> {
-    // Its tasks read; what its gate will see of that is counted.
+    // Its tasks read; how often in a row that moved nothing is counted.
     fn work<H: Hash128, R: Wait>(
         &mut self,
         rt: &R,
@@ -59,19 +38,12 @@ impl<W: Work, G: Gate> Worker<W, G> {
         ensures does { OnOk result (Does W.plan (draft_of topology.now) (Working pick)
             self.old.state self.new.state) }
     {
-        let before = positions_of(topology, self.state.tasks.as_slice());
         let moved = work::<H, R, W, G>(rt, alloc, topology, shared, &mut self.state, pick)?;
-        if moved {
-            let after = positions_of(topology, self.state.tasks.as_slice());
-            self.read = self.read.saturating_add(after.saturating_sub(before));
-            self.dry = 0;
-        } else {
-            self.dry = self.dry.saturating_add(1);
-        }
+        self.dry = if moved { 0 } else { self.dry.saturating_add(1) };
         Ok(())
     }
 
-    // It commits its tasks; what they read is counted anew.
+    // It commits its tasks.
     fn commit<H: Hash128, R: Wait>(
         &mut self,
         rt: &R,
@@ -90,7 +62,6 @@ impl<W: Work, G: Gate> Worker<W, G> {
             self.new.state) }
     {
         commit_tasks::<H, R, W, G>(rt, alloc, topology, shared, &mut self.state)?;
-        self.read = 0;
         Ok(())
     }
 

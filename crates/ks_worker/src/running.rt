@@ -7,12 +7,12 @@ ghost use Rattle.ks_worker.specs.Beginning.{MayRun};
 ghost use Rattle.ks_worker.specs.Running.{HasCounted, ShowsCalls, IsCutOnce, HasEndedBy};
 
 use crate::worker::Worker;
-use ks_client::Halt;
 use ks_cluster::Work;
 use ks_edge::{Act, Gate};
 use ks_hash::Hash128;
 use ks_shared::Shared;
 use ks_topo::Topology;
+use ks_worker_client::Halt;
 use ks_worker_turn::begin_turn;
 use std::alloc::{AllocError, Global};
 use std::sync::Wait;

@@ -3,11 +3,11 @@ ghost use Rattle.std.specs.Prelude.{◌≡◌, ◌≤◌};
 ghost use Rattle.ks_worker.specs.Beginning.{IsNew};
 
 use ks_assign::Placing;
-use ks_client::{ClusterClient, Member, Session, TurnGate};
 use ks_cluster::Work;
 use ks_edge::Gate;
 use ks_growing::Pass;
 use ks_shared::SharedState;
+use ks_worker_client::{ClusterClient, Member, Session, TurnGate};
 use ks_worker_state::WorkerState;
 use std::alloc::Global;
 
@@ -21,8 +21,6 @@ pub struct Worker<W: Work, G: Gate> {
     pub turn: u64,
     /// How many acts `Work` there were since the last one that moved something.
     pub dry: u32,
-    /// How far its tasks have read past their committed offsets, where some have: the sum over all their inputs.
-    pub read: u64,
     /// How many markers waited when the group's status was told last.
     pub waiting: u32,
 }
@@ -74,7 +72,6 @@ impl<W: Work, G: Gate> Worker<W, G> {
             placing,
             turn: 0,
             dry: 0,
-            read: 0,
             waiting: 0,
         }
     }

@@ -14,7 +14,7 @@ use Rattle.ks_shared.specs.Calls.{setup_in}
 use Rattle.ks_standby.specs.declared.replica.Replica.{Replica}
 use Rattle.ks_task.specs.declared.task.Task.{Task}
 use Rattle.ks_task.specs.Tasks.{task_view}
-use Rattle.ks_client.specs.declared.member.Member.{Member}
+use Rattle.ks_worker_client.specs.declared.member.Member.{Member}
 use Rattle.ks_worker_state.specs.Tasks.{IsHeldTask}
 use Rattle.ks_worker_state.specs.Worker.{IsWorker, IsNoneOf, HaveOwnNames}
 

@@ -9,17 +9,17 @@ use Rattle.ks_history.specs.declared.journal.Entry.{Entry}
 use Rattle.ks_history.specs.Machine.{TaskPlan, IsNetwork}
 use Rattle.ks_history.specs.State.{Setup}
 use Rattle.ks_history.specs.History.{IsHistory}
-use Rattle.ks_law_worker.specs.Moves.{IsFed}
-use Rattle.ks_law_worker.proofs.Moving.{fed_twice}
+use Rattle.ks_law_commit.specs.Moves.{IsFed}
+use Rattle.ks_law_commit.proofs.Moving.{fed_twice}
 use Rattle.ks_growing.specs.Passes.{PassView}
 use Rattle.ks_shared.specs.declared.state.Frame.{Frame}
 use Rattle.ks_shared.specs.Calls.{setup_in}
 use Rattle.ks_standby.specs.declared.replica.Replica.{Replica}
 use Rattle.ks_standby.specs.Replicas.{replica_view, changelogs_of}
 use Rattle.ks_task.specs.declared.task.Task.{Task}
-use Rattle.ks_client.specs.Calls.{Later}
-use Rattle.ks_client.specs.declared.member.Member.{Member}
-use Rattle.ks_client.proofs.Moments.{same_frame}
+use Rattle.ks_worker_client.specs.Calls.{Later}
+use Rattle.ks_worker_client.specs.declared.member.Member.{Member}
+use Rattle.ks_worker_client.proofs.Moments.{same_frame}
 use Rattle.ks_worker_state.specs.Standbys.{IsStandby, IsFedStandby}
 use Rattle.ks_worker_state.specs.State.{replica_names}
 use Rattle.ks_worker_state.specs.Worker.{IsWorker}

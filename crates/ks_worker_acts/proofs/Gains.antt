@@ -6,7 +6,7 @@ use Rattle.ks_history.specs.declared.journal.Reply.{Reply}
 use Rattle.ks_history.specs.Machine.{TaskPlan}
 use Rattle.ks_growing.specs.Passes.{PassView}
 use Rattle.ks_shared.specs.declared.state.Frame.{Frame}
-use Rattle.ks_client.specs.Calls.{Later, Wrote}
+use Rattle.ks_worker_client.specs.Calls.{Later, Wrote}
 use Rattle.ks_worker_acts.specs.Gained.{StandAmong, HasGained}
 
 among_behind : (rs : List Request) (xs ys : List Entry) → StandAmong rs ys → StandAmong rs (xs ++ ys)

@@ -21,8 +21,8 @@ use Rattle.ks_standby.specs.Replicas.{replica_view, changelogs_of}
 use Rattle.ks_task.specs.declared.task.Task.{Task}
 use Rattle.ks_task.specs.Tasks.{task_view, IsClean, IsTaskOf}
 use Rattle.ks_task.proofs.Viewing.{clean_is, is_clean}
-use Rattle.ks_client.specs.Calls.{Later}
-use Rattle.ks_client.specs.declared.member.Member.{Member}
+use Rattle.ks_worker_client.specs.Calls.{Later}
+use Rattle.ks_worker_client.specs.declared.member.Member.{Member}
 use Rattle.ks_worker_state.specs.Standbys.{IsStandby}
 use Rattle.ks_worker_state.specs.Tasks.{IsHeldTask}
 use Rattle.ks_worker_state.specs.Topology.{RunsTopology}

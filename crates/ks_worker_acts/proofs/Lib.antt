@@ -6,3 +6,10 @@ pub mod FedReplicas
 pub mod Leavers
 pub mod CleanOnes
 pub mod StatesOn
+pub mod Lists
+pub mod Outputs
+pub mod Works
+pub mod Told
+pub mod Held
+pub mod Worker
+pub mod Ending

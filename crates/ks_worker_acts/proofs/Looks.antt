@@ -10,8 +10,8 @@ use Rattle.ks_history.specs.declared.journal.Entry.{Entry}
 use Rattle.ks_history.specs.Machine.{IsNetwork, part_of}
 use Rattle.ks_history.specs.State.{Setup}
 use Rattle.ks_history.specs.History.{at, IsHistory}
-use Rattle.ks_law_worker.specs.Bounds.{stable_of}
-use Rattle.ks_law_worker.proofs.Bounds.{stable_rises}
+use Rattle.ks_law_commit.specs.Bounds.{stable_of}
+use Rattle.ks_law_commit.proofs.Bounds.{stable_rises}
 use Rattle.ks_task.specs.declared.task.Task.{Task}
 use Rattle.ks_task.specs.Tasks.{task_view}
 use Rattle.ks_worker_state.specs.Tasks.{IsReadOnce}

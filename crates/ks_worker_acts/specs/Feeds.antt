@@ -5,7 +5,7 @@ use Rattle.ks_history.specs.declared.journal.Entry.{Entry}
 use Rattle.ks_history.specs.declared.journal.Request.{Request}
 use Rattle.ks_history.specs.declared.journal.Request.TheVariants.{MarkNext}
 use Rattle.ks_history.specs.State.{Setup}
-use Rattle.ks_law_worker.specs.Moves.{IsFed}
+use Rattle.ks_law_commit.specs.Moves.{IsFed}
 use Rattle.ks_standby.specs.declared.replica.Replica.{Replica}
 use Rattle.ks_standby.specs.Replicas.{replica_view, changelogs_of}
 

@@ -6,7 +6,7 @@ use Rattle.ks_history.specs.Machine.{part_of, has_topic}
 use Rattle.ks_history.specs.State.{Setup}
 use Rattle.ks_history.specs.Follows.{TaskView}
 use Rattle.ks_history.specs.History.{at}
-use Rattle.ks_law_worker.specs.Bounds.{stable_of}
+use Rattle.ks_law_commit.specs.Bounds.{stable_of}
 use Rattle.ks_task.specs.declared.task.Task.{Task}
 use Rattle.ks_task.specs.Tasks.{task_view}
 use Rattle.ks_worker_acts.specs.declared.places.InputPlace.{InputPlace}

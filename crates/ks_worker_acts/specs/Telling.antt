@@ -12,7 +12,7 @@ use Rattle.ks_standby.specs.Replicas.{position_sum}
 use Rattle.ks_task.specs.declared.task.Task.{Task}
 use Rattle.ks_task.specs.Tasks.{task_view}
 use Rattle.ks_task.specs.Views.{are_committed}
-use Rattle.ks_client.specs.declared.member.Member.{Member}
+use Rattle.ks_worker_client.specs.declared.member.Member.{Member}
 use Rattle.ks_worker_state.specs.Standbys.{IsStandby}
 use Rattle.ks_worker_state.specs.Tasks.{IsHeldTask}
 use Rattle.ks_worker_state.specs.Topology.{RunsTopology}

@@ -2,18 +2,18 @@
 ghost use Rattle.std.specs.Prelude.{◌≡◌, ◌<◌, ◌≢◌, length, OnOk};
 ghost use Rattle.ks_topo.specs.Topologies.{draft_of};
 ghost use Rattle.ks_shared.specs.Calls.{setup_in};
-ghost use Rattle.ks_client.specs.Turns.{counts_after};
-ghost use Rattle.ks_client.specs.Calls.{MayCall, Later};
+ghost use Rattle.ks_worker_client.specs.Turns.{counts_after};
+ghost use Rattle.ks_worker_client.specs.Calls.{MayCall, Later};
 ghost use Rattle.ks_worker_state.specs.State.{MayAct, LaterState, KnowsTheSame, IsWorkerState, replica_names};
 ghost use Rattle.ks_worker_acts.specs.Feeds.{IsFedAt, AreFed, marks_to};
 ghost use Rattle.ks_worker_acts.specs.Gained.{HasGained};
 
-use ks_client::{ClusterClient, Halt};
 use ks_cluster::Work;
 use ks_edge::Gate;
 use ks_hash::Hash128;
 use ks_shared::Shared;
 use ks_topo::Topology;
+use ks_worker_client::{ClusterClient, Halt};
 use ks_worker_state::{WorkerState, changelogs_in, feed_once};
 use std::alloc::Global;
 use std::sync::Wait;

@@ -2,15 +2,15 @@
 ghost use Rattle.std.specs.Prelude.{◌≡◌, ◌≤◌, [], ◌∷◌, OnOk};
 ghost use Rattle.ks_plan.specs.Drafts.{DraftView};
 ghost use Rattle.ks_history.specs.declared.journal.Request.TheVariants.{Expire};
-ghost use Rattle.ks_client.specs.Turns.{counts_after};
-ghost use Rattle.ks_client.specs.Calls.{MayCall};
+ghost use Rattle.ks_worker_client.specs.Turns.{counts_after};
+ghost use Rattle.ks_worker_client.specs.Calls.{MayCall};
 ghost use Rattle.ks_worker_state.specs.State.{LaterState, KnowsTheSame, IsWorkerState};
 ghost use Rattle.ks_worker_acts.specs.Gained.{HasGained};
 
-use ks_client::Halt;
 use ks_cluster::Work;
 use ks_edge::Gate;
 use ks_shared::Shared;
+use ks_worker_client::Halt;
 use ks_worker_state::WorkerState;
 use std::alloc::Global;
 use std::sync::Wait;

@@ -12,7 +12,7 @@ use Rattle.ks_history.specs.History.{at, IsHistory}
 use Rattle.ks_history.specs.Touched.{touches, touched_from, touched}
 use Rattle.ks_history.proofs.Names.{same_task-refl}
 use Rattle.ks_law_restore.specs.Views.{WorkView, pending_work}
-use Rattle.ks_law_transaction.specs.Building.{Contents, no_contents}
+use Rattle.ks_law_commit.specs.Building.{Contents, no_contents}
 use Rattle.ks_law_commit.proofs.Stages.{sending_begins}
 use Rattle.ks_commit.specs.Alone.{IsNumbered}
 use Rattle.ks_commit.specs.declared.work.Frozen.{Frozen}

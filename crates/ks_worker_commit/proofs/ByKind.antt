@@ -24,8 +24,8 @@ use Rattle.ks_history.specs.Touched.{touched}
 use Rattle.ks_history.proofs.Histories.{state_after-append}
 use Rattle.ks_law_exactly_once.proofs.Refusals.{both_none}
 use Rattle.ks_law_restore.specs.Views.{WorkView}
-use Rattle.ks_law_transaction.specs.Building.{Contents, with_part, with_records, with_pending_offsets}
-use Rattle.ks_law_transaction.specs.Committing.{commit_entry}
+use Rattle.ks_law_commit.specs.Building.{Contents, with_part, with_records, with_pending_offsets}
+use Rattle.ks_law_commit.specs.Committing.{commit_entry}
 use Rattle.ks_law_commit.proofs.Stages.{sending_commits}
 use Rattle.ks_commit.specs.Alone.{number_in}
 use Rattle.ks_commit.specs.Numbers.{renumber}

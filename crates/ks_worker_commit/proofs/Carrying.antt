@@ -17,13 +17,13 @@ use Rattle.ks_history.proofs.Names.{same_part-is, same_part-refl, same_task-refl
 use Rattle.ks_history.specs.declared.journal.Entry.{Entry}
 use Rattle.ks_history.specs.Machine.{TaskPlan}
 use Rattle.ks_law_restore.specs.Views.{WorkView}
-use Rattle.ks_law_transaction.specs.Building.{Contents, with_records}
+use Rattle.ks_law_commit.specs.Building.{Contents, with_records}
 use Rattle.ks_growing.specs.Passes.{PassView}
 use Rattle.ks_shared.specs.declared.state.Frame.{Frame}
 use Rattle.ks_worker_commit.specs.declared.halt.Halt.{Halt}
 use Rattle.ks_worker_commit.specs.declared.halt.Halt.TheVariants.{OutOfMemory, Cut, Barred as IsBarred}
 use Rattle.ks_worker_commit.specs.Outcomes.{Requests, with_cuts, cuts_in}
-use Rattle.ks_client.specs.Turns.{GateCounts}
+use Rattle.ks_worker_client.specs.Turns.{GateCounts}
 use Rattle.ks_worker_commit.specs.Outputs.{put_output, put_outputs}
 use Rattle.ks_worker_commit.specs.Underway.{Memory, IsUnderway, Puts, Halts, Carries, AreSent, has_added}
 use Rattle.ks_worker_commit.proofs.Requesting.{requests_none, requests_both}

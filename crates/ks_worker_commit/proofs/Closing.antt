@@ -13,13 +13,13 @@ use Rattle.ks_history.specs.Follows.{TaskView}
 use Rattle.ks_history.specs.History.{at, IsHistory}
 use Rattle.ks_history.proofs.Histories.{history_front}
 use Rattle.ks_law_restore.specs.Views.{WorkView}
-use Rattle.ks_law_worker.specs.Held.{IsHeld}
-use Rattle.ks_law_worker.proofs.Holding.{held_stays}
+use Rattle.ks_law_commit.specs.Held.{IsHeld}
+use Rattle.ks_law_commit.proofs.Held.{held_stays}
 use Rattle.ks_commit.specs.Sending.{pendings_of}
 use Rattle.ks_commit.specs.Committed.{AreApart}
-use Rattle.ks_client.specs.declared.member.Member.{Member}
-use Rattle.ks_client.specs.Turns.{GateCounts}
-use Rattle.ks_client.specs.Calls.{Later}
+use Rattle.ks_worker_client.specs.declared.member.Member.{Member}
+use Rattle.ks_worker_client.specs.Turns.{GateCounts}
+use Rattle.ks_worker_client.specs.Calls.{Later}
 use Rattle.ks_growing.specs.Passes.{PassView}
 use Rattle.ks_shared.specs.declared.state.Frame.{Frame}
 use Rattle.ks_shared.specs.declared.barred.Barred.{Barred}

@@ -15,8 +15,8 @@ use Rattle.ks_history.specs.Touched.{touched}
 use Rattle.ks_law_restore.specs.Views.{WorkView, IsWork, recs_at, pending_work}
 use Rattle.ks_law_restore.proofs.Freezing.{frozen_is_work}
 use Rattle.ks_law_sharing.specs.Tasks.{IsActive}
-use Rattle.ks_law_transaction.specs.Building.{Contents, no_contents}
-use Rattle.ks_law_transaction.specs.Committing.{Holds, HoldsWork}
+use Rattle.ks_law_commit.specs.Building.{Contents, no_contents}
+use Rattle.ks_law_commit.specs.Committing.{Holds, HoldsWork}
 use Rattle.ks_law_commit.proofs.Stages.{sending_keeps_active, sending_is_faithful}
 use Rattle.ks_commit.specs.Committed.{tasks_in, AreApart, EachOf}
 use Rattle.ks_growing.specs.Passes.{PassView}

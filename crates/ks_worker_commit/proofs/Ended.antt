@@ -20,10 +20,10 @@ use Rattle.ks_history.proofs.Names.{same_part-is, same_part-refl, same_task-is, 
 use Rattle.ks_law_exactly_once.proofs.Slots.{next_mark-sent}
 use Rattle.ks_law_sharing.proofs.Leaving.{open_append, open_stays}
 use Rattle.ks_law_sharing.proofs.Rising.{journal_rises}
-use Rattle.ks_law_transaction.specs.Building.{Contents, no_contents, IsBuilding, with_records}
-use Rattle.ks_law_transaction.specs.Committing.{open_end}
-use Rattle.ks_law_transaction.proofs.Adding.{open_sent}
-use Rattle.ks_law_transaction.proofs.Ends.{append_ends}
+use Rattle.ks_law_commit.specs.Building.{Contents, no_contents, IsBuilding, with_records}
+use Rattle.ks_law_commit.specs.Committing.{open_end}
+use Rattle.ks_law_commit.proofs.Adding.{open_sent}
+use Rattle.ks_law_commit.proofs.Ends.{append_ends}
 use Rattle.ks_law_commit.specs.Sending.{HasSentNothing, HasBegun, IsSending}
 use Rattle.ks_law_commit.proofs.Stages.{building_is, quiet_is}
 use Rattle.ks_worker_commit.specs.Underway.{end_in, with_end, end_of_records, HasEnds}

@@ -16,9 +16,9 @@ use Rattle.ks_history.specs.History.{at}
 use Rattle.ks_history.specs.Touched.{touched}
 use Rattle.ks_law_restore.specs.Views.{WorkView, pending_work}
 use Rattle.ks_law_sharing.specs.Refusals.{IsFencing, IsMarkersWaiting}
-use Rattle.ks_law_transaction.specs.Building.{Contents, no_contents}
-use Rattle.ks_law_transaction.specs.Accounts.{accepted_of}
-use Rattle.ks_law_transaction.specs.Committing.{commit_entry}
+use Rattle.ks_law_commit.specs.Building.{Contents, no_contents}
+use Rattle.ks_law_commit.specs.Accounts.{accepted_of}
+use Rattle.ks_law_commit.specs.Committing.{commit_entry}
 use Rattle.ks_law_commit.specs.Cases.{IsTurnedDown, HasCommitted, CommitCases}
 use Rattle.ks_commit.specs.Sending.{pendings_of}
 use Rattle.ks_commit.specs.Committed.{tasks_in, AreApart}

@@ -9,7 +9,7 @@ use Rattle.ks_history.specs.declared.transaction.Pending.{Pending}
 use Rattle.ks_history.specs.State.{has_part, has_task, are_once}
 use Rattle.ks_history.proofs.Names.{same_part-is, same_part-refl, same_task-is, same_task-refl}
 use Rattle.ks_law_restore.specs.Views.{WorkView, recs_at, pending_work}
-use Rattle.ks_law_transaction.specs.Building.{Contents, with_part, with_records, with_pending_offsets}
+use Rattle.ks_law_commit.specs.Building.{Contents, with_part, with_records, with_pending_offsets}
 use Rattle.ks_commit.specs.Committed.{tasks_in, AreApart}
 use Rattle.ks_worker_commit.specs.Outputs.{add_all, put_output, put_outputs, put_works, put_all, send_all}
 

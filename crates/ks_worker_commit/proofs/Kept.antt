@@ -17,10 +17,10 @@ use Rattle.ks_history.proofs.Names.{same_task-is, same_task-refl}
 use Rattle.ks_law_restore.specs.Views.{WorkView, IsFrozen, committed_view, recs_at}
 use Rattle.ks_law_sharing.specs.Tasks.{HasSeen}
 use Rattle.ks_law_sharing.proofs.Touching.{seen_stays, touched_grows}
-use Rattle.ks_law_worker.specs.Held.{IsHeld}
-use Rattle.ks_law_worker.proofs.Holding.{held_stays}
-use Rattle.ks_law_transaction.specs.Building.{Contents, no_contents}
-use Rattle.ks_law_transaction.specs.Committing.{Holds, AreOpenEnds, commit_entry, open_end}
+use Rattle.ks_law_commit.specs.Held.{IsHeld}
+use Rattle.ks_law_commit.proofs.Held.{held_stays}
+use Rattle.ks_law_commit.specs.Building.{Contents, no_contents}
+use Rattle.ks_law_commit.specs.Committing.{Holds, AreOpenEnds, commit_entry, open_end}
 use Rattle.ks_law_commit.specs.Sending.{IsSending}
 use Rattle.ks_law_commit.specs.Holding.{IsOnItsWay, abort_entry}
 use Rattle.ks_law_commit.specs.Producers.{IsRemembered, AreCounts, refused_entry}
@@ -28,8 +28,8 @@ use Rattle.ks_law_commit.proofs.Keeping.{seen_at_last, way_is_sending, way_keeps
 use Rattle.ks_law_commit.proofs.Numbering.{remembered_stays, decision_is_remembered, refusal_is_remembered}
 use Rattle.ks_commit.specs.Alone.{number_in}
 use Rattle.ks_commit.specs.Committed.{tasks_in, AreApart}
-use Rattle.ks_client.specs.declared.member.Member.{Member}
-use Rattle.ks_client.specs.Members.{IsProducer}
+use Rattle.ks_worker_client.specs.declared.member.Member.{Member}
+use Rattle.ks_worker_client.specs.Members.{IsProducer}
 use Rattle.ks_growing.specs.Passes.{PassView}
 use Rattle.ks_shared.specs.declared.state.Frame.{Frame}
 use Rattle.ks_shared.specs.declared.barred.Barred.{Barred}

@@ -2,8 +2,8 @@
 use Rattle.std.proofs.Common.{ℕ, ap, ◌∙◌}
 use Rattle.atomic_table.specs.Seated.{TableId}
 use Rattle.ks_history.specs.Machine.{TaskPlan}
-use Rattle.ks_client.specs.Turns.{HasRoomFor}
-use Rattle.ks_client.specs.declared.session.Session.{Session}
+use Rattle.ks_worker_client.specs.Turns.{HasRoomFor}
+use Rattle.ks_worker_client.specs.declared.session.Session.{Session}
 use Rattle.ks_worker_commit.specs.Premises.{MayRequest}
 use Rattle.ks_worker_commit.specs.Outcomes.{Requests}
 

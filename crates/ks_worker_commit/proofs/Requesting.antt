@@ -26,9 +26,9 @@ use Rattle.ks_law_sharing.proofs.Touching.{touched_grows, seen_stays}
 use Rattle.ks_law_sharing.proofs.Leaving.{count_stays}
 use Rattle.ks_law_sharing.proofs.Rising.{journal_rises}
 use Rattle.ks_law_sharing.proofs.Assigned.{active_stays}
-use Rattle.ks_law_transaction.specs.Building.{Contents, adds_to}
-use Rattle.ks_law_transaction.specs.Accounts.{is_of_commit, accepted_of}
-use Rattle.ks_law_transaction.specs.Advancing.{added_by}
+use Rattle.ks_law_commit.specs.Building.{Contents, adds_to}
+use Rattle.ks_law_commit.specs.Accounts.{is_of_commit, accepted_of}
+use Rattle.ks_law_commit.specs.Advancing.{added_by}
 use Rattle.ks_law_commit.specs.Cases.{carries, IsTurnedDown}
 use Rattle.ks_law_commit.specs.Sending.{IsSending, IsPrepared}
 use Rattle.ks_law_commit.proofs.Stages.{quiet_is, sending_keeps_active, sending_gains, sending_touched, sending_refused}

@@ -9,7 +9,7 @@ use Rattle.ks_row.specs.Parts.{same_part, same_task, part_lt}
 use Rattle.ks_history.specs.State.{insert_part, has_part}
 use Rattle.ks_history.proofs.Names.{same_part-is, same_part-refl}
 use Rattle.ks_law_restore.specs.Views.{WorkView, recs_at}
-use Rattle.ks_law_transaction.proofs.Adding.{has_part-inserted}
+use Rattle.ks_law_commit.proofs.Adding.{has_part-inserted}
 use Rattle.ks_worker_commit.specs.Outputs.{parts_with, parts_in}
 use Rattle.ks_worker_commit.proofs.Filling.{IsFirst, parts_once}
 

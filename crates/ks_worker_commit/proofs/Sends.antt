@@ -5,7 +5,7 @@ use Rattle.ks_history.specs.Machine.{TaskPlan}
 use Rattle.ks_history.specs.State.{has_part}
 use Rattle.ks_history.specs.declared.journal.Entry.{Entry}
 use Rattle.ks_law_restore.specs.Views.{WorkView}
-use Rattle.ks_law_transaction.specs.Building.{Contents}
+use Rattle.ks_law_commit.specs.Building.{Contents}
 use Rattle.ks_growing.specs.Passes.{PassView}
 use Rattle.ks_shared.specs.declared.state.Frame.{Frame}
 use Rattle.ks_worker_commit.specs.declared.halt.Halt.{Halt}

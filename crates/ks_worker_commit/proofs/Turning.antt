@@ -5,7 +5,7 @@ use Rattle.ks_history.specs.declared.journal.Entry.{Entry}
 use Rattle.ks_history.specs.Machine.{TaskPlan}
 use Rattle.ks_history.specs.State.{Setup}
 use Rattle.ks_history.specs.History.{at}
-use Rattle.ks_client.specs.Turns.{GateCounts, HasRoomFor}
+use Rattle.ks_worker_client.specs.Turns.{GateCounts, HasRoomFor}
 use Rattle.ks_growing.specs.Passes.{PassView}
 use Rattle.ks_shared.specs.declared.state.Frame.{Frame}
 use Rattle.ks_shared.specs.Calls.{setup_in}

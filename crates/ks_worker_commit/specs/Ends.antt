@@ -11,7 +11,7 @@ use Rattle.ks_history.specs.Machine.{TaskPlan}
 use Rattle.ks_history.specs.History.{at}
 use Rattle.ks_history.specs.Touched.{touched}
 use Rattle.ks_law_restore.specs.Views.{WorkView}
-use Rattle.ks_law_transaction.specs.Building.{Contents}
+use Rattle.ks_law_commit.specs.Building.{Contents}
 use Rattle.ks_law_commit.specs.Cases.{HasCommitted, CommitCases}
 use Rattle.ks_growing.specs.Passes.{PassView}
 use Rattle.ks_shared.specs.declared.state.Frame.{Frame}

@@ -9,10 +9,10 @@ use Rattle.ks_history.specs.State.{Setup, has_task, offset_in}
 use Rattle.ks_history.specs.Follows.{TaskView}
 use Rattle.ks_history.specs.History.{at}
 use Rattle.ks_law_restore.specs.Views.{WorkView, IsFrozen, committed_view}
-use Rattle.ks_law_worker.specs.Held.{IsHeld}
+use Rattle.ks_law_commit.specs.Held.{IsHeld}
 use Rattle.ks_commit.specs.Committed.{tasks_in}
-use Rattle.ks_client.specs.declared.member.Member.{Member}
-use Rattle.ks_client.specs.Members.{MemberHasSeen, IsProducer}
+use Rattle.ks_worker_client.specs.declared.member.Member.{Member}
+use Rattle.ks_worker_client.specs.Members.{MemberHasSeen, IsProducer}
 use Rattle.ks_worker_commit.specs.declared.outcome.Outcome.{Outcome}
 use Rattle.ks_worker_commit.specs.declared.outcome.Outcome.TheVariants.{Committed, Aborted, Fenced, Touched, Cut}
 

@@ -10,9 +10,9 @@ use Rattle.ks_shared.specs.Calls.{setup_in}
 use Rattle.ks_shared.specs.declared.barred.Barred.{Barred}
 use Rattle.ks_shared.specs.declared.barred.Barred.TheVariants.{Refused as Refusal, Touched}
 use Rattle.ks_law_sharing.specs.Refusals.{IsFencing, IsMarkersWaiting}
-use Rattle.ks_law_transaction.specs.Accounts.{is_of_commit, accepted_of}
+use Rattle.ks_law_commit.specs.Accounts.{is_of_commit, accepted_of}
 use Rattle.ks_law_commit.specs.Cases.{IsTurnedDown}
-use Rattle.ks_client.specs.Turns.{GateCounts}
+use Rattle.ks_worker_client.specs.Turns.{GateCounts}
 use Rattle.ks_worker_commit.specs.declared.halt.Halt.{Halt}
 use Rattle.ks_worker_commit.specs.declared.halt.Halt.TheVariants.{OutOfMemory, Cut, Barred as IsBarred}
 

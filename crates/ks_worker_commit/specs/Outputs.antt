@@ -7,7 +7,7 @@ use Rattle.ks_row.specs.declared.record.TaskId.{TaskId}
 use Rattle.ks_row.specs.Parts.{same_part}
 use Rattle.ks_history.specs.State.{insert_part}
 use Rattle.ks_law_restore.specs.Views.{WorkView, pending_work}
-use Rattle.ks_law_transaction.specs.Building.{Contents, no_contents, with_part, with_records, with_pending_offsets}
+use Rattle.ks_law_commit.specs.Building.{Contents, no_contents, with_part, with_records, with_pending_offsets}
 
 -- ---- the partitions in which works have records, rising, none twice
 abbrev pub parts_with : List PartId → List (PartId × List Rec) → List PartId

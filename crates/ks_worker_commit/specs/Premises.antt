@@ -1,8 +1,8 @@
 -- What each request of a commit asks of its caller.
 use Rattle.std.specs.Prelude.{◌≡◌, ◌≤◌, ℕ, false}
 use Rattle.atomic_table.specs.Seated.{TableId}
-use Rattle.ks_client.specs.Turns.{HasRoomFor}
-use Rattle.ks_client.specs.declared.session.Session.{Session}
+use Rattle.ks_worker_client.specs.Turns.{HasRoomFor}
+use Rattle.ks_worker_client.specs.declared.session.Session.{Session}
 
 -- the worker may make requests: its pass is of this lock and doesn't hold it, its gate has room,
 -- its number is a producer's, 0 to 16

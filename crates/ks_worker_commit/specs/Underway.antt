@@ -17,8 +17,8 @@ use Rattle.ks_history.specs.History.{at, IsHistory}
 use Rattle.ks_history.specs.Touched.{touched}
 use Rattle.ks_law_restore.specs.Views.{WorkView, IsFrozen, are_topics_once}
 use Rattle.ks_law_sharing.specs.Tasks.{IsActive, HasSeen}
-use Rattle.ks_law_transaction.specs.Building.{Contents}
-use Rattle.ks_law_transaction.specs.Committing.{commit_entry, open_end}
+use Rattle.ks_law_commit.specs.Building.{Contents}
+use Rattle.ks_law_commit.specs.Committing.{commit_entry, open_end}
 use Rattle.ks_law_commit.specs.Sending.{IsSending}
 use Rattle.ks_commit.specs.Alone.{IsNumbered}
 use Rattle.ks_commit.specs.Committed.{tasks_in}

@@ -3,8 +3,8 @@ ghost use Rattle.std.specs.Prelude.{◌≡◌, ◌≢◌, ◌≤◌, [], IfOk, O
 ghost use Rattle.ks_history.specs.State.{pending_of};
 ghost use Rattle.ks_history.specs.History.{at};
 ghost use Rattle.ks_history.specs.Touched.{touched};
-ghost use Rattle.ks_client.specs.Calls.{MayCall, Later};
-ghost use Rattle.ks_client.specs.Members.{MemberHasSeen, IsProducer};
+ghost use Rattle.ks_worker_client.specs.Calls.{MayCall, Later};
+ghost use Rattle.ks_worker_client.specs.Members.{MemberHasSeen, IsProducer};
 ghost use Rattle.ks_shared.specs.Calls.{setup_in};
 ghost use Rattle.ks_commit.specs.Alone.{IsNumbered};
 ghost use Rattle.ks_commit.specs.Sending.{pendings_of};
@@ -21,12 +21,12 @@ use crate::outcome::Outcome;
 use crate::outputs::output_parts;
 use crate::requests::{decide_abort, decide_commit, write_marker};
 use crate::sending::send;
-use ks_client::{Member, Session};
 use ks_cluster::Work;
 use ks_commit::Frozen;
 use ks_edge::Gate;
 use ks_row::Refused;
 use ks_shared::{Barred, Shared};
+use ks_worker_client::{Member, Session};
 use std::alloc::{AllocError, Global};
 use std::sync::Wait;
 

@@ -19,7 +19,7 @@ pub(crate) fn number(numbers: &[(PartId, u64)], part: PartId) -> u64
 }
 
 // The numbers, with another one for this partition.
-pub(crate) fn renumbered(
+pub(crate) fn with_next_number(
     alloc: Global,
     numbers: &[(PartId, u64)],
     part: PartId,

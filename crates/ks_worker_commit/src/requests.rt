@@ -6,7 +6,7 @@ ghost use Rattle.ks_history.specs.History.{at, are_offsets, CommitsFaithfully};
 ghost use Rattle.ks_history.specs.Touched.{touched};
 ghost use Rattle.ks_shared.specs.Calls.{setup_in};
 ghost use Rattle.ks_law_restore.specs.Views.{pending_work};
-ghost use Rattle.ks_law_transaction.specs.Building.{with_part, with_records, with_pending_offsets};
+ghost use Rattle.ks_law_commit.specs.Building.{with_part, with_records, with_pending_offsets};
 ghost use Rattle.ks_commit.specs.Work.{work_view};
 ghost use Rattle.ks_worker_commit.specs.Premises.{MayRequest};
 ghost use Rattle.ks_worker_commit.specs.Outcomes.{Requests, with_cuts, cuts_in, halted, written};
@@ -14,13 +14,13 @@ ghost use Rattle.ks_worker_commit.specs.Ends.{NeverBarred};
 ghost use Rattle.ks_worker_commit.specs.Underway.{memory, with_end, Carries, Decides, Aborts, always, has_added, has_work};
 
 use crate::halt::Halt;
-use crate::numbers::{number, renumbered};
-use ks_client::{Member, Session};
+use crate::numbers::{number, with_next_number};
 use ks_cluster::Work;
 use ks_commit::Frozen;
 use ks_edge::Gate;
 use ks_row::{PartId, Rec, Seq, TaskId};
 use ks_shared::{Barred, Shared};
+use ks_worker_client::{Member, Session};
 use std::alloc::{AllocError, Global};
 use std::sync::Wait;
 
@@ -139,7 +139,7 @@ pub fn append_output<R: Wait, W: Work, G: Gate>(
     let (part, recs) = (out.0, out.1.as_slice());
     let before = number(session.numbers.as_slice(), part);
     let after = number_after(before, recs)?;
-    let numbers = renumbered(alloc, session.numbers.as_slice(), part, after)?;
+    let numbers = with_next_number(alloc, session.numbers.as_slice(), part, after)?;
     let (worker, epoch) = (member.number, member.epoch);
     let (last, pass) = (&mut session.last, &mut session.client.pass);
     let offset = match done(shared.append(

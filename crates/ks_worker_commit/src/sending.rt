@@ -13,12 +13,12 @@ ghost use Rattle.ks_worker_commit.specs.Underway.{memory, Carries, always, has_a
 
 use crate::halt::Halt;
 use crate::requests::{add_part, append_output, send_offsets};
-use ks_client::{Member, Session};
 use ks_cluster::Work;
 use ks_commit::Frozen;
 use ks_edge::Gate;
 use ks_row::{PartId, Rec, Seq, TaskId};
 use ks_shared::Shared;
+use ks_worker_client::{Member, Session};
 use std::alloc::Global;
 use std::sync::Wait;
 

@@ -14,14 +14,14 @@ use Rattle.ks_history.specs.History.{at, IsHistory}
 use Rattle.ks_law_restore.specs.Replicas.{fed_replica}
 use Rattle.ks_law_restore.proofs.Lasting.{replica_stands}
 use Rattle.ks_law_restore.proofs.Replicas.{feeding_follows}
-use Rattle.ks_law_worker.specs.Moves.{IsFed}
-use Rattle.ks_law_worker.proofs.Bounds.{replica_is_within}
-use Rattle.ks_law_worker.proofs.Moving.{feeding_moves, fed_twice}
+use Rattle.ks_law_commit.specs.Moves.{IsFed}
+use Rattle.ks_law_commit.proofs.Bounds.{replica_is_within}
+use Rattle.ks_law_commit.proofs.Moving.{feeding_moves, fed_twice}
 use Rattle.ks_growing.specs.Passes.{PassView}
 use Rattle.ks_shared.specs.declared.state.Frame.{Frame}
 use Rattle.ks_shared.specs.Calls.{setup_in}
-use Rattle.ks_client.specs.Calls.{Later, state_seen}
-use Rattle.ks_client.proofs.Moments.{same_frame}
+use Rattle.ks_worker_client.specs.Calls.{Later, state_seen}
+use Rattle.ks_worker_client.proofs.Moments.{same_frame}
 use Rattle.ks_standby.specs.declared.replica.Replica.{Replica}
 use Rattle.ks_standby.specs.Replicas.{replica_view, changelogs_of}
 use Rattle.ks_worker_state.specs.Standbys.{IsStandby, IsFedStandby}

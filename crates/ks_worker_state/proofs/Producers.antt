@@ -10,8 +10,8 @@ use Rattle.ks_commit.specs.Alone.{number_in, IsNumbered}
 use Rattle.ks_law_sharing.proofs.Rising.{epoch_rises}
 use Rattle.ks_law_sharing.proofs.Touching.{same_touched, touched_grows}
 use Rattle.ks_law_sharing.proofs.Leaving.{count_stays, idle_stays}
-use Rattle.ks_client.specs.declared.member.Member.{Member}
-use Rattle.ks_client.specs.Members.{MemberHasSeen, IsProducer}
+use Rattle.ks_worker_client.specs.declared.member.Member.{Member}
+use Rattle.ks_worker_client.specs.Members.{MemberHasSeen, IsProducer}
 
 module _ (setup : Setup) (journal more : List Entry) (m : Member) (last : ℕ) (past : MemberHasSeen setup journal m last) where
   was_touched : touched m.number (journal ++ more) ≡ last → touched m.number journal ≡ last

@@ -14,21 +14,21 @@ use Rattle.ks_history.specs.Reads.{MayFetch, fetched}
 use Rattle.ks_history.specs.Follows.{TaskView}
 use Rattle.ks_history.specs.History.{at}
 use Rattle.ks_law_restore.specs.Views.{take_view, take_all, skip_view, SendsInside}
-use Rattle.ks_law_worker.specs.Bounds.{stable_of, FetchGoesOn}
-use Rattle.ks_law_worker.specs.Held.{IsHeld}
-use Rattle.ks_law_worker.specs.Moves.{HasRead}
-use Rattle.ks_law_worker.proofs.Bounds.{fetches_go_on, stable_rises}
-use Rattle.ks_law_worker.proofs.Holding.{held_stays, fetching_holds}
-use Rattle.ks_law_worker.proofs.Moving.{reading_moves}
+use Rattle.ks_law_commit.specs.Bounds.{stable_of, FetchGoesOn}
+use Rattle.ks_law_commit.specs.Held.{IsHeld}
+use Rattle.ks_law_commit.specs.Moves.{HasRead}
+use Rattle.ks_law_commit.proofs.Bounds.{fetches_go_on, stable_rises}
+use Rattle.ks_law_commit.proofs.Held.{held_stays, fetching_holds}
+use Rattle.ks_law_commit.proofs.Moving.{reading_moves}
 use Rattle.ks_growing.specs.Passes.{PassView}
 use Rattle.ks_shared.specs.declared.state.Frame.{Frame}
 use Rattle.ks_shared.specs.Calls.{setup_in}
-use Rattle.ks_client.specs.Calls.{Later, state_seen}
-use Rattle.ks_client.proofs.Moments.{same_frame}
+use Rattle.ks_worker_client.specs.Calls.{Later, state_seen}
+use Rattle.ks_worker_client.proofs.Moments.{same_frame}
 use Rattle.ks_task.specs.declared.task.Task.{Task}
 use Rattle.ks_task.specs.Tasks.{task_view, IsTaskOf}
-use Rattle.ks_client.specs.declared.member.Member.{Member}
-use Rattle.ks_client.specs.Members.{MemberHasSeen}
+use Rattle.ks_worker_client.specs.declared.member.Member.{Member}
+use Rattle.ks_worker_client.specs.Members.{MemberHasSeen}
 use Rattle.ks_worker_state.specs.Tasks.{IsHeldTask, IsReadOnce, MakesInside}
 use Rattle.ks_worker_state.specs.Topology.{RunsTopology}
 

@@ -18,8 +18,8 @@ use Rattle.ks_history.specs.History.{at, IsHistory}
 use Rattle.ks_law_restore.specs.Replicas.{restored_view}
 use Rattle.ks_law_sharing.specs.Tasks.{HasSeen}
 use Rattle.ks_law_sharing.proofs.Touching.{seen_stays}
-use Rattle.ks_law_worker.specs.Held.{IsHeld}
-use Rattle.ks_law_worker.proofs.Holding.{restoring_holds}
+use Rattle.ks_law_commit.specs.Held.{IsHeld}
+use Rattle.ks_law_commit.proofs.Held.{restoring_holds}
 use Rattle.ks_standby.specs.declared.replica.Replica.{Replica}
 use Rattle.ks_standby.specs.Replicas.{replica_view, changelogs_of}
 use Rattle.ks_standby.proofs.Feeding.{no_other}
@@ -27,8 +27,8 @@ use Rattle.ks_task.proofs.Restoring.{listed}
 use Rattle.ks_growing.specs.Passes.{PassView}
 use Rattle.ks_shared.specs.declared.state.Frame.{Frame}
 use Rattle.ks_shared.specs.Calls.{setup_in}
-use Rattle.ks_client.specs.Calls.{Later, state_seen}
-use Rattle.ks_client.proofs.Moments.{same_frame}
+use Rattle.ks_worker_client.specs.Calls.{Later, state_seen}
+use Rattle.ks_worker_client.proofs.Moments.{same_frame}
 use Rattle.ks_plan.specs.Plan.{plan_of}
 use Rattle.ks_plan.specs.Layout.{tasks}
 use Rattle.ks_plan.specs.Infos.{changelog_numbers}
@@ -36,8 +36,8 @@ use Rattle.ks_task.specs.Tasks.{task_view, IsTaskOf}
 use Rattle.ks_worker_state.specs.Topology.{RunsTopology}
 use Rattle.ks_worker_state.specs.Standbys.{IsStandby, IsFedStandby}
 use Rattle.ks_task.specs.declared.task.Task.{Task}
-use Rattle.ks_client.specs.declared.member.Member.{Member}
-use Rattle.ks_client.specs.Members.{MemberHasSeen}
+use Rattle.ks_worker_client.specs.declared.member.Member.{Member}
+use Rattle.ks_worker_client.specs.Members.{MemberHasSeen}
 use Rattle.ks_worker_state.specs.Tasks.{IsHeldTask}
 use Rattle.ks_worker_state.specs.Restoring.{reached_in, IsMadeAtTheEnds}
 

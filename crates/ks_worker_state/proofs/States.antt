@@ -4,8 +4,8 @@ use Rattle.atomic_table.specs.Seated.{TableId}
 use Rattle.ks_plan.specs.Drafts.{DraftView}
 use Rattle.ks_history.specs.Machine.{TaskPlan}
 use Rattle.ks_shared.specs.Calls.{setup_in}
-use Rattle.ks_client.proofs.Moments.{same_frame, may_later, later_twice, not_later}
-use Rattle.ks_client.specs.Calls.{MayCall}
+use Rattle.ks_worker_client.proofs.Moments.{same_frame, may_later, later_twice, not_later}
+use Rattle.ks_worker_client.specs.Calls.{MayCall}
 use Rattle.ks_worker_state.specs.declared.state.WorkerState.{WorkerState}
 use Rattle.ks_worker_state.specs.Topology.{RunsTopology}
 use Rattle.ks_worker_state.specs.State.{IsWorkerState, MayAct, LaterState}

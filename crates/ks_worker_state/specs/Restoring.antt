@@ -14,7 +14,7 @@ use Rattle.ks_standby.specs.declared.replica.Replica.{Replica}
 use Rattle.ks_standby.specs.Replicas.{replica_view}
 use Rattle.ks_task.specs.declared.task.Task.{Task}
 use Rattle.ks_task.specs.Tasks.{task_view, IsTaskOf}
-use Rattle.ks_client.specs.Calls.{Later, state_seen}
+use Rattle.ks_worker_client.specs.Calls.{Later, state_seen}
 use Rattle.ks_worker_state.specs.Standbys.{IsStandby}
 
 -- a position in each of these changelogs is at or past its end

@@ -5,7 +5,7 @@ use Rattle.ks_history.specs.State.{Setup, has_task}
 use Rattle.ks_standby.specs.declared.replica.Replica.{Replica}
 use Rattle.ks_standby.specs.Replicas.{replica_view, changelogs_of}
 use Rattle.ks_shared.specs.Shelf.{IsReplicaOf}
-use Rattle.ks_law_worker.specs.Moves.{IsFed}
+use Rattle.ks_law_commit.specs.Moves.{IsFed}
 
 -- a replica of one of the cluster's tasks, with the task's changelogs, which follows the journal
 pub record IsStandby (setup : Setup) (journal : List Entry) (r : Replica) : Type 0 where

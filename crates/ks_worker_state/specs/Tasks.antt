@@ -8,12 +8,12 @@ use Rattle.ks_history.specs.State.{Setup, IsPart}
 use Rattle.ks_history.specs.Follows.{TaskView}
 use Rattle.ks_history.specs.History.{at}
 use Rattle.ks_law_restore.specs.Views.{SendsInside}
-use Rattle.ks_law_worker.specs.Bounds.{stable_of}
-use Rattle.ks_law_worker.specs.Held.{IsHeld}
-use Rattle.ks_law_worker.specs.Moves.{HasRead}
+use Rattle.ks_law_commit.specs.Bounds.{stable_of}
+use Rattle.ks_law_commit.specs.Held.{IsHeld}
+use Rattle.ks_law_commit.specs.Moves.{HasRead}
 use Rattle.ks_task.specs.declared.task.Task.{Task}
 use Rattle.ks_task.specs.Tasks.{task_view, IsTaskOf}
-use Rattle.ks_client.specs.declared.member.Member.{Member}
+use Rattle.ks_worker_client.specs.declared.member.Member.{Member}
 
 -- all that a task made since its last commit goes to partitions of the cluster
 abbrev pub MakesInside : Setup → TaskView → Type 0

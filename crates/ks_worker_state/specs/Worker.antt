@@ -11,9 +11,9 @@ use Rattle.ks_history.specs.History.{IsHistory}
 use Rattle.ks_growing.specs.Passes.{PassView}
 use Rattle.ks_shared.specs.declared.state.Frame.{Frame}
 use Rattle.ks_shared.specs.Calls.{setup_in}
-use Rattle.ks_client.specs.declared.member.Member.{Member}
-use Rattle.ks_client.specs.Members.{MemberHasSeen, IsProducer}
-use Rattle.ks_client.specs.Calls.{Later}
+use Rattle.ks_worker_client.specs.declared.member.Member.{Member}
+use Rattle.ks_worker_client.specs.Members.{MemberHasSeen, IsProducer}
+use Rattle.ks_worker_client.specs.Calls.{Later}
 use Rattle.ks_standby.specs.declared.replica.Replica.{Replica}
 use Rattle.ks_task.specs.declared.task.Task.{Task}
 use Rattle.ks_task.specs.Tasks.{task_view}

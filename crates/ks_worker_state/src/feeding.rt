@@ -3,16 +3,16 @@ ghost use Rattle.std.specs.Prelude.{◌≡◌, ◌∷◌, [], true, OnOk};
 ghost use Rattle.ks_history.specs.Machine.{has_topic};
 ghost use Rattle.ks_standby.specs.Replicas.{changelogs_of};
 ghost use Rattle.ks_shared.specs.Calls.{setup_in};
-ghost use Rattle.ks_client.specs.Turns.{counts_after};
-ghost use Rattle.ks_client.specs.Calls.{MayCall, Later};
+ghost use Rattle.ks_worker_client.specs.Turns.{counts_after};
+ghost use Rattle.ks_worker_client.specs.Calls.{MayCall, Later};
 ghost use Rattle.ks_worker_state.specs.Standbys.{IsStandby, IsFedStandby};
 
-use ks_client::{ClusterClient, Halt, or_halt};
 use ks_cluster::Work;
 use ks_edge::Gate;
 use ks_row::PartId;
 use ks_shared::Shared;
 use ks_standby::Replica;
+use ks_worker_client::{ClusterClient, Halt, or_halt};
 use std::alloc::Global;
 use std::sync::Wait;
 

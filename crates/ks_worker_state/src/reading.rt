@@ -5,16 +5,15 @@ ghost use Rattle.ks_plan.specs.Infos.{input_numbers};
 ghost use Rattle.ks_topo.specs.Topologies.{draft_of, plan_in};
 ghost use Rattle.ks_law_topology.specs.Work.{work_of};
 ghost use Rattle.ks_law_restore.specs.Views.{take_all};
-ghost use Rattle.ks_nodes.specs.Rules.{rules_of};
+ghost use Rattle.ks_def_tasks.specs.Rules.{rules_of};
 ghost use Rattle.ks_shared.specs.Calls.{setup_in};
 ghost use Rattle.ks_task.specs.Tasks.{task_view, IsTaskOf};
-ghost use Rattle.ks_client.specs.Turns.{counts_after};
-ghost use Rattle.ks_client.specs.Calls.{MayCall, Later};
-ghost use Rattle.ks_client.specs.Members.{MemberHasSeen};
+ghost use Rattle.ks_worker_client.specs.Turns.{counts_after};
+ghost use Rattle.ks_worker_client.specs.Calls.{MayCall, Later};
+ghost use Rattle.ks_worker_client.specs.Members.{MemberHasSeen};
 ghost use Rattle.ks_worker_state.specs.Tasks.{IsHeldTask, IsReadOnce};
 ghost use Rattle.ks_worker_state.specs.Topology.{RunsTopology};
 
-use ks_client::{Halt, Member, Session, or_halt};
 use ks_cluster::Work;
 use ks_edge::Gate;
 use ks_hash::Hash128;
@@ -22,6 +21,7 @@ use ks_row::{PartId, Rec};
 use ks_shared::Shared;
 use ks_task::Task;
 use ks_topo::Topology;
+use ks_worker_client::{Halt, Member, Session, or_halt};
 use std::alloc::{AllocError, Global};
 use std::sync::Wait;
 

@@ -7,22 +7,21 @@ ghost use Rattle.ks_plan.specs.Infos.{input_numbers, changelog_numbers};
 ghost use Rattle.ks_plan.specs.Layout.{tasks};
 ghost use Rattle.ks_topo.specs.Topologies.{draft_of, plan_in};
 ghost use Rattle.ks_law_restore.specs.Replicas.{restored_view};
-ghost use Rattle.ks_nodes.specs.Rules.{HaveParts};
+ghost use Rattle.ks_def_tasks.specs.Rules.{HaveParts};
 ghost use Rattle.ks_shared.specs.Calls.{setup_in};
 ghost use Rattle.ks_standby.specs.Replicas.{replica_view, changelogs_of};
 ghost use Rattle.ks_task.specs.Tasks.{task_view, IsTaskOf};
-ghost use Rattle.ks_client.specs.declared.halt.Halt.TheVariants.{OutOfMemory};
-ghost use Rattle.ks_client.specs.Turns.{counts_after};
-ghost use Rattle.ks_client.specs.Calls.{MayCall, Later, state_seen};
+ghost use Rattle.ks_worker_client.specs.declared.halt.Halt.TheVariants.{OutOfMemory};
+ghost use Rattle.ks_worker_client.specs.Turns.{counts_after};
+ghost use Rattle.ks_worker_client.specs.Calls.{MayCall, Later, state_seen};
 ghost use Rattle.ks_worker_state.specs.Standbys.{IsStandby};
-ghost use Rattle.ks_client.specs.Members.{MemberHasSeen};
+ghost use Rattle.ks_worker_client.specs.Members.{MemberHasSeen};
 ghost use Rattle.ks_worker_state.specs.Tasks.{IsHeldTask};
 ghost use Rattle.ks_worker_state.specs.Topology.{RunsTopology};
 ghost use Rattle.ks_worker_state.specs.Restoring.{reached_in, IsMadeAtTheEnds};
 
 use crate::feeding::feed_to_the_end;
 use crate::topics::changelogs_in;
-use ks_client::{ClusterClient, Halt, Member, Session, or_halt};
 use ks_cluster::Work;
 use ks_edge::Gate;
 use ks_hash::Hash128;
@@ -31,6 +30,7 @@ use ks_shared::Shared;
 use ks_standby::Replica;
 use ks_task::Task;
 use ks_topo::Topology;
+use ks_worker_client::{ClusterClient, Halt, Member, Session, or_halt};
 use std::alloc::{AllocError, Global};
 use std::sync::Wait;
 
@@ -114,7 +114,7 @@ fn task_of(
 }
 
 // Makes a task of a replica of these committed offsets, once it is fed and has reached the ends of its changelogs; else it is given back.
-#[tactic(auto, using(ks_client::proofs::Moments::later_twice, ks_client::proofs::Halting::same_counts, ks_client::proofs::Halting::counts_on))]
+#[tactic(auto, using(ks_worker_client::proofs::Moments::later_twice, ks_worker_client::proofs::Halting::same_counts, ks_worker_client::proofs::Halting::counts_on))]
 fn restore_with<H: Hash128, R: Wait, W: Work, G: Gate>(
     rt: &R,
     alloc: Global,

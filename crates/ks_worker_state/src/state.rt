@@ -2,11 +2,11 @@
 ghost use Rattle.std.specs.Prelude.{◌≡◌, []};
 ghost use Rattle.ks_worker_state.specs.Worker.{lost};
 
-use ks_client::{Member, Session};
 use ks_cluster::Work;
 use ks_edge::Gate;
 use ks_standby::Replica;
 use ks_task::Task;
+use ks_worker_client::{Member, Session};
 use std::alloc::Global;
 
 /// What a worker holds: what it knows of itself, its tasks and its replicas in the order of their names, and its session with the

@@ -19,9 +19,9 @@ use Rattle.ks_history.proofs.Histories.{state_after-append}
 use Rattle.ks_growing.specs.Passes.{PassView}
 use Rattle.ks_shared.specs.declared.state.Frame.{Frame}
 use Rattle.ks_shared.specs.Calls.{setup_in}
-use Rattle.ks_client.specs.declared.member.Member.{Member}
-use Rattle.ks_client.specs.Calls.{Later, Wrote, state_seen}
-use Rattle.ks_client.proofs.Moments.{same_frame, not_later, later_twice}
+use Rattle.ks_worker_client.specs.declared.member.Member.{Member}
+use Rattle.ks_worker_client.specs.Calls.{Later, Wrote, state_seen}
+use Rattle.ks_worker_client.proofs.Moments.{same_frame, not_later, later_twice}
 use Rattle.ks_worker_turn.specs.Acting.{WasAssigned}
 
 -- ---- as a status tells it

@@ -19,10 +19,10 @@ use Rattle.ks_shared.specs.declared.state.Frame.{Frame}
 use Rattle.ks_shared.specs.Calls.{setup_in}
 use Rattle.ks_standby.specs.declared.replica.Replica.{Replica}
 use Rattle.ks_task.specs.declared.task.Task.{Task}
-use Rattle.ks_client.specs.declared.member.Member.{Member}
-use Rattle.ks_client.specs.Members.{MemberHasSeen, IsProducer}
-use Rattle.ks_client.specs.Calls.{Later, Wrote}
-use Rattle.ks_client.proofs.Moments.{same_frame}
+use Rattle.ks_worker_client.specs.declared.member.Member.{Member}
+use Rattle.ks_worker_client.specs.Members.{MemberHasSeen, IsProducer}
+use Rattle.ks_worker_client.specs.Calls.{Later, Wrote}
+use Rattle.ks_worker_client.proofs.Moments.{same_frame}
 use Rattle.ks_worker_state.specs.Standbys.{IsStandby}
 use Rattle.ks_worker_state.specs.Tasks.{IsHeldTask}
 use Rattle.ks_worker_state.specs.Worker.{IsWorker}

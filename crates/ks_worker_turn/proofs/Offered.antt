@@ -16,12 +16,12 @@ use Rattle.ks_cluster.specs.Placed.{PlacementTest, IsGoodAt, is_good_by}
 use Rattle.ks_growing.specs.Passes.{PassView}
 use Rattle.ks_shared.specs.declared.state.Frame.{Frame}
 use Rattle.ks_shared.specs.Calls.{setup_in, good_in}
-use Rattle.ks_client.specs.Calls.{Later, state_seen}
-use Rattle.ks_client.proofs.Moments.{same_frame}
+use Rattle.ks_worker_client.specs.Calls.{Later, state_seen}
+use Rattle.ks_worker_client.proofs.Moments.{same_frame}
 use Rattle.ks_assign.specs.declared.clients.Placing.{Placing}
-use Rattle.ks_placement.specs.Groups.{IsGoodBy}
-use Rattle.ks_placement.specs.Laws.{ArePlaces}
-use Rattle.ks_placement.proofs.Places.{good_places}
+use Rattle.ks_assign_group.specs.Groups.{IsGoodBy}
+use Rattle.ks_assign_group.specs.Laws.{ArePlaces}
+use Rattle.ks_assign_group.proofs.Places.{good_places}
 use Rattle.ks_worker_state.specs.Topology.{RunsTopology}
 use Rattle.ks_worker_turn.specs.Placing.{PlacesBy, MayOffer}
 

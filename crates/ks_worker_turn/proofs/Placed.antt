@@ -29,11 +29,11 @@ use Rattle.ks_standby.specs.declared.replica.Replica.{Replica}
 use Rattle.ks_standby.specs.Replicas.{replica_view, changelogs_of}
 use Rattle.ks_task.specs.declared.task.Task.{Task}
 use Rattle.ks_task.specs.Tasks.{task_view}
-use Rattle.ks_client.specs.declared.member.Member.{Member}
-use Rattle.ks_client.specs.declared.halt.Halt.{Halt}
-use Rattle.ks_client.specs.Turns.{with_halt}
-use Rattle.ks_client.specs.Calls.{Later, state_seen}
-use Rattle.ks_client.proofs.Moments.{same_frame}
+use Rattle.ks_worker_client.specs.declared.member.Member.{Member}
+use Rattle.ks_worker_client.specs.declared.halt.Halt.{Halt}
+use Rattle.ks_worker_client.specs.Turns.{with_halt}
+use Rattle.ks_worker_client.specs.Calls.{Later, state_seen}
+use Rattle.ks_worker_client.proofs.Moments.{same_frame}
 use Rattle.ks_worker_state.specs.Standbys.{IsStandby}
 use Rattle.ks_worker_state.specs.Tasks.{IsHeldTask}
 use Rattle.ks_worker_state.specs.Topology.{RunsTopology}

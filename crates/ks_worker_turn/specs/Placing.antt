@@ -13,8 +13,8 @@ use Rattle.ks_cluster.specs.Placed.{PlacementTest, is_good_by}
 use Rattle.ks_shared.specs.declared.state.Frame.{Frame}
 use Rattle.ks_shared.specs.Calls.{setup_in, good_in}
 use Rattle.ks_assign.specs.declared.clients.Placing.{Placing}
-use Rattle.ks_placement.specs.Groups.{good_by}
-use Rattle.ks_placement.specs.Laws.{ArePlaces}
+use Rattle.ks_assign_group.specs.Groups.{good_by}
+use Rattle.ks_assign_group.specs.Laws.{ArePlaces}
 
 -- what is good by this placing is good by the cluster's work
 pub record PlacesBy {W : Type 0} (good : W → PlacementTest) (placing : Placing) (d : DraftView) (frame : Option (Frame W)) : Type 0 where

@@ -7,21 +7,21 @@ ghost use Rattle.ks_plan.specs.Layout.{tasks};
 ghost use Rattle.ks_topo.specs.Topologies.{plan_in};
 ghost use Rattle.ks_cluster.specs.Placed.{IsGoodAt};
 ghost use Rattle.ks_shared.specs.Calls.{setup_in, good_in};
-ghost use Rattle.ks_client.specs.Turns.{counts_after};
-ghost use Rattle.ks_client.specs.Calls.{MayCall, Later, state_seen};
-ghost use Rattle.ks_placement.specs.Groups.{IsGoodBy};
+ghost use Rattle.ks_worker_client.specs.Turns.{counts_after};
+ghost use Rattle.ks_worker_client.specs.Calls.{MayCall, Later, state_seen};
+ghost use Rattle.ks_assign_group.specs.Groups.{IsGoodBy};
 ghost use Rattle.ks_worker_turn.specs.Acting.{WasAssigned};
 ghost use Rattle.ks_worker_turn.specs.Placing.{MayOffer};
 
 use ks_assign::Placing;
-use ks_client::{ClusterClient, Halt, or_halt};
+use ks_assign_group::assign_group;
 use ks_cluster::Work;
 use ks_edge::Gate;
 use ks_history::Status;
-use ks_placement::assign_group;
 use ks_row::Assignment;
 use ks_shared::Shared;
 use ks_topo::Topology;
+use ks_worker_client::{ClusterClient, Halt, or_halt};
 use std::alloc::{AllocError, Global};
 use std::sync::Wait;
 

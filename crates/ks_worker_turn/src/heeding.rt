@@ -3,20 +3,20 @@ ghost use Rattle.std.specs.Prelude.{◌≡◌, ◌<◌, true, false, [], ◌∷�
 ghost use Rattle.ks_history.specs.State.{has_number};
 ghost use Rattle.ks_history.specs.Reads.{status};
 ghost use Rattle.ks_shared.specs.Calls.{setup_in};
-ghost use Rattle.ks_client.specs.Turns.{counts_after};
-ghost use Rattle.ks_client.specs.Calls.{MayCall, state_seen};
+ghost use Rattle.ks_worker_client.specs.Turns.{counts_after};
+ghost use Rattle.ks_worker_client.specs.Calls.{MayCall, state_seen};
 ghost use Rattle.ks_worker_state.specs.State.{LaterState};
 ghost use Rattle.ks_worker_turn.specs.Acting.{KeepsWorker};
 ghost use Rattle.ks_worker_turn.specs.Resting.{KeepsStandbys, HaveRested};
 
 use crate::lists::put_replica;
-use ks_client::{Halt, or_halt};
 use ks_cluster::Work;
 use ks_edge::Gate;
 use ks_history::Status;
 use ks_shared::Shared;
 use ks_standby::Replica;
 use ks_task::Task;
+use ks_worker_client::{Halt, or_halt};
 use ks_worker_state::WorkerState;
 use std::alloc::{AllocError, Global};
 use std::sync::Wait;

@@ -1,14 +1,14 @@
 //! A worker joins its group.
 ghost use Rattle.std.specs.Prelude.{◌≡◌, ◌≤◌, true, false, OnOk};
-ghost use Rattle.ks_client.specs.Turns.{counts_after};
-ghost use Rattle.ks_client.specs.Calls.{MayCall, Later};
+ghost use Rattle.ks_worker_client.specs.Turns.{counts_after};
+ghost use Rattle.ks_worker_client.specs.Calls.{MayCall, Later};
 ghost use Rattle.ks_worker_state.specs.State.{LaterState};
 ghost use Rattle.ks_worker_turn.specs.Acting.{KeepsWorker};
 
-use ks_client::{ClusterClient, Halt};
 use ks_cluster::Work;
 use ks_edge::Gate;
 use ks_shared::Shared;
+use ks_worker_client::{ClusterClient, Halt};
 use ks_worker_state::WorkerState;
 use std::alloc::Global;
 use std::sync::Wait;

@@ -1,18 +1,18 @@
 //! A worker parks the replicas that it has no place for.
 ghost use Rattle.std.specs.Prelude.{◌≡◌, OnOk};
 ghost use Rattle.ks_topo.specs.Topologies.{draft_of};
-ghost use Rattle.ks_client.specs.Turns.{counts_after};
+ghost use Rattle.ks_worker_client.specs.Turns.{counts_after};
 ghost use Rattle.ks_worker_state.specs.State.{IsWorkerState, LaterState, MayAct};
 
 use crate::lists::take_replica;
 use crate::placing::is_placed;
-use ks_client::Halt;
 use ks_cluster::Work;
 use ks_edge::Gate;
 use ks_hash::Hash128;
 use ks_row::{Assignment, TaskId};
 use ks_shared::Shared;
 use ks_topo::Topology;
+use ks_worker_client::Halt;
 use ks_worker_state::WorkerState;
 use std::alloc::Global;
 use std::sync::Wait;

@@ -5,8 +5,8 @@ use Rattle.ks_growing.specs.Steps.{view_without_value}
 use Rattle.ks_growing.proofs.TurnSteps.{leaves}
 use Rattle.ks_growing.proofs.turns.leave_seat.Goals as goal
 
-pub store-requires : goal.store-requires
-store-requires g c =
+pub swap-turn-requires : goal.swap-turn-requires
+swap-turn-requires g c =
     let counted = c.write_count.ensures.view in
     let given = c.exchange.ensures.3 in
     let view = ap (λ m. m.0) given ∙ ap (λ m. m.0) counted in
@@ -30,4 +30,4 @@ returns-clause-view g c =
     let view = ap (λ m. m.0) given ∙ ap (λ m. m.0) counted in
     let value = c.args.value in
     let carried = ap (λ m. m.1) given ∙ ap (λ m. (0, Some value) ∷ rest m.1) counted in
-    c.store.ensures.2 value carried ∙ ap (λ v. (view_without_value (g.T.Journaled.journal value) v, [])) view
+    c.swap-turn.ensures.2 value carried ∙ ap (λ v. (view_without_value (g.T.Journaled.journal value) v, [])) view

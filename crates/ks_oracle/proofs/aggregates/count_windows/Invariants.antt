@@ -1,5 +1,5 @@
 use Rattle.std.proofs.Common.{◌≡◌, None, fold, length}
-use Rattle.ks_def_maps.specs.FinMap as fin
+use Rattle.ks_def_runs.specs.FinMap as fin
 use Rattle.ks_query.specs.Query.{add_to, in_windows}
 use Rattle.ks_query.specs.Streams.{grouped}
 use Rattle.ks_query.specs.Windows.{by_window}

@@ -1,6 +1,6 @@
 use Rattle.std.proofs.Common.{◌≡◌, fold, length}
-use Rattle.ks_def_maps.specs.Bytes.{by_bytes}
-use Rattle.ks_def_maps.specs.FinMap as fin
+use Rattle.ks_def_runs.specs.Bytes.{by_bytes}
+use Rattle.ks_def_runs.specs.FinMap as fin
 use Rattle.ks_query.specs.Query.{add_to, item_rows}
 use Rattle.ks_query.specs.Streams.{grouped}
 use Rattle.std.specs.Prelude.{option_copied}

@@ -1,6 +1,6 @@
 use Rattle.std.proofs.Common.{◌≡◌, Some, fold, length}
-use Rattle.ks_def_maps.specs.Bytes.{by_bytes}
-use Rattle.ks_def_maps.specs.Table.{write}
+use Rattle.ks_def_runs.specs.Bytes.{by_bytes}
+use Rattle.ks_def_runs.specs.Table.{write}
 use Rattle.ks_query.specs.Query.{map_values}
 use Rattle.ks_query.specs.Aggregates.{agg_row}
 use Rattle.ks_oracle.proofs.aggregates.shown.Given as goal

@@ -1,6 +1,6 @@
 use Rattle.std.proofs.Common.{◌≡◌, Some, fold, length}
-use Rattle.ks_def_maps.specs.Bytes.{by_bytes}
-use Rattle.ks_def_maps.specs.Table.{write}
+use Rattle.ks_def_runs.specs.Bytes.{by_bytes}
+use Rattle.ks_def_runs.specs.Table.{write}
 use Rattle.ks_query.specs.Query.{foreign_join, right_row}
 use Rattle.ks_expr.specs.Eval.{joined}
 use Rattle.ks_row.specs.FieldKeys.{field_key}

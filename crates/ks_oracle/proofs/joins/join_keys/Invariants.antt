@@ -1,7 +1,7 @@
 use Rattle.std.proofs.Common.{◌≡◌, fold, map, length}
-use Rattle.ks_def_maps.specs.Bytes.{by_bytes}
-use Rattle.ks_def_maps.specs.FinMap as fin
-use Rattle.ks_def_maps.specs.Table.{write}
+use Rattle.ks_def_runs.specs.Bytes.{by_bytes}
+use Rattle.ks_def_runs.specs.FinMap as fin
+use Rattle.ks_def_runs.specs.Table.{write}
 use Rattle.ks_expr.specs.Eval.{joined}
 use Rattle.ks_expr.specs.Terms.{set_of}
 use Rattle.ks_oracle.proofs.joins.join_keys.Given as goal

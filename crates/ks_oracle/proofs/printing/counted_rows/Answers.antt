@@ -1,6 +1,6 @@
 use Rattle.std.proofs.Common.{◌≡◌, true, List, map, ap, sym, subst, ◌∙◌}
 use Rattle.std.specs.Prelude.{IfOk}
-use Rattle.ks_def_maps.specs.FinMap as fin
+use Rattle.ks_def_runs.specs.FinMap as fin
 use Rattle.ks_expr.specs.Eval.{Row}
 use Rattle.ks_query.specs.Windows.{WindowKey, by_window}
 use Rattle.ks_query.specs.Query.{WindowTable}

@@ -1,5 +1,5 @@
 use Rattle.std.proofs.Common.{◌≡◌, ◌++◌, true, map, length}
-use Rattle.ks_def_maps.specs.FinMap as fin
+use Rattle.ks_def_runs.specs.FinMap as fin
 use Rattle.ks_query.specs.Printed.{window_row}
 use Rattle.ks_query.specs.Aggregates.{agg_row}
 use Rattle.ks_oracle.proofs.printing.window_rows.Given as goal

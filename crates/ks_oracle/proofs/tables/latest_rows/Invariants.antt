@@ -1,6 +1,6 @@
 use Rattle.std.proofs.Common.{◌≡◌, fold, length}
-use Rattle.ks_def_maps.specs.Bytes.{by_bytes}
-use Rattle.ks_def_maps.specs.Table.{write, latest}
+use Rattle.ks_def_runs.specs.Bytes.{by_bytes}
+use Rattle.ks_def_runs.specs.Table.{write, latest}
 use Rattle.ks_query.specs.Query.{of_topic, table_changes}
 use Rattle.ks_oracle.proofs.tables.latest_rows.Given as goal
 

@@ -1,6 +1,6 @@
 use Rattle.std.proofs.Common.{◌≡◌, Some, None, fold, length}
-use Rattle.ks_def_maps.specs.Bytes.{by_bytes}
-use Rattle.ks_def_maps.specs.Table.{write}
+use Rattle.ks_def_runs.specs.Bytes.{by_bytes}
+use Rattle.ks_def_runs.specs.Table.{write}
 use Rattle.ks_query.specs.Query.{map_values}
 use Rattle.ks_expr.specs.Eval.{project}
 use Rattle.ks_expr.specs.Terms.{set_of}

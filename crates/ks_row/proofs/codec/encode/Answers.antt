@@ -9,4 +9,4 @@ loop-name-preserved c = record {
 }
 
 pub returns-clause-fits : goal.returns-clause-fits
-returns-clause-fits c = IfOk-weaker c.of.result _ _ (λ _ _. row_fits c.members-members.result.now c.args.row.now c.loop-name.name-index c.members-members.ensures.value c.members-members.ensures.row c.loop-name-test.false c.loop-name.invariant.fits) c.of.ensures
+returns-clause-fits c = IfOk-weaker c.into_blob.result _ _ (λ _ _. row_fits c.members-members.result.now c.args.row.now c.loop-name.name-index c.members-members.ensures.value c.members-members.ensures.row c.loop-name-test.false c.loop-name.invariant.fits) c.into_blob.ensures

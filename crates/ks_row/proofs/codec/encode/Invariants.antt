@@ -6,6 +6,6 @@ use Rattle.ks_row.proofs.codec.encode.Given as goal
 
 abbrev pub invariant-loop-name : goal.invariant-loop-name
 invariant-loop-name l = record {
-  text : l.out.items ++ flat_map member_bytes (drop l.name-index l.members) ≡ spelling l.row;
+  text : l.out ++ flat_map member_bytes (drop l.name-index l.members) ≡ spelling l.row;
   fits : All FitsMember (take l.name-index l.members);
 }

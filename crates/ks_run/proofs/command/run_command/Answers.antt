@@ -1,8 +1,8 @@
 use Rattle.std.proofs.Common.{◌≡◌, ap, refl, subst, sym, ◌∙◌}
 use Rattle.std.specs.Prelude.{Option, Some}
 use Rattle.ks_hash.specs.Murmur3.{murmur3_of}
-use Rattle.ks_nodes.specs.Rules.{rules_of}
-use Rattle.ks_output.specs.Texts.{bad_words_text}
+use Rattle.ks_def_tasks.specs.Rules.{rules_of}
+use Rattle.ks_run_output.specs.Texts.{bad_words_text}
 use Rattle.ks_words.specs.declared.command.Command.{Command}
 use Rattle.ks_words.specs.declared.command.Command.TheVariants.{Run, Load}
 use Rattle.ks_run.specs.Commands.{IsRun, IsJudgedBy, is_read_ahead}

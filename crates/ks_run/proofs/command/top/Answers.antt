@@ -3,9 +3,9 @@ use Rattle.std.specs.Prelude.{Option}
 use Rattle.std.specs.Io.KnownBytes.{Appends}
 use Rattle.ks_edge.specs.Causes.{Rose}
 use Rattle.ks_hash.specs.Murmur3.{murmur3_of}
-use Rattle.ks_nodes.specs.Rules.{rules_of}
+use Rattle.ks_def_tasks.specs.Rules.{rules_of}
 use Rattle.ks_words.specs.declared.command.Command.{Command}
-use Rattle.ks_output.specs.Texts.{read_fault_text}
+use Rattle.ks_run_output.specs.Texts.{read_fault_text}
 use Rattle.ks_run.specs.Commands.{HasValidJob, IsRun, is_read_ahead, job_bytes}
 use Rattle.ks_run.specs.Journals.{TookFront, IsUndrained, IsEmptyIf, IsWithoutCollision}
 use Rattle.ks_run.proofs.command.top.Goals as goal

@@ -4,7 +4,7 @@ use Rattle.ks_topo.specs.Topologies.{draft_of}
 use Rattle.ks_plan.specs.Layout.{tasks}
 use Rattle.ks_plan.specs.Plan.{plan_of}
 use Rattle.ks_job.specs.Items.{item_views}
-use Rattle.ks_crew.specs.Members.{placing_of}
+use Rattle.ks_run_workers.specs.Members.{placing_of}
 use Rattle.ks_run.proofs.Counts.{shown_counts}
 use Rattle.ks_run.proofs.Settles.{setup_is, setup_made, has_begun, parts_ready, records_ready, past_ready, nodes_ready, filled_start, filled_wanted, ran_so}
 use Rattle.ks_run.proofs.settling.settle.Goals as goal
@@ -16,8 +16,8 @@ begin-requires g c =
     let given = c.as_slice.ensures.value ∙ (c.requires.counts ∙ shown_counts d) in
     setup_made hash d _ (setup_is hash d (g.W.Work.plan c.args.work) c.as_slice.result.now (tasks (plan_of d)) c.requires.work given refl) c.nodes-nodes.ensures.well_formed
 
-pub run_crew-requires-clause-ready : goal.run_crew-requires-clause-ready
-run_crew-requires-clause-ready g c κs within =
+pub run_workers-requires-clause-ready : goal.run_workers-requires-clause-ready
+run_workers-requires-clause-ready g c κs within =
     let d = draft_of c.args.topology.now in
     let hash = g.H.Hash128.hash_of in
     let empty = c.in_ok-empty.empty in
@@ -42,7 +42,7 @@ end_by-requires-clause-setup g c κs within =
     let placing = placing_of c.args.crew.settings in
     let begun = has_begun hash g.W.Work.plan g.W.Work.good placing d c.args.work c.in_ok-empty.empty c.as_slice.result.now c.args.intake.counts.items c.as_slice.ensures.value c.in_ok-empty.ensures c.requires.work c.requires.counts c.requires.placing in
     filled_start hash g.W.Work.plan g.W.Work.good placing c.args.crew.settings.journal d c.in_ok-empty.empty c.in-Ok.cluster c.args.intake
-    (g.S.Source.left c.args.input.now) (g.S.Source.left c.run_crew.new.input) c.in-Ok.end begun.start begun.wanted begun.counts_are c.requires.job c.in-Ok.ensures.worked
+    (g.S.Source.left c.args.input.now) (g.S.Source.left c.run_workers.new.input) c.in-Ok.end begun.start begun.wanted begun.counts_are c.requires.job c.in-Ok.ensures.worked
 
 pub end_by-requires-clause-placing : goal.end_by-requires-clause-placing
 end_by-requires-clause-placing g c κs within =
@@ -53,7 +53,7 @@ end_by-requires-clause-placing g c κs within =
       placing,
       c.requires.settings.threads.0,
       filled_wanted hash g.W.Work.plan g.W.Work.good placing c.args.crew.settings.journal d c.in_ok-empty.empty c.in-Ok.cluster c.args.intake
-          (g.S.Source.left c.args.input.now) (g.S.Source.left c.run_crew.new.input) c.in-Ok.end begun.start begun.wanted begun.counts_are c.requires.job c.in-Ok.ensures.worked,
+          (g.S.Source.left c.args.input.now) (g.S.Source.left c.run_workers.new.input) c.in-Ok.end begun.start begun.wanted begun.counts_are c.requires.job c.in-Ok.ensures.worked,
     )
 
 pub returns : goal.returns
@@ -64,6 +64,6 @@ returns g c =
     let begun = has_begun hash g.W.Work.plan g.W.Work.good placing d c.args.work c.in_ok-empty.empty c.as_slice.result.now c.args.intake.counts.items c.as_slice.ensures.value c.in_ok-empty.ensures c.requires.work c.requires.counts c.requires.placing in
     IfOk-weaker c.end_by.result _ _
     (λ a h. ran_so hash g.W.Work.plan g.W.Work.good placing c.args.crew.settings.journal d c.in_ok-empty.empty c.in-Ok.cluster c.args.intake
-    (g.S.Source.left c.args.input.now) (g.S.Source.left c.run_crew.new.input) c.in-Ok.end begun.start begun.wanted begun.counts_are c.requires.job c.in-Ok.ensures.worked
-    c.nodes-nodes.ensures.well_formed c.topology_fits.ensures c.hashes_fit.ensures (g.S.Source.faults c.args.input.now) (g.S.Source.faults c.run_crew.new.input) a.status a.text.items a.journal c.in-Ok.ensures.faults h)
+    (g.S.Source.left c.args.input.now) (g.S.Source.left c.run_workers.new.input) c.in-Ok.end begun.start begun.wanted begun.counts_are c.requires.job c.in-Ok.ensures.worked
+    c.nodes-nodes.ensures.well_formed c.topology_fits.ensures c.hashes_fit.ensures (g.S.Source.faults c.args.input.now) (g.S.Source.faults c.run_workers.new.input) a.status a.text.items a.journal c.in-Ok.ensures.faults h)
     c.end_by.ensures

@@ -7,10 +7,10 @@ use Rattle.std.specs.Prelude.{Some}
 use Rattle.std.proofs.lemmas.Result.{IfOk-weaker}
 use Rattle.ks_plan.specs.declared.node.TopicInfo.{TopicInfo}
 use Rattle.ks_topo.specs.Topologies.{plan_in}
-use Rattle.ks_nodes.specs.Rules.{rules_of}
+use Rattle.ks_def_tasks.specs.Rules.{rules_of}
 use Rattle.ks_job.specs.Items.{item_views}
 use Rattle.ks_job_source.specs.Opening.{IsReadable}
-use Rattle.ks_crew.specs.Members.{placing_of}
+use Rattle.ks_run_workers.specs.Members.{placing_of}
 use Rattle.ks_task.specs.Placing.{placed_by}
 use Rattle.ks_task.specs.contracts.work.TaskWork as TaskWork
 use Rattle.ks_run.specs.Settling.{RunsJob}

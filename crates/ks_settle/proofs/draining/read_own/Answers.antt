@@ -1,5 +1,5 @@
 use Rattle.ks_topo.specs.Topologies.{draft_of}
-use Rattle.ks_nodes.specs.Rules.{rules_of}
+use Rattle.ks_def_tasks.specs.Rules.{rules_of}
 use Rattle.ks_task.specs.Tasks.{task_view}
 use Rattle.ks_settle.proofs.Filling.{own_inputs}
 use Rattle.ks_settle.proofs.draining.read_own.Goals as goal

@@ -4,7 +4,7 @@ use Rattle.ks_law_topology.specs.Work.{work_of}
 use Rattle.ks_history.specs.Machine.{has_topic}
 use Rattle.std.proofs.Common.{◌≡◌, true, subst}
 use Rattle.ks_cluster.specs.View.{setup_of}
-use Rattle.ks_nodes.specs.Rules.{rules_of}
+use Rattle.ks_def_tasks.specs.Rules.{rules_of}
 use Rattle.ks_task.specs.Tasks.{task_view}
 use Rattle.ks_settle.proofs.Taking.{may_fetch, fetch_stops, fetch_moves, still_input}
 use Rattle.ks_settle.proofs.reading.fetch_on.Goals as goal

@@ -1,5 +1,5 @@
 use Rattle.std.proofs.Common.{◌≡◌, map, take}
-use Rattle.ks_def_maps.specs.Bytes.{empty_store}
+use Rattle.ks_def_runs.specs.Bytes.{empty_store}
 use Rattle.ks_standby.proofs.changelogs.new_changelogs.Given as goal
 
 abbrev pub invariant-loop-number : goal.invariant-loop-number

@@ -1,6 +1,6 @@
 use Rattle.std.proofs.Common.{◌≡◌}
 use Rattle.ks_topo.specs.Topologies.{draft_of}
-use Rattle.ks_crew.specs.Members.{pass_key}
+use Rattle.ks_run_workers.specs.Members.{pass_key}
 use Rattle.ks_test_workers.specs.Pairs.{MayPlay}
 use Rattle.ks_test_workers.proofs.crews.play_moves.Given as goal
 

@@ -1,8 +1,8 @@
 use Rattle.std.proofs.Common.{sym, subst, ◌∙◌, add-one, [], ◌∷◌}
 use Rattle.ks_history.specs.declared.journal.Request.TheVariants.{MarkNext}
 use Rattle.ks_history.specs.declared.journal.Reply.TheVariants.{Mark as Marked}
-use Rattle.ks_client.proofs.Halting.{same_counts}
-use Rattle.ks_client.proofs.Moments.{later_twice}
+use Rattle.ks_worker_client.proofs.Halting.{same_counts}
+use Rattle.ks_worker_client.proofs.Moments.{later_twice}
 use Rattle.ks_worker_acts.specs.Feeds.{marks_to}
 use Rattle.ks_worker_acts.specs.Gained.{HasGained}
 use Rattle.ks_worker_acts.proofs.Gains.{gained_one, gained_then}

@@ -1,5 +1,5 @@
 use Rattle.std.proofs.Common.{◌≡◌}
-use Rattle.ks_client.specs.Calls.{Later}
+use Rattle.ks_worker_client.specs.Calls.{Later}
 use Rattle.ks_worker_acts.specs.Feeds.{marks_to}
 use Rattle.ks_worker_acts.specs.Gained.{HasGained}
 use Rattle.ks_worker_acts.proofs.feeding.write_waiting.Given as goal

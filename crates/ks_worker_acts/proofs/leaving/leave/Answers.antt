@@ -1,8 +1,8 @@
 use Rattle.std.proofs.Common.{sym, ap, subst, ◌∙◌, [], ◌∷◌, ◌++◌}
 use Rattle.ks_history.specs.declared.journal.Request.TheVariants.{Expire}
 use Rattle.ks_history.specs.declared.journal.Reply.TheVariants.{Truth}
-use Rattle.ks_client.proofs.Halting.{was_ok}
-use Rattle.ks_client.proofs.Moments.{later_twice}
+use Rattle.ks_worker_client.proofs.Halting.{was_ok}
+use Rattle.ks_worker_client.proofs.Moments.{later_twice}
 use Rattle.ks_worker_state.specs.State.{replica_names}
 use Rattle.ks_worker_acts.specs.Gained.{HasGained}
 use Rattle.ks_worker_acts.specs.Telling.{parks, RestsOnto}

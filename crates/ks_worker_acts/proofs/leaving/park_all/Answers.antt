@@ -5,8 +5,8 @@ use Rattle.std.proofs.lemmas.List.Elements.{All-head, All-tail}
 use Rattle.ks_history.specs.declared.journal.Request.TheVariants.{Park}
 use Rattle.ks_history.specs.declared.journal.Reply.TheVariants.{Done}
 use Rattle.ks_shared.specs.Calls.{setup_in}
-use Rattle.ks_client.proofs.Halting.{same_counts}
-use Rattle.ks_client.proofs.Moments.{later_twice}
+use Rattle.ks_worker_client.proofs.Halting.{same_counts}
+use Rattle.ks_worker_client.proofs.Moments.{later_twice}
 use Rattle.ks_worker_state.specs.Standbys.{IsStandby}
 use Rattle.ks_worker_acts.proofs.Gains.{gained_one}
 use Rattle.ks_worker_acts.proofs.Leavers.{parked_more}

@@ -1,6 +1,6 @@
 use Rattle.std.proofs.Common.{refl, ◌∙◌}
 use Rattle.ks_shared.specs.Calls.{setup_in}
-use Rattle.ks_client.proofs.Halting.{same_counts}
+use Rattle.ks_worker_client.proofs.Halting.{same_counts}
 use Rattle.ks_worker_state.proofs.States.{same_state, state_later_twice}
 use Rattle.ks_worker_acts.proofs.Looks.{looked_none}
 use Rattle.ks_worker_acts.proofs.StatesOn.{knows_same, knows_twice, looked_next}

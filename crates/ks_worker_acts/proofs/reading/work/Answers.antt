@@ -3,7 +3,7 @@ use Rattle.std.specs.List.{All}
 use Rattle.ks_plan.specs.Infos.{input_numbers}
 use Rattle.ks_topo.specs.Topologies.{draft_of, plan_in}
 use Rattle.ks_shared.specs.Calls.{setup_in}
-use Rattle.ks_client.proofs.Halting.{was_ok_with}
+use Rattle.ks_worker_client.proofs.Halting.{was_ok_with}
 use Rattle.ks_worker_state.proofs.States.{same_state}
 use Rattle.ks_worker_acts.specs.Inputs.{places_from, IsInputAt, HasLooked}
 use Rattle.ks_worker_acts.proofs.InputPlaces.{inputs_are}

@@ -1,7 +1,7 @@
 use Rattle.std.proofs.Common.{refl, sym, ap, ◌∙◌, ◌+◌, rules, drop, arith}
 use Rattle.std.proofs.lemmas.Bool.{or_left}
 use Rattle.ks_row.specs.Parts.{same_part}
-use Rattle.ks_law_transaction.specs.Building.{with_part}
+use Rattle.ks_law_commit.specs.Building.{with_part}
 use Rattle.ks_worker_commit.specs.Outputs.{add_all}
 use Rattle.ks_worker_commit.specs.Underway.{always}
 use Rattle.ks_worker_commit.proofs.Requesting.{requests_both}

@@ -1,6 +1,6 @@
 use Rattle.std.proofs.Common.{refl, sym, ap, ◌∙◌, ◌+◌, rules, drop, arith, subst}
 use Rattle.ks_law_restore.specs.Views.{pending_work}
-use Rattle.ks_law_transaction.specs.Building.{with_pending_offsets}
+use Rattle.ks_law_commit.specs.Building.{with_pending_offsets}
 use Rattle.ks_commit.specs.Work.{work_view}
 use Rattle.ks_commit.specs.Committed.{works_of}
 use Rattle.ks_worker_commit.specs.Outputs.{send_all}

@@ -3,7 +3,7 @@ use Rattle.ks_row.specs.declared.record.TaskId.{TaskId}
 use Rattle.ks_shared.specs.Calls.{setup_in}
 use Rattle.ks_law_restore.specs.Replicas.{fed_replica}
 use Rattle.ks_standby.specs.Replicas.{replica_view}
-use Rattle.ks_client.proofs.Halting.{was_ok}
+use Rattle.ks_worker_client.proofs.Halting.{was_ok}
 use Rattle.ks_worker_state.proofs.Fed.{may_feed, fed_by}
 use Rattle.ks_worker_state.proofs.feeding.feed_from.Goals as goal
 

@@ -1,7 +1,7 @@
 use Rattle.std.proofs.Common.{refl, subst, ◌∙◌}
 use Rattle.ks_shared.specs.Calls.{setup_in}
-use Rattle.ks_client.proofs.Halting.{same_counts}
-use Rattle.ks_client.proofs.Moments.{may_later, later_twice, not_later}
+use Rattle.ks_worker_client.proofs.Halting.{same_counts}
+use Rattle.ks_worker_client.proofs.Moments.{may_later, later_twice, not_later}
 use Rattle.ks_worker_state.specs.Standbys.{IsFedStandby}
 use Rattle.ks_worker_state.proofs.Fed.{own_topic, standby_at, not_fed, fed_more, one_more_topic}
 use Rattle.ks_worker_state.proofs.feeding.feed_once.Goals as goal

@@ -1,6 +1,6 @@
 use Rattle.std.proofs.Common.{[], refl, sym, ◌∙◌}
-use Rattle.ks_client.proofs.Halting.{same_counts}
-use Rattle.ks_client.proofs.Moments.{may_later, later_twice, not_later}
+use Rattle.ks_worker_client.proofs.Halting.{same_counts}
+use Rattle.ks_worker_client.proofs.Moments.{may_later, later_twice, not_later}
 use Rattle.ks_worker_state.proofs.Fed.{standby_at, not_fed, fed_on, fed_more}
 use Rattle.ks_worker_state.proofs.feeding.feed_to_the_end.Goals as goal
 

@@ -1,6 +1,6 @@
 use Rattle.std.proofs.Common.{◌≡◌, []}
 use Rattle.ks_shared.specs.Calls.{setup_in}
-use Rattle.ks_client.specs.Calls.{Later}
+use Rattle.ks_worker_client.specs.Calls.{Later}
 use Rattle.ks_worker_state.specs.Standbys.{IsFedStandby}
 use Rattle.ks_worker_state.proofs.feeding.feed_to_the_end.Given as goal
 

@@ -4,10 +4,10 @@ use Rattle.ks_plan.specs.Infos.{input_numbers}
 use Rattle.ks_topo.specs.Topologies.{draft_of, plan_in}
 use Rattle.ks_history.specs.State.{Setup}
 use Rattle.ks_law_topology.specs.Work.{work_of}
-use Rattle.ks_nodes.specs.Rules.{rules_of}
+use Rattle.ks_def_tasks.specs.Rules.{rules_of}
 use Rattle.ks_shared.specs.Calls.{setup_in}
 use Rattle.ks_task.specs.Tasks.{task_view}
-use Rattle.ks_client.proofs.Halting.{was_ok}
+use Rattle.ks_worker_client.proofs.Halting.{was_ok}
 use Rattle.ks_worker_state.proofs.ReadOn.{may_read, own_input, still_input, skipped, held_later, read_stops, held_read, read_moves}
 use Rattle.ks_worker_state.proofs.reading.read_once.Goals as goal
 

@@ -2,7 +2,7 @@ use Rattle.std.proofs.Common.{take}
 use Rattle.ks_topo.specs.Topologies.{plan_in}
 use Rattle.ks_plan.specs.Infos.{input_numbers}
 use Rattle.ks_law_topology.specs.Work.{work_of}
-use Rattle.ks_nodes.specs.Rules.{rules_of}
+use Rattle.ks_def_tasks.specs.Rules.{rules_of}
 use Rattle.ks_task.specs.Tasks.{task_view}
 use Rattle.ks_worker_state.proofs.ReadOn.{still_input, one_record_more}
 use Rattle.ks_worker_state.proofs.reading.take_fetched.Goals as goal

@@ -4,7 +4,7 @@ use Rattle.ks_history.specs.Machine.{has_topic}
 use Rattle.ks_history.specs.Reads.{ends_of}
 use Rattle.ks_history.specs.State.{IsPart}
 use Rattle.ks_shared.specs.Calls.{setup_in}
-use Rattle.ks_client.proofs.Halting.{was_ok_with}
+use Rattle.ks_worker_client.proofs.Halting.{was_ok_with}
 use Rattle.ks_worker_state.proofs.Restored.{parts_are}
 use Rattle.ks_worker_state.proofs.restoring.ends_of_task.Goals as goal
 

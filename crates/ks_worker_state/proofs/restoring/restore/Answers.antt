@@ -2,13 +2,13 @@ use Rattle.std.proofs.Common.{◌≡◌, ℕ, true, None, map, sym, ap, subst, �
 use Rattle.ks_row.specs.declared.record.TaskId.{TaskId}
 use Rattle.ks_topo.specs.Topologies.{draft_of, plan_in}
 use Rattle.ks_law_topology.specs.Work.{setup_of}
-use Rattle.ks_nodes.specs.Rules.{rules_of}
+use Rattle.ks_def_tasks.specs.Rules.{rules_of}
 use Rattle.ks_history.specs.State.{Setup, has_task}
 use Rattle.ks_history.specs.Reads.{committed_refusal, committed_offsets}
 use Rattle.ks_shared.specs.Calls.{setup_in}
 use Rattle.ks_task.proofs.Restoring.{listed_topics}
-use Rattle.ks_client.specs.Calls.{state_seen}
-use Rattle.ks_client.proofs.Moments.{later_twice}
+use Rattle.ks_worker_client.specs.Calls.{state_seen}
+use Rattle.ks_worker_client.proofs.Moments.{later_twice}
 use Rattle.ks_worker_state.proofs.Fed.{standby_later, standby_at}
 use Rattle.ks_worker_state.proofs.Restored.{both_ok, made_held, ok_said, free_said}
 use Rattle.ks_worker_state.proofs.restoring.restore.Goals as goal

@@ -4,8 +4,8 @@ use Rattle.ks_plan.specs.Infos.{input_numbers}
 use Rattle.ks_topo.specs.Topologies.{draft_of, plan_in}
 use Rattle.ks_history.specs.State.{has_task}
 use Rattle.ks_shared.specs.Calls.{setup_in}
-use Rattle.ks_client.proofs.Halting.{same_counts, counts_on}
-use Rattle.ks_client.proofs.Moments.{may_later, later_twice, same_frame}
+use Rattle.ks_worker_client.proofs.Halting.{same_counts, counts_on}
+use Rattle.ks_worker_client.proofs.Moments.{may_later, later_twice, same_frame}
 use Rattle.ks_worker_state.specs.Topology.{RunsTopology}
 use Rattle.ks_worker_state.proofs.Fed.{standby_later, standby_at}
 use Rattle.ks_worker_state.proofs.Restored.{own_changelogs, all_changelogs, made_at_the_ends}

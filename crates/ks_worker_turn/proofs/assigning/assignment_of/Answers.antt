@@ -1,4 +1,4 @@
-use Rattle.ks_client.proofs.Moments.{not_later}
+use Rattle.ks_worker_client.proofs.Moments.{not_later}
 use Rattle.ks_worker_turn.proofs.Assigned.{told_so}
 use Rattle.ks_worker_turn.proofs.Offered.{good_at}
 use Rattle.ks_worker_turn.proofs.Placed.{some_said}

@@ -1,7 +1,7 @@
 use Rattle.std.proofs.Common.{ap, subst, ◌∙◌, Ok}
 use Rattle.ks_history.specs.declared.journal.Request.TheVariants.{Assign}
 use Rattle.ks_cluster.specs.Replies.{truth_or}
-use Rattle.ks_client.specs.Calls.{Wrote}
+use Rattle.ks_worker_client.specs.Calls.{Wrote}
 use Rattle.ks_worker_turn.proofs.Assigned.{taken_so}
 use Rattle.ks_worker_turn.proofs.assigning.offer_assignment.Goals as goal
 

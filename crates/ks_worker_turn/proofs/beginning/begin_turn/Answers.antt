@@ -1,8 +1,8 @@
 use Rattle.std.proofs.Common.{ap, ◌∙◌}
 use Rattle.ks_topo.specs.Topologies.{draft_of}
-use Rattle.ks_client.specs.declared.member.Member.{Member}
-use Rattle.ks_client.proofs.Halting.{same_counts}
-use Rattle.ks_client.proofs.Moments.{may_later}
+use Rattle.ks_worker_client.specs.declared.member.Member.{Member}
+use Rattle.ks_worker_client.proofs.Halting.{same_counts}
+use Rattle.ks_worker_client.proofs.Moments.{may_later}
 use Rattle.ks_worker_state.proofs.States.{may_act_on, state_later_twice}
 use Rattle.ks_worker_turn.proofs.Keeping.{told_state, still_rested, keeps_both}
 use Rattle.ks_worker_turn.proofs.Assigned.{either_within}

@@ -5,9 +5,9 @@ use Rattle.ks_topo.specs.Topologies.{draft_of}
 use Rattle.ks_plan.specs.Infos.{changelog_numbers}
 use Rattle.ks_plan.specs.Layout.{tasks}
 use Rattle.ks_plan.specs.Plan.{plan_of}
-use Rattle.ks_placement.specs.Groups.{IsGoodBy}
-use Rattle.ks_client.proofs.Halting.{same_counts, was_ok_with}
-use Rattle.ks_client.proofs.Moments.{later_twice}
+use Rattle.ks_assign_group.specs.Groups.{IsGoodBy}
+use Rattle.ks_worker_client.proofs.Halting.{same_counts, was_ok_with}
+use Rattle.ks_worker_client.proofs.Moments.{later_twice}
 use Rattle.ks_worker_state.proofs.States.{same_state}
 use Rattle.ks_worker_turn.proofs.Keeping.{acts_on}
 use Rattle.ks_worker_turn.proofs.Offered.{may_offers}

@@ -1,7 +1,7 @@
 use Rattle.std.proofs.Common.{sym, subst, ◌∙◌}
 use Rattle.ks_shared.specs.Calls.{setup_in}
-use Rattle.ks_client.proofs.Halting.{was_ok}
-use Rattle.ks_client.proofs.Moments.{same_frame}
+use Rattle.ks_worker_client.proofs.Halting.{was_ok}
+use Rattle.ks_worker_client.proofs.Moments.{same_frame}
 use Rattle.ks_worker_state.specs.Topology.{RunsTopology}
 use Rattle.ks_worker_state.proofs.Workers.{worker_later}
 use Rattle.ks_worker_turn.proofs.Joined.{now_listed}

@@ -3,7 +3,7 @@ use Rattle.std.specs.List.{All}
 use Rattle.ks_plan.specs.Drafts.{DraftView}
 use Rattle.ks_history.specs.declared.journal.Entry.{Entry}
 use Rattle.ks_history.specs.State.{Setup}
-use Rattle.ks_client.specs.declared.member.Member.{Member}
+use Rattle.ks_worker_client.specs.declared.member.Member.{Member}
 use Rattle.ks_worker_state.specs.Tasks.{IsHeldTask}
 use Rattle.ks_worker_turn.specs.Resting.{KeepsStandbys}
 use Rattle.ks_worker_turn.proofs.heeding.rest_tasks.Given as goal

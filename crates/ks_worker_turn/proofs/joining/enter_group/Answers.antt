@@ -1,4 +1,4 @@
-use Rattle.ks_client.proofs.Moments.{later_twice}
+use Rattle.ks_worker_client.proofs.Moments.{later_twice}
 use Rattle.ks_worker_turn.proofs.joining.enter_group.Goals as goal
 
 pub returns-in_err-join-clause-later : goal.returns-in_err-join-clause-later

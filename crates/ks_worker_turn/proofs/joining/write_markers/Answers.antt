@@ -1,6 +1,6 @@
 use Rattle.std.proofs.Common.{refl, ◌∙◌}
-use Rattle.ks_client.proofs.Halting.{same_counts}
-use Rattle.ks_client.proofs.Moments.{may_later, later_twice, not_later}
+use Rattle.ks_worker_client.proofs.Halting.{same_counts}
+use Rattle.ks_worker_client.proofs.Moments.{may_later, later_twice, not_later}
 use Rattle.ks_worker_turn.proofs.joining.write_markers.Goals as goal
 
 pub mark_next-requires-clause-may : goal.mark_next-requires-clause-may

@@ -1,5 +1,5 @@
 use Rattle.std.proofs.Common.{◌≡◌}
-use Rattle.ks_client.specs.Calls.{Later}
+use Rattle.ks_worker_client.specs.Calls.{Later}
 use Rattle.ks_worker_turn.proofs.joining.write_markers.Given as goal
 
 -- a later moment, and nothing was cut off

@@ -1,6 +1,6 @@
 use Rattle.std.proofs.Common.{refl, ◌∙◌}
 use Rattle.ks_topo.specs.Topologies.{draft_of}
-use Rattle.ks_client.proofs.Halting.{same_counts}
+use Rattle.ks_worker_client.proofs.Halting.{same_counts}
 use Rattle.ks_worker_state.proofs.States.{may_act_on, same_state, state_later_twice}
 use Rattle.ks_worker_turn.proofs.Placed.{known_later}
 use Rattle.ks_worker_turn.proofs.taking.take_all.Goals as goal

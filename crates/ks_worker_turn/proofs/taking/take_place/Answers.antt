@@ -1,7 +1,7 @@
 use Rattle.std.proofs.Common.{false, sym, ap, ◌∙◌}
 use Rattle.ks_topo.specs.Topologies.{draft_of}
-use Rattle.ks_client.specs.declared.member.Member.{Member}
-use Rattle.ks_client.proofs.Halting.{same_counts}
+use Rattle.ks_worker_client.specs.declared.member.Member.{Member}
+use Rattle.ks_worker_client.proofs.Halting.{same_counts}
 use Rattle.ks_worker_state.proofs.States.{may_act_on, state_later_twice}
 use Rattle.ks_worker_turn.proofs.Placed.{with_one, halted_ok, at_frame, unnamed}
 use Rattle.ks_worker_turn.proofs.taking.take_place.Goals as goal

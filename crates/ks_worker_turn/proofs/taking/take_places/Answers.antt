@@ -1,5 +1,5 @@
 use Rattle.ks_topo.specs.Topologies.{draft_of}
-use Rattle.ks_client.proofs.Halting.{same_counts}
+use Rattle.ks_worker_client.proofs.Halting.{same_counts}
 use Rattle.ks_worker_state.proofs.States.{may_act_on, state_later_twice}
 use Rattle.ks_worker_turn.proofs.taking.take_places.Goals as goal
 

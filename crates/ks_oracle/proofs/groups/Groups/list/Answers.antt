@@ -1,10 +1,10 @@
 use Rattle.std.proofs.Common.{◌≡◌, ℕ, List, ap, sym, subst, ◌∙◌}
 use Rattle.std.specs.Prelude.{IfOk}
-use Rattle.ks_def_maps.specs.Bytes.{by_bytes}
+use Rattle.ks_def_runs.specs.Bytes.{by_bytes}
 use Rattle.std.specs.Cmp.Lexicographic.{nat_list_cmp_total}
 use Rattle.ks_wire.specs.declared.values.Agg.{Agg}
-use Rattle.ks_def_maps.specs.FinMap as fin
-use Rattle.ks_def_maps.specs.FinMap.{FinMap}
+use Rattle.ks_def_runs.specs.FinMap as fin
+use Rattle.ks_def_runs.specs.FinMap.{FinMap}
 use Rattle.ks_oracle.proofs.Trees.{map_entries}
 use Rattle.ks_oracle.proofs.groups.Groups.list.Goals as goal
 

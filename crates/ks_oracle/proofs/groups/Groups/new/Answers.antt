@@ -1,4 +1,4 @@
-use Rattle.ks_def_maps.specs.Bytes.{by_bytes}
+use Rattle.ks_def_runs.specs.Bytes.{by_bytes}
 use Rattle.std.specs.Cmp.Lexicographic.{nat_list_cmp_total}
 use Rattle.ks_oracle.proofs.Trees.{map_new}
 use Rattle.ks_oracle.proofs.groups.Groups.new.Goals as goal

@@ -3,8 +3,8 @@ use Rattle.std.specs.Prelude.{IfOk}
 use Rattle.ks_query.specs.Windows.{WindowKey, by_window}
 use Rattle.ks_oracle.proofs.Windows.{by_window_total}
 use Rattle.ks_wire.specs.declared.values.Agg.{Agg}
-use Rattle.ks_def_maps.specs.FinMap as fin
-use Rattle.ks_def_maps.specs.FinMap.{FinMap}
+use Rattle.ks_def_runs.specs.FinMap as fin
+use Rattle.ks_def_runs.specs.FinMap.{FinMap}
 use Rattle.ks_oracle.proofs.Trees.{map_entries}
 use Rattle.ks_oracle.proofs.spans.Spans.list.Goals as goal
 

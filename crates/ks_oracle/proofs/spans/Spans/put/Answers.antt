@@ -2,8 +2,8 @@ use Rattle.std.proofs.Common.{ap, ◌∙◌}
 use Rattle.ks_query.specs.Windows.{by_window}
 use Rattle.ks_oracle.proofs.Windows.{by_window_total}
 use Rattle.ks_wire.specs.declared.values.Agg.{Agg}
-use Rattle.ks_def_maps.specs.FinMap as fin
-use Rattle.ks_def_maps.specs.FinMap.{FinMap}
+use Rattle.ks_def_runs.specs.FinMap as fin
+use Rattle.ks_def_runs.specs.FinMap.{FinMap}
 use Rattle.ks_oracle.proofs.Trees.{rises, map_insert}
 use Rattle.ks_oracle.proofs.spans.Spans.put.Goals as goal
 

@@ -2,7 +2,7 @@ use Rattle.std.proofs.Common.{◌+◌, length, refl, ap, arith}
 use Rattle.std.specs.Prelude.{slice_index}
 use Rattle.ks_plan.specs.Infos.{drain_numbers}
 use Rattle.ks_topo.specs.Topologies.{draft_of, plan_in}
-use Rattle.ks_nodes.specs.Rules.{rules_of}
+use Rattle.ks_def_tasks.specs.Rules.{rules_of}
 use Rattle.ks_settle.proofs.Publishing.{still_of_topology, drains_both, drains_most}
 use Rattle.ks_settle.proofs.Ordering.{resting_at, draining_on, settled_last}
 use Rattle.ks_settle.proofs.draining.TaskManager.drain_all.Goals as goal

@@ -1,9 +1,10 @@
 use Rattle.std.proofs.Common.{not, ap, subst, sym, ◌∙◌}
-use Rattle.ks_def_maps.specs.Bytes.{Store}
-use Rattle.ks_def_maps.specs.FinMap as fin
+use Rattle.ks_def_runs.specs.Bytes.{Store}
+use Rattle.ks_def_runs.specs.FinMap as fin
 use Rattle.std.specs.Ordering.{eq_by_cmp}
-use Rattle.ks_def_maps.specs.Bytes.{by_bytes}
-use Rattle.ks_store.specs.Pairs.{pairs_of, ArePairs}
+use Rattle.ks_def_runs.specs.Bytes.{by_bytes}
+use Rattle.ks_store.specs.Pairs.{pairs_of}
+use Rattle.ks_def_runs.specs.Pairs.{ArePairs}
 use Rattle.ks_store.proofs.Trees.{take_store, bytes_where}
 use Rattle.ks_store.proofs.tree.Tree.delete.Goals as goal
 

@@ -1,6 +1,6 @@
 use Rattle.std.proofs.Common.{ap, sym, ◌∙◌}
-use Rattle.ks_def_maps.specs.Bytes.{Store}
-use Rattle.ks_def_maps.specs.FinMap as fin
+use Rattle.ks_def_runs.specs.Bytes.{Store}
+use Rattle.ks_def_runs.specs.FinMap as fin
 use Rattle.ks_store.proofs.Trees.{get_store}
 use Rattle.ks_store.proofs.tree.Tree.get.Goals as goal
 

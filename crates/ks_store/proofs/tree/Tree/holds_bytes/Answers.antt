@@ -1,7 +1,7 @@
 use Rattle.std.proofs.Common.{ap, sym, subst, ◌∙◌}
-use Rattle.ks_def_maps.specs.Bytes.{Store}
-use Rattle.ks_def_maps.specs.FinMap as map
-use Rattle.ks_store.specs.Pairs.{ArePairs}
+use Rattle.ks_def_runs.specs.Bytes.{Store}
+use Rattle.ks_def_runs.specs.FinMap as map
+use Rattle.ks_def_runs.specs.Pairs.{ArePairs}
 use Rattle.ks_store.proofs.Trees.{store_entries}
 use Rattle.ks_store.proofs.tree.Tree.holds_bytes.Goals as goal
 

@@ -1,7 +1,7 @@
 use Rattle.std.proofs.Common.{◌≡◌, ℕ, List, ap, sym, subst, ◌∙◌}
 use Rattle.std.specs.Prelude.{IfOk}
-use Rattle.ks_def_maps.specs.Bytes.{Store}
-use Rattle.ks_store.specs.Prefixes.{pairs_under}
+use Rattle.ks_def_runs.specs.Bytes.{Store}
+use Rattle.ks_def_runs.specs.Prefixes.{pairs_under}
 use Rattle.ks_store.proofs.Trees.{under, store_entries}
 use Rattle.ks_store.proofs.tree.Tree.scan.Goals as goal
 

@@ -3,8 +3,8 @@ use Rattle.ks_plan.specs.declared.node.Topic.{Topic}
 use Rattle.ks_plan.specs.Plan.{plan_of}
 use Rattle.ks_row.specs.declared.record.TaskId.{TaskId}
 use Rattle.ks_topo.specs.Topologies.{draft_of}
-use Rattle.ks_nodes.specs.Nodes.{topics_in as node_topics_in, topics_from}
-use Rattle.ks_processors.specs.declared.changelogs.Changelog.{Changelog}
+use Rattle.ks_task_nodes.specs.Nodes.{topics_in as node_topics_in, topics_from}
+use Rattle.ks_store.specs.declared.changelogs.Changelog.{Changelog}
 use Rattle.ks_standby.specs.Replicas.{numbers_of}
 use Rattle.ks_task.specs.declared.inputs.Input.{Input}
 use Rattle.ks_task.specs.Views.{topics_in, view_of, input_at, IsTask}

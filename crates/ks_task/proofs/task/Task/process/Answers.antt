@@ -5,14 +5,15 @@ use Rattle.ks_plan.specs.Layout.{topics_of}
 use Rattle.ks_plan.specs.declared.node.Topic.{Topic}
 use Rattle.ks_history.specs.Faithful.{capped}
 use Rattle.ks_topo.specs.Topologies.{draft_of}
-use Rattle.ks_nodes.specs.declared.topics.NodeTopics.{NodeTopics}
-use Rattle.ks_nodes.specs.declared.processor.ProcessorNode.{ProcessorNode}
-use Rattle.ks_nodes.specs.Rules.{rules_of}
-use Rattle.ks_nodes.specs.Nodes.{TaskNode, node_view, kinds_in, with_kinds, nodes_of}
-use Rattle.ks_nodes.specs.Records.{arrival_at}
-use Rattle.ks_nodes.proofs.Numbers.{kinds_from}
-use Rattle.ks_processors.specs.declared.changelogs.Changelog.{Changelog}
-use Rattle.ks_processors.specs.Steps.{stores_in, made_or_none, late_or_none}
+use Rattle.ks_task_nodes.specs.declared.topics.NodeTopics.{NodeTopics}
+use Rattle.ks_task_nodes.specs.declared.processor.ProcessorNode.{ProcessorNode}
+use Rattle.ks_def_tasks.specs.Rules.{rules_of}
+use Rattle.ks_task_nodes.specs.Nodes.{TaskNode, node_view, kinds_in, with_kinds, nodes_of}
+use Rattle.ks_task_nodes.specs.Records.{arrival_at}
+use Rattle.ks_task_nodes.proofs.Numbers.{kinds_from}
+use Rattle.ks_store.specs.declared.changelogs.Changelog.{Changelog}
+use Rattle.ks_task_step.specs.Steps.{made_or_none, late_or_none}
+use Rattle.ks_store.specs.Changelogs.{stores_in}
 use Rattle.ks_task.proofs.Building.{nodes_are}
 use Rattle.ks_task.proofs.task.Task.process.Goals as goal
 

@@ -5,10 +5,11 @@ use Rattle.ks_law_step.specs.Whole.{AreStores}
 use Rattle.ks_row.specs.declared.record.Rec.{Rec}
 use Rattle.ks_row.specs.declared.record.PartId.{PartId}
 use Rattle.ks_topo.specs.Topologies.{draft_of}
-use Rattle.ks_nodes.specs.Nodes.{nodes_of}
-use Rattle.ks_nodes.specs.Records.{arrival_at}
-use Rattle.ks_processors.specs.declared.changelogs.Changelog.{Changelog}
-use Rattle.ks_processors.specs.Steps.{stores_in, late_or_none}
+use Rattle.ks_task_nodes.specs.Nodes.{nodes_of}
+use Rattle.ks_task_nodes.specs.Records.{arrival_at}
+use Rattle.ks_store.specs.declared.changelogs.Changelog.{Changelog}
+use Rattle.ks_task_step.specs.Steps.{late_or_none}
+use Rattle.ks_store.specs.Changelogs.{stores_in}
 use Rattle.ks_task.specs.Views.{moved_to, log_after}
 use Rattle.ks_task.proofs.Viewing.{still_moved, taken, capped_late}
 use Rattle.ks_task.proofs.task.Task.take.Goals as goal

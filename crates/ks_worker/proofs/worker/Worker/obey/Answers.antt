@@ -1,6 +1,6 @@
 use Rattle.std.proofs.Common.{ap}
 use Rattle.ks_topo.specs.Topologies.{draft_of}
-use Rattle.ks_client.specs.Turns.{GateCounts}
+use Rattle.ks_worker_client.specs.Turns.{GateCounts}
 use Rattle.ks_worker.proofs.Shown.{shows_calls}
 use Rattle.ks_worker.proofs.worker.Worker.obey.Goals as goal
 

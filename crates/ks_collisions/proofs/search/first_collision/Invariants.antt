@@ -1,7 +1,0 @@
-use Rattle.ks_collisions.specs.Hashed.{row_hash, kind_as}
-use Rattle.ks_collisions.proofs.Spelled.{IsSearching}
-use Rattle.ks_collisions.proofs.search.first_collision.Given as goal
-
--- none of the records so far has met another row
-abbrev pub invariant-loop-i : goal.invariant-loop-i
-invariant-loop-i g l = IsSearching (row_hash g.H.Hash128.hash_of) (kind_as l.shown) l.rows l.recs l.i

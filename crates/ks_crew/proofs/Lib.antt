@@ -1,3 +1,0 @@
-pub mod Enlisted
-pub mod Passes
-pub mod Turned

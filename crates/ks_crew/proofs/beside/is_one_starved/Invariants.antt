@@ -1,6 +1,0 @@
-use Rattle.std.proofs.Common.{◌≡◌, drop}
-use Rattle.ks_crew.specs.Working.{is_one_starved}
-use Rattle.ks_crew.proofs.beside.is_one_starved.Given as goal
-
-abbrev pub invariant-loop-member : goal.invariant-loop-member
-invariant-loop-member g l = is_one_starved (drop l.member-index l.members) ≡ is_one_starved l.members

@@ -1,9 +1,0 @@
-use Rattle.std.proofs.Common.{◌≡◌, ◌++◌, ◌∷◌, map}
-use Rattle.std.specs.Vec.Iter.{into_iter_items, into_iter_len}
-use Rattle.ks_crew.proofs.closing.passes_of.Given as goal
-
-abbrev pub invariant-loop-member : goal.invariant-loop-member
-invariant-loop-member g l = l.passes.items ++ map (λ m. m.worker.state.session.client.pass) (into_iter_items l.rest) ≡ l.fn.first ∷ map (λ m. m.worker.state.session.client.pass) l.fn.members.items
-
-abbrev pub decreases-loop-member : goal.decreases-loop-member
-decreases-loop-member g l = into_iter_len l.rest

@@ -1,3 +1,0 @@
-pub mod Members
-pub mod Ready
-pub mod Working

@@ -1,3 +1,0 @@
-pub mod FinMap
-pub mod Table
-pub mod Bytes

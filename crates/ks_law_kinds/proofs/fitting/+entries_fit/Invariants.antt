@@ -1,5 +1,0 @@
-use Rattle.std.proofs.Common.{length}
-use Rattle.ks_law_kinds.proofs.fitting.+entries_fit.Given as goal
-
-abbrev pub decreases-entries_fit : goal.decreases-entries_fit
-decreases-entries_fit l = length l.entries.now

@@ -1,4 +1,0 @@
-pub mod Labels
-pub mod Numbers
-pub mod WellFormed
-pub mod Places

@@ -1,5 +1,0 @@
-use Rattle.ks_law_subtopologies.proofs.WellFormed.{well_formed_inputs_come_first}
-use Rattle.ks_law_subtopologies.proofs.inputs_come_first.Goals as goal
-
-pub returns : goal.returns
-returns c = well_formed_inputs_come_first

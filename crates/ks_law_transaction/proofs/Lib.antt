@@ -1,9 +1,0 @@
-pub mod Adding
-pub mod Built
-pub mod Keeping
-pub mod Faith
-pub mod Ends
-pub mod Commits
-pub mod Counted
-pub mod Example
-pub mod Carried

@@ -1,5 +1,0 @@
-use Rattle.ks_law_transaction.proofs.Counted.{account_ends}
-use Rattle.ks_law_transaction.proofs.accounts.account_ends.Goals as goal
-
-pub returns : goal.returns
-returns c = account_ends

@@ -1,5 +1,0 @@
-use Rattle.ks_law_transaction.proofs.Carried.{others_advance}
-use Rattle.ks_law_transaction.proofs.advancing.others_advance.Goals as goal
-
-pub returns : goal.returns
-returns c = others_advance

@@ -1,5 +1,0 @@
-use Rattle.ks_law_transaction.proofs.Carried.{request_advances}
-use Rattle.ks_law_transaction.proofs.advancing.request_advances.Goals as goal
-
-pub returns : goal.returns
-returns c = request_advances

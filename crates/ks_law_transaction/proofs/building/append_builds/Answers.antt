@@ -1,5 +1,0 @@
-use Rattle.ks_law_transaction.proofs.Built.{append_builds}
-use Rattle.ks_law_transaction.proofs.building.append_builds.Goals as goal
-
-pub returns : goal.returns
-returns c = append_builds

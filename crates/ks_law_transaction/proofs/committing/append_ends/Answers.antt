@@ -1,5 +1,0 @@
-use Rattle.ks_law_transaction.proofs.Ends.{append_ends}
-use Rattle.ks_law_transaction.proofs.committing.append_ends.Goals as goal
-
-pub returns : goal.returns
-returns c = append_ends

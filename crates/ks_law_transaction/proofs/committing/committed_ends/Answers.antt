@@ -1,5 +1,0 @@
-use Rattle.ks_law_transaction.proofs.Ends.{committed_ends}
-use Rattle.ks_law_transaction.proofs.committing.committed_ends.Goals as goal
-
-pub returns : goal.returns
-returns c = committed_ends

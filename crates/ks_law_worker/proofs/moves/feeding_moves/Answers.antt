@@ -1,5 +1,0 @@
-use Rattle.ks_law_worker.proofs.Moving.{feeding_moves}
-use Rattle.ks_law_worker.proofs.moves.feeding_moves.Goals as goal
-
-pub returns : goal.returns
-returns c = feeding_moves

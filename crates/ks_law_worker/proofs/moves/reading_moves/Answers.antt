@@ -1,5 +1,0 @@
-use Rattle.ks_law_worker.proofs.Moving.{reading_moves}
-use Rattle.ks_law_worker.proofs.moves.reading_moves.Goals as goal
-
-pub returns : goal.returns
-returns c = reading_moves

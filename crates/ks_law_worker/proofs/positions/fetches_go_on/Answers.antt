@@ -1,5 +1,0 @@
-use Rattle.ks_law_worker.proofs.Bounds.{fetches_go_on}
-use Rattle.ks_law_worker.proofs.positions.fetches_go_on.Goals as goal
-
-pub returns : goal.returns
-returns c = fetches_go_on

@@ -1,5 +1,0 @@
-pub mod Rules
-pub mod Windows
-pub mod Nodes
-pub mod Records
-pub mod Stored

@@ -1,6 +1,0 @@
-use Rattle.std.proofs.Common.{◌≡◌, drop}
-use Rattle.ks_placement.specs.Groups.{end_in}
-use Rattle.ks_placement.proofs.lags.end_in.Given as goal
-
-abbrev pub invariant-loop-end : goal.invariant-loop-end
-invariant-loop-end l = end_in l.part (drop l.end-index l.ends) ≡ end_in l.part l.ends

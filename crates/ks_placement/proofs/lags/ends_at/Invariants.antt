@@ -1,6 +1,0 @@
-use Rattle.std.proofs.Common.{◌≡◌, ◌++◌, drop}
-use Rattle.ks_placement.specs.Groups.{ends_at}
-use Rattle.ks_placement.proofs.lags.ends_at.Given as goal
-
-abbrev pub invariant-loop-topic : goal.invariant-loop-topic
-invariant-loop-topic l = l.found.items ++ ends_at l.task (drop l.topic-index l.changelogs) l.ends ≡ ends_at l.task l.changelogs l.ends

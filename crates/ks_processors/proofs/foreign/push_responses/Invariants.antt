@@ -1,8 +1,0 @@
-use Rattle.std.proofs.Common.{◌≡◌, ◌++◌, map, drop}
-use Rattle.ks_def_tasks.specs.Step.{send_responses}
-use Rattle.ks_nodes.specs.Nodes.{node_view}
-use Rattle.ks_processors.specs.Steps.{sent_by}
-use Rattle.ks_processors.proofs.foreign.push_responses.Given as goal
-
-abbrev pub invariant-loop-left : goal.invariant-loop-left
-invariant-loop-left l = l.out.items ++ map (sent_by (node_view l.node) l.time) (send_responses l.node.topics.number (drop l.left-index l.responses)) ≡ l.initial.out.items ++ map (sent_by (node_view l.node) l.time) (send_responses l.node.topics.number l.responses)

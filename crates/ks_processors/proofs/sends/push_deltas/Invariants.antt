@@ -1,8 +1,0 @@
-use Rattle.std.proofs.Common.{◌≡◌, ◌++◌, map, drop}
-use Rattle.ks_def_tasks.specs.Step.{send_deltas}
-use Rattle.ks_nodes.specs.Nodes.{node_view}
-use Rattle.ks_processors.specs.Steps.{sent_by}
-use Rattle.ks_processors.proofs.sends.push_deltas.Given as goal
-
-abbrev pub invariant-loop-group : goal.invariant-loop-group
-invariant-loop-group l = l.out.items ++ map (sent_by (node_view l.node) l.time) (send_deltas l.node.topics.number (drop l.group-index l.deltas)) ≡ l.initial.out.items ++ map (sent_by (node_view l.node) l.time) (send_deltas l.node.topics.number l.deltas)

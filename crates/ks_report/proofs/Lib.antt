@@ -1,3 +1,0 @@
-pub mod Settling
-pub mod Found
-pub mod LeftSides

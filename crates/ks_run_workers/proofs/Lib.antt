@@ -1,0 +1,6 @@
+pub mod Enlisted
+pub mod Turned
+pub mod Fresh
+pub mod Produced
+pub mod Feeds
+pub mod LockPasses

@@ -1,0 +1,43 @@
+-- The turns of a crew's workers: what each took, unless it is starved.
+use Rattle.std.proofs.Common.{◌≡◌, ℕ, Bool, true, false, List, [], ◌∷◌, length, refl, subst, arith, Result, Ok, Err}
+use Rattle.std.specs.Prelude.{OnOk, is_err, ◌||◌}
+use Rattle.std.specs.List.{All}
+use Rattle.std.proofs.lemmas.List.Elements.{All-nil, All-cons}
+use Rattle.ks_plan.specs.Drafts.{DraftView}
+use Rattle.ks_history.specs.Machine.{TaskPlan}
+use Rattle.ks_worker_state.specs.declared.state.WorkerState.{WorkerState}
+use Rattle.ks_worker_state.specs.State.{IsWorkerState}
+use Rattle.ks_worker.specs.Running.{HasCounted, HasEndedBy, ShowsCalls}
+use Rattle.ks_run_workers.specs.declared.working.WorkerThread.{WorkerThread}
+use Rattle.ks_run_workers.specs.Working.{HasTurned, AllTurnedUnlessStarved, HaveTurned, is_one_starved}
+
+neither : (b c : Bool) → (b || c) ≡ false → (b ≡ false) × (c ≡ false)
+neither false c e = (refl, e)
+neither true c e = absurd cc
+
+none_starved : {W G : Type 0} (ms : List (WorkerThread W G)) → is_one_starved ms ≡ false → All (λ m. m.is_starved ≡ false) ms
+none_starved [] e = All-nil (λ m. m.is_starved ≡ false)
+none_starved (m ∷ ms) e = let both = neither m.is_starved (is_one_starved ms) e in All-cons (λ m. m.is_starved ≡ false) m ms both.0 (none_starved ms both.1)
+
+module _ {W G : Type 0} (plan : W → TaskPlan) (d : DraftView) (turns : ℕ) where
+  -- by how its turns ended
+  pub has_turned : {A E : Type 0} (old new : WorkerState W G) (r : Result A E) (starved : Bool) → starved ≡ is_err r → OnOk r (IsWorkerState plan d new) →
+      OnOk r (HasCounted old.session.client.gate new.session.client.gate turns) → OnOk r (HasEndedBy turns old.session.client.gate new.session.client.gate) →
+      OnOk r (ShowsCalls old.member.number old.session.client.pass new.session.client.pass old.session.client.gate new.session.client.gate) → starved ≡ false → HasTurned plan d turns old new
+  has_turned old new (Ok a) starved is worker counts ended shown fed = record { worker = worker; counts = counts; ended = ended; shown = shown }
+  has_turned old new (Err e) starved is worker counts ended shown fed = absurd cc
+
+  -- where none is starved, each took its turns
+  pub have_turned : (old new : List (WorkerThread W G)) → length new ≡ length old → AllTurnedUnlessStarved plan d turns old new → is_one_starved new ≡ false → HaveTurned plan d turns old new
+  have_turned old new long each none = let nobody = none_starved new none in record {
+    nobody = nobody;
+    turned = λ k m l. (each.each k m l).turned (nobody k m (omega (arith, long, l)));
+  }
+
+  -- the same, told of a list that is another's
+  pub turned_into : (old : List (WorkerThread W G)) {new now : List (WorkerThread W G)} → AllTurnedUnlessStarved plan d turns old new → new ≡ now → AllTurnedUnlessStarved plan d turns old now
+  turned_into old told same = subst (λ l. AllTurnedUnlessStarved plan d turns old l) same told
+
+pub always_ok : {A E : Type 0} {P : Type 0} (r : Result A E) → P → OnOk r P
+always_ok (Ok a) p = p
+always_ok (Err e) p = tt

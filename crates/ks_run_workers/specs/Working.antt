@@ -1,0 +1,49 @@
+-- A team before it works, and after it.
+use Rattle.std.specs.Prelude.{◌≡◌, ◌<◌, ℕ, Bool, false, List, length, slice_index_or}
+use Rattle.std.specs.List.{All, list_any}
+use Rattle.atomic_table.specs.Seated.{TableId}
+use Rattle.ks_plan.specs.Drafts.{DraftView}
+use Rattle.ks_history.specs.Machine.{TaskPlan}
+use Rattle.ks_cluster.specs.Placed.{PlacementTest}
+use Rattle.ks_worker_state.specs.declared.state.WorkerState.{WorkerState}
+use Rattle.ks_worker_state.specs.State.{IsWorkerState}
+use Rattle.ks_worker.specs.Beginning.{MayRun}
+use Rattle.ks_worker.specs.Running.{HasCounted, HasEndedBy, ShowsCalls}
+use Rattle.ks_run_workers.specs.declared.feeding.JobFeed.{JobFeed}
+use Rattle.ks_run_workers.specs.Feeding.{MayFeed}
+use Rattle.ks_run_workers.specs.declared.working.WorkerThread.{WorkerThread}
+use Rattle.ks_run_workers.specs.declared.working.WorkerThreads.{WorkerThreads}
+
+-- there are workers, each may take its turns on the cluster of this lock, and the feeder may feed it
+pub record MayWork {W G : Type 0} (plan : W → TaskPlan) (good : W → PlacementTest) (hash : List ℕ → ℕ) (lock : TableId) (d : DraftView) (team : WorkerThreads W G) (feeder : JobFeed W) : Type 0 where
+  pub some : 0 < length team.members.items
+  pub may : All (λ m. MayRun plan good hash lock d m.worker.placing team.turns m.worker.state) team.members.items
+  pub feed : MayFeed plan lock feeder
+
+-- a worker took its turns: it is one still, its gate stopped it or it took all of them, and its acts
+-- on the group show
+pub record HasTurned {W G : Type 0} (plan : W → TaskPlan) (d : DraftView) (turns : ℕ) (old new : WorkerState W G) : Type 0 where
+  pub worker : IsWorkerState plan d new
+  pub counts : HasCounted old.session.client.gate new.session.client.gate turns
+  pub ended : HasEndedBy turns old.session.client.gate new.session.client.gate
+  pub shown : ShowsCalls old.member.number old.session.client.pass new.session.client.pass
+      old.session.client.gate new.session.client.gate
+
+-- a member that isn't marked as starved took its turns
+pub record TurnedUnlessStarved {W G : Type 0} (plan : W → TaskPlan) (d : DraftView) (turns : ℕ) (old new : WorkerThread W G) : Type 0 where
+  pub turned : new.is_starved ≡ false → HasTurned plan d turns old.worker.state new.worker.state
+
+-- and so did each of these members
+pub record AllTurnedUnlessStarved {W G : Type 0} (plan : W → TaskPlan) (d : DraftView) (turns : ℕ) (old new : List (WorkerThread W G)) : Type 0 where
+  pub each : (k : ℕ) (m : WorkerThread W G) → k < length old →
+      TurnedUnlessStarved plan d turns (slice_index_or old k m) (slice_index_or new k m)
+
+-- whether one of them is marked as starved
+abbrev pub is_one_starved : {W G : Type 0} → List (WorkerThread W G) → Bool
+is_one_starved ms = list_any (λ m. m.is_starved) ms
+
+-- no member is marked as starved, and each took its turns
+pub record HaveTurned {W G : Type 0} (plan : W → TaskPlan) (d : DraftView) (turns : ℕ) (old new : List (WorkerThread W G)) : Type 0 where
+  pub nobody : All (λ m. m.is_starved ≡ false) new
+  pub turned : (k : ℕ) (m : WorkerThread W G) → k < length old →
+      HasTurned plan d turns (slice_index_or old k m).worker.state (slice_index_or new k m).worker.state

@@ -1,0 +1,211 @@
+//! A feed beside the workers.
+ghost use Rattle.std.specs.Prelude.{◌≡◌, ◌<◌, length, IfOk, OnOk};
+ghost use Rattle.std.specs.List.{All};
+ghost use Rattle.ks_topo.specs.Topologies.{draft_of};
+ghost use Rattle.ks_worker.specs.Beginning.{MayRun};
+ghost use Rattle.ks_run_workers.specs.Feeding.{MayFeed, FaultsBy, HasFed};
+ghost use Rattle.ks_run_workers.specs.Members.{HaveKeys};
+ghost use Rattle.ks_run_workers.specs.Working.{MayWork, AllTurnedUnlessStarved, HaveTurned, is_one_starved};
+
+use crate::working::{WorkerThread, WorkerThreads, work_together};
+use crate::{JobFeed, feed};
+use ks_cluster::Work;
+use ks_edge::{Gate, Source};
+use ks_hash::Hash128;
+use ks_job_source::JobEnd;
+use ks_shared::Shared;
+use ks_topo::{Topology, share_topology};
+use std::alloc::{AllocError, Global};
+use std::sync::Wait;
+use std::sync::atomic::{AtomicBool, Ordering};
+use std::thread;
+use std::thread::Threads;
+
+// The whole feed; clears the flag when it ends, whatever came.
+fn feed_while<R: Threads + Wait + Sync, W: Work, S: Source>(
+    rt: &R,
+    alloc: Global,
+    shared: &Shared<W>,
+    input: &mut S,
+    feeder: &mut JobFeed<W>,
+    feeding: &AtomicBool,
+) -> Result<JobEnd, AllocError>
+    requires may { MayFeed W.plan shared.now.growing.id feeder.old }
+    ensures fed { IfOk result (λ e. HasFed feeder.old feeder.new (S.left input.old)
+        (S.left input.new) e) }
+    ensures faults { IfOk result (λ e. FaultsBy e (S.faults input.old) (S.faults input.new)) }
+{
+    let end = feed(rt, alloc, shared, input, feeder);
+    feeding.store(false, Ordering::SeqCst);
+    end
+}
+
+// All records are fed, and then the workers take their turns.
+fn feed_first<
+    H: Hash128 + Sync,
+    R: Threads + Wait + Sync,
+    W: Work + Send + Sync,
+    G: Gate + Send,
+    S: Source,
+>(
+    rt: &R,
+    alloc: Global,
+    topology: &Topology,
+    shared: &Shared<W>,
+    input: &mut S,
+    feeder: &mut JobFeed<W>,
+    team: &mut WorkerThreads<W, G>,
+) -> Result<JobEnd, AllocError>
+    requires { MayWork W.plan W.good H.hash_of shared.now.growing.id (draft_of topology.now)
+        team.old feeder.old }
+    ensures keys { HaveKeys (λ m. m.worker.state.session.client.pass)
+        team.old.members.items team.new.members.items }
+    ensures turned { OnOk result (AllTurnedUnlessStarved W.plan (draft_of topology.now)
+        team.old.turns
+        team.old.members.items team.new.members.items) }
+    ensures fed { IfOk result (λ e. HasFed feeder.old feeder.new (S.left input.old)
+        (S.left input.new) e) }
+    ensures faults { IfOk result (λ e. FaultsBy e (S.faults input.old) (S.faults input.new)) }
+{
+    let feeding = AtomicBool::new(false);
+    let end = feed_while(rt, alloc, shared, input, feeder, &feeding)?;
+    let turns = team.turns;
+    let members = team.members.as_mut_slice();
+    work_together::<H, R, W, G>(rt, alloc, topology, shared, members, turns, &feeding);
+    Ok(end)
+}
+
+// The workers take their turns while the records are fed.
+fn feed_beside<
+    H: Hash128 + Sync,
+    R: Threads + Wait + Sync,
+    W: Work + Send + Sync,
+    G: Gate + Send,
+    S: Source,
+>(
+    rt: &R,
+    alloc: Global,
+    topology: &Topology,
+    shared: &Shared<W>,
+    input: &mut S,
+    feeder: &mut JobFeed<W>,
+    team: &mut WorkerThreads<W, G>,
+) -> Result<JobEnd, AllocError>
+    requires { MayWork W.plan W.good H.hash_of shared.now.growing.id (draft_of topology.now)
+        team.old feeder.old }
+    ensures keys { HaveKeys (λ m. m.worker.state.session.client.pass)
+        team.old.members.items team.new.members.items }
+    ensures turned { OnOk result (AllTurnedUnlessStarved W.plan (draft_of topology.now)
+        team.old.turns
+        team.old.members.items team.new.members.items) }
+    ensures fed { IfOk result (λ e. HasFed feeder.old feeder.new (S.left input.old)
+        (S.left input.new) e) }
+    ensures faults { IfOk result (λ e. FaultsBy e (S.faults input.old) (S.faults input.new)) }
+{
+    share_topology();
+    let feeding = AtomicBool::new(true);
+    let flag = &feeding;
+    let turns = team.turns;
+    let slice = team.members.as_mut_slice();
+    let (_, end) = thread::join_mut(
+        rt,
+        &mut ||
+            requires { (0 < length slice.now)
+                × All (λ m. MayRun W.plan W.good H.hash_of shared.now.growing.id
+                (draft_of topology.now)
+                m.worker.placing turns m.worker.state) slice.now }
+            ensures { HaveKeys (λ m. m.worker.state.session.client.pass) slice.entry.now
+                slice.exit.now
+                × AllTurnedUnlessStarved W.plan (draft_of topology.entry.now) turns slice.entry.now
+                slice.exit.now }
+        { work_together::<H, R, W, G>(rt, alloc, topology, shared, slice, turns, flag) },
+        &mut || -> Result<JobEnd, AllocError>
+            requires { MayFeed W.plan shared.now.growing.id feeder.now }
+            ensures { IfOk result (λ e. HasFed feeder.entry.now feeder.exit.now
+                (S.left input.entry.now) (S.left input.exit.now) e)
+                × IfOk result (λ e. FaultsBy e (S.faults input.entry.now)
+                (S.faults input.exit.now)) }
+        { feed_while(rt, alloc, shared, input, feeder, flag) },
+    );
+    end
+}
+
+// Feeds the records of a job while the workers take their turns, or before where they wait.
+fn feed_team<
+    H: Hash128 + Sync,
+    R: Threads + Wait + Sync,
+    W: Work + Send + Sync,
+    G: Gate + Send,
+    S: Source,
+>(
+    rt: &R,
+    alloc: Global,
+    topology: &Topology,
+    shared: &Shared<W>,
+    input: &mut S,
+    feeder: &mut JobFeed<W>,
+    team: &mut WorkerThreads<W, G>,
+) -> Result<JobEnd, AllocError>
+    requires { MayWork W.plan W.good H.hash_of shared.now.growing.id (draft_of topology.now)
+        team.old feeder.old }
+    ensures keys { HaveKeys (λ m. m.worker.state.session.client.pass)
+        team.old.members.items team.new.members.items }
+    ensures turned { OnOk result (AllTurnedUnlessStarved W.plan (draft_of topology.now)
+        team.old.turns
+        team.old.members.items team.new.members.items) }
+    ensures fed { IfOk result (λ e. HasFed feeder.old feeder.new (S.left input.old)
+        (S.left input.new) e) }
+    ensures faults { IfOk result (λ e. FaultsBy e (S.faults input.old) (S.faults input.new)) }
+{
+    if team.waits {
+        feed_first::<H, R, W, G, S>(rt, alloc, topology, shared, input, feeder, team)
+    } else {
+        feed_beside::<H, R, W, G, S>(rt, alloc, topology, shared, input, feeder, team)
+    }
+}
+
+// Whether one of them is marked as starved.
+fn is_one_starved<W: Work, G: Gate>(members: &[WorkerThread<W, G>]) -> bool
+    ensures { result ≡ is_one_starved members.now }
+{
+    for member in members {
+        if member.is_starved {
+            return true;
+        }
+    }
+    false
+}
+
+/// Feeds the records of a job while the workers take their turns, or before where they wait. Want of memory, also in a
+/// worker, is the one error.
+pub fn feed_and_work<
+    H: Hash128 + Sync,
+    R: Threads + Wait + Sync,
+    W: Work + Send + Sync,
+    G: Gate + Send,
+    S: Source,
+>(
+    rt: &R,
+    alloc: Global,
+    topology: &Topology,
+    shared: &Shared<W>,
+    input: &mut S,
+    feeder: &mut JobFeed<W>,
+    team: &mut WorkerThreads<W, G>,
+) -> Result<JobEnd, AllocError>
+    requires { MayWork W.plan W.good H.hash_of shared.now.growing.id (draft_of topology.now)
+        team.old feeder.old }
+    ensures keys { HaveKeys (λ m. m.worker.state.session.client.pass)
+        team.old.members.items team.new.members.items }
+    ensures turned { OnOk result (HaveTurned W.plan (draft_of topology.now) team.old.turns
+        team.old.members.items team.new.members.items) }
+    ensures fed { IfOk result (λ e. HasFed feeder.old feeder.new (S.left input.old)
+        (S.left input.new) e) }
+    ensures faults { IfOk result (λ e. FaultsBy e (S.faults input.old) (S.faults input.new)) }
+{
+    let end = feed_team::<H, R, W, G, S>(rt, alloc, topology, shared, input, feeder, team)?;
+    if is_one_starved(team.members.as_slice()) {
+        return Err(AllocError);
+    }
+    Ok(end)
+}

@@ -1,0 +1,96 @@
+//! Workers that take their turns, each in a thread of its own.
+ghost use Rattle.std.specs.Prelude.{◌≡◌, ◌<◌, length};
+ghost use Rattle.std.specs.List.{All};
+ghost use Rattle.ks_topo.specs.Topologies.{draft_of};
+ghost use Rattle.ks_worker.specs.Beginning.{MayRun};
+ghost use Rattle.ks_run_workers.specs.Members.{pass_key, HaveKeys};
+ghost use Rattle.ks_run_workers.specs.Working.{TurnedUnlessStarved, AllTurnedUnlessStarved};
+
+use ks_cluster::Work;
+use ks_edge::Gate;
+use ks_hash::Hash128;
+use ks_shared::Shared;
+use ks_topo::{Topology, share_topology};
+use ks_worker::Worker;
+use std::alloc::Global;
+use std::sync::Wait;
+use std::sync::atomic::AtomicBool;
+use std::thread;
+use std::thread::Threads;
+
+/// A worker of a crew, and whether it ran out of memory.
+#[derive(Drop)]
+pub struct WorkerThread<W: Work, G: Gate> {
+    pub worker: Worker<W, G>,
+    pub is_starved: bool,
+}
+
+/// The workers of a run, and how they work.
+#[derive(Drop)]
+pub struct WorkerThreads<W: Work, G: Gate> {
+    pub members: Vec<WorkerThread<W, G>>,
+    /// The most turns of each.
+    pub turns: u64,
+    /// Whether they begin only once all records are fed.
+    pub waits: bool,
+}
+
+// One worker takes its turns, or is starved.
+fn take_turns<H: Hash128, R: Wait, W: Work, G: Gate>(
+    rt: &R,
+    alloc: Global,
+    topology: &Topology,
+    shared: &Shared<W>,
+    member: &mut WorkerThread<W, G>,
+    turns: u64,
+    feeding: &AtomicBool,
+)
+    requires may { MayRun W.plan W.good H.hash_of shared.now.growing.id (draft_of topology.now)
+        member.old.worker.placing turns member.old.worker.state }
+    ensures key { pass_key member.new.worker.state.session.client.pass
+        ≡ pass_key member.old.worker.state.session.client.pass }
+    ensures turned { TurnedUnlessStarved W.plan (draft_of topology.now) turns member.old
+        member.new }
+{
+    let answer = member
+        .worker
+        .run::<H, R>(rt, alloc, topology, shared, turns, feeding);
+    member.is_starved = answer.is_err();
+}
+
+/// All workers take their turns, each in a thread of its own where one can be made; who runs out of memory is starved. Their
+/// passes are of this lock still, with their numbers, and none holds the value.
+pub fn work_together<
+    H: Hash128 + Sync,
+    R: Threads + Wait + Sync,
+    W: Work + Send + Sync,
+    G: Gate + Send,
+>(
+    rt: &R,
+    alloc: Global,
+    topology: &Topology,
+    shared: &Shared<W>,
+    members: &mut [WorkerThread<W, G>],
+    turns: u64,
+    feeding: &AtomicBool,
+)
+    requires some { 0 < length members.old }
+    requires may { All (λ m. MayRun W.plan W.good H.hash_of shared.now.growing.id
+        (draft_of topology.now)
+        m.worker.placing turns m.worker.state) members.old }
+    ensures keys { HaveKeys (λ m. m.worker.state.session.client.pass) members.old members.new }
+    ensures turned { AllTurnedUnlessStarved W.plan (draft_of topology.now) turns members.old
+        members.new }
+{
+    share_topology();
+    let count = members.len();
+    let each = |_: usize, member: &mut WorkerThread<W, G>|
+        requires { MayRun W.plan W.good H.hash_of shared.now.growing.id (draft_of topology.now)
+            member.now.worker.placing turns member.now.worker.state }
+        ensures { (pass_key member.exit.now.worker.state.session.client.pass
+            ≡ pass_key member.entry.now.worker.state.session.client.pass)
+            × TurnedUnlessStarved W.plan (draft_of topology.entry.now) turns member.entry.now
+            member.exit.now }
+    { take_turns::<H, R, W, G>(rt, alloc, topology, shared, member, turns, feeding) };
+    thread::for_each_mut(rt, members, count, &each);
+}

@@ -1,0 +1,5 @@
+pub mod Settling
+pub mod Found
+pub mod LeftSides
+pub mod OnePass
+pub mod SpelledRows

@@ -1,0 +1,10 @@
+use Rattle.std.proofs.Common.{◌≡◌, length}
+use Rattle.ks_history.specs.Machine.{has_topic}
+use Rattle.ks_settle_report.proofs.lags.has_number.Given as goal
+
+-- the numbers that are left decide
+abbrev pub invariant-loop-rest : goal.invariant-loop-rest
+invariant-loop-rest l = has_topic l.topic l.rest ≡ has_topic l.topic l.numbers
+
+abbrev pub decreases-loop-rest : goal.decreases-loop-rest
+decreases-loop-rest l = length l.rest

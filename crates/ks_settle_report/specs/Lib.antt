@@ -1,0 +1,5 @@
+pub mod Report
+pub mod Partitions
+pub mod Joins
+pub mod Search
+pub mod Hashed

@@ -1,0 +1,17 @@
+use Rattle.std.proofs.Common.{ap, ◌∙◌}
+use Rattle.ks_def_runs.specs.Bytes.{Store}
+use Rattle.ks_def_runs.specs.FinMap as fin
+use Rattle.ks_store.specs.Pairs.{pairs_of}
+use Rattle.ks_store.specs.Rows.{rows_of}
+use Rattle.ks_store.proofs.Tables.{take_row, take_table}
+use Rattle.ks_store.proofs.table.Table.delete.Goals as goal
+
+pub returns : goal.returns
+returns c =
+    take_row (rows_of c.self.inside.rows.entries) (rows_of c.take_row.new.rows.entries) c.args.key.now c.take_row.ensures.gone
+    ∙ ap (λ (m : Store). fin.remove m c.args.key.now) c.self.view_is
+
+pub invariant_of-self : goal.invariant_of-self
+invariant_of-self c =
+    take_table c.self.inside.rows.entries c.take_row.new.rows.entries (pairs_of c.self.inside.listed.entries) (pairs_of c.unlist_key.new.listed.entries) c.args.key.now
+    c.take_row.ensures.gone c.take_row.ensures.len c.unlist_key.ensures.rises c.unlist_key.ensures.others c.self.invariant

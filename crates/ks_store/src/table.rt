@@ -1,0 +1,97 @@
+//! A finite map from bytes to bytes in a hash table by keys, beside which the keys that begin with a length stand in order.
+ghost use Rattle.std.specs.Prelude.{◌≡◌, IfOk, OnOk, OnErr, option_map};
+ghost use Rattle.ks_def_runs.specs.Bytes.{Store, empty_store};
+ghost use Rattle.ks_def_runs.specs.FinMap as map;
+ghost use Rattle.ks_def_runs.specs.Pairs.{ArePairs};
+ghost use Rattle.ks_def_runs.specs.Prefixes.{pairs_under};
+
+use crate::pairs::{Pairs, pairs_from};
+use crate::rows::{
+    Rows, all_keys, has_front, list_key, put_row, row_at, rows_at, take_row, unlist_key,
+};
+use ks_row::Blob;
+use std::alloc::{AllocError, Global};
+use std::collections::{BTreeMap, HashMap};
+use std::marker::Model;
+
+/// A finite map from bytes to bytes.
+#[derive(Drop)]
+pub struct Table {
+    alloc: Global,
+    rows: Rows,
+    // the keys with a front, each with nothing; it may have more of them than the rows
+    listed: Pairs,
+}
+
+impl Model for Table {
+    ghost use Rattle.ks_def_runs.specs.Bytes.{Store};
+    ghost use Rattle.ks_store.specs.Pairs.{pairs_of};
+    ghost use Rattle.ks_store.specs.Rows.{rows_of, row_store, IsTable};
+
+    ghost Value = { Store };
+
+    ghost view = { λ t. row_store (rows_of t.rows.entries) };
+
+    ghost invariant = { λ t. IsTable (rows_of t.rows.entries) (pairs_of t.listed.entries) };
+}
+
+impl Table {
+    pub fn new(alloc: Global) -> Table
+        ensures { result ≡ empty_store }
+    {
+        Table {
+            alloc,
+            rows: HashMap::new(alloc),
+            listed: BTreeMap::new(alloc),
+        }
+    }
+
+    /// Its keys and values are bytes, as a fact for the calls that follow; does nothing.
+    pub fn holds_bytes(&self)
+        ensures { ArePairs (map.entries self.now) }
+    {
+        // What the type keeps is told where a field is looked at.
+        let _alloc = &self.alloc;
+    }
+
+    pub fn get(&self, key: &[u8]) -> Option<&[u8]>
+        ensures { option_map (λ v. v.now) result ≡ map.get self.now key.now }
+    {
+        row_at(&self.rows, key)
+    }
+
+    pub fn put(&mut self, key: &[u8], value: &[u8]) -> Result<(), AllocError>
+        ensures ok { OnOk result (self.new ≡ map.insert self.old key.now value.now) }
+        ensures err { OnErr result (self.new ≡ self.old) }
+    {
+        let value = Blob::from_slice(self.alloc, value)?;
+        list_key(self.alloc, &self.rows, &mut self.listed, key)?;
+        put_row(self.alloc, &mut self.rows, key, value)
+    }
+
+    pub fn delete(&mut self, key: &[u8])
+        ensures { self.new ≡ map.remove self.old key.now }
+    {
+        take_row(&mut self.rows, key);
+        unlist_key(&mut self.listed, key);
+    }
+
+    /// The pairs whose key begins so, in order of bytes; looks at these alone where the front is one.
+    pub fn seek(&self, front: &[u8]) -> Result<Vec<(Blob, Blob)>, AllocError>
+        ensures { IfOk result (λ v. v.items ≡ pairs_under front.now self.now) }
+    {
+        if has_front(front) {
+            let keys = pairs_from(self.alloc, &self.listed, front)?;
+            return rows_at(self.alloc, &self.rows, keys);
+        }
+        let all = all_keys(self.alloc, &self.rows)?;
+        let keys = pairs_from(self.alloc, &all, front)?;
+        rows_at(self.alloc, &self.rows, keys)
+    }
+
+    pub fn len(&self) -> usize
+        ensures { result ≡ map.len self.now }
+    {
+        self.rows.len()
+    }
+}

@@ -1,0 +1,71 @@
+-- What stays: a row has one spelling, so that bytes tell whether a row is another.
+use Rattle.std.proofs.Common.{◌≡◌, ℕ, Bool, true, false, List, ◌∷◌, Option, Some, None, cond, not, refl, sym, ap, subst, ◌∙◌}
+use Rattle.std.specs.Prelude.{option_map, is_some, nat_eq}
+use Rattle.std.specs.Cmp.Lexicographic.{pointwise, same_text, other_text}
+use Rattle.ks_row.specs.Spelling.{IsBytes, FitsRow, spelling}
+use Rattle.ks_row.specs.Reading.{row_from}
+use Rattle.ks_row.proofs.Spelled.{row_codec}
+use Rattle.ks_expr.specs.Eval.{Row}
+use Rattle.ks_def_tasks.specs.Messages.{same_row, same_stored, same_option}
+use Rattle.ks_def_tasks.specs.Messages.Stored.{OfRow}
+use Rattle.ks_def_tasks.proofs.Same.{row-is}
+use Rattle.ks_law_topology.proofs.Writes.{row_itself, option_itself}
+use Rattle.ks_def_tasks.specs.Messages.{shown, Stored}
+use Rattle.ks_def_tasks.specs.Bytes.{stored_bytes}
+use Rattle.ks_task_nodes.specs.Stored.{changed_bytes, is_other}
+use Rattle.ks_wire.specs.Judged.{members_of, row_in}
+
+abbrev is_row : Option Row → Row → Bool
+is_row old row = same_option same_stored (option_map OfRow old) (Some (OfRow row))
+
+other_row : (old : Option Row) (row : Row) → (old ≡ Some row → ⊥) → false ≡ is_row old row
+other_row None row other = refl
+other_row (Some old) row other = by (same_row old row) refl
+  where
+    by : (b : Bool) → same_row old row ≡ b → false ≡ b
+    by false e = refl
+    by true e = absurd (other (ap Some (row-is old row e)))
+
+-- bytes that are the row's spelling are that row, and all others aren't
+pub told_by_bytes : (bytes : List ℕ) (row : Row) → IsBytes bytes → FitsRow row → (spelled : List ℕ) → spelled ≡ spelling row → pointwise nat_eq bytes spelled ≡ is_row (row_from bytes) row
+told_by_bytes bytes row are fits spelled is = by (pointwise nat_eq bytes spelled) refl
+  where
+    by : (b : Bool) → b ≡ pointwise nat_eq bytes spelled → b ≡ is_row (row_from bytes) row
+    by true e =
+        let same : bytes ≡ spelling row = same_text bytes spelled e ∙ is in
+        sym (ap (λ o. is_row o row) (ap row_from same ∙ row_codec.again row fits) ∙ row_itself row)
+    by false e = other_row (row_from bytes) row (λ read. other_text bytes spelled e ((row_codec.back bytes row are read).1 ∙ sym is))
+
+-- the row that bytes spell, where they spell one
+row_is : (bytes : List ℕ) → is_some (row_from bytes) ≡ true → Some (row_in bytes) ≡ row_from bytes
+row_is bytes = by (row_from bytes)
+  where
+    by : (o : Option Row) → is_some o ≡ true → Some (members_of o) ≡ o
+    by (Some ms) e = refl
+    by None e = cc
+
+-- such bytes are that row's spelling
+pub row_spelled : (bytes : List ℕ) → IsBytes bytes → is_some (row_from bytes) ≡ true → FitsRow (row_in bytes) × (bytes ≡ spelling (row_in bytes))
+row_spelled bytes are e = row_codec.back bytes (row_in bytes) are (sym (row_is bytes e))
+
+-- the bytes that spell a row are read as it
+pub read_again : (bytes : List ℕ) (row : Row) → bytes ≡ spelling row → FitsRow row → row_from bytes ≡ Some row
+read_again bytes row is fits = ap row_from is ∙ row_codec.again row fits
+
+-- ---- equal bytes
+pub nothing_changed : (a b : List ℕ) → pointwise nat_eq a b ≡ true → None ≡ changed_bytes (option_map OfRow (row_from a)) (option_map OfRow (row_from b))
+nothing_changed a b e = subst (λ c. None ≡ changed_bytes (option_map OfRow (row_from a)) (option_map OfRow (row_from c))) (same_text a b (sym e))
+    (ap (λ t. cond t None (Some (option_map stored_bytes (option_map OfRow (row_from a))))) (sym (option_itself (option_map OfRow (row_from a)))))
+
+rows_itself : (o : Option Row) → same_option same_row (option_map shown (option_map OfRow o)) (option_map shown (option_map OfRow o)) ≡ true
+rows_itself None = refl
+rows_itself (Some row) = row_itself row
+
+pub nothing_other : (a b : List ℕ) → pointwise nat_eq a b ≡ true → false ≡ is_other (option_map OfRow (row_from a)) (option_map OfRow (row_from b))
+nothing_other a b e = subst (λ c. false ≡ is_other (option_map OfRow (row_from a)) (option_map OfRow (row_from c))) (same_text a b (sym e))
+    (ap not (sym (rows_itself (row_from a))))
+
+-- a row is shown as it is stored
+pub same_shown : (o : Option Row) (row : Row) → not (same_option same_stored (option_map OfRow o) (Some (OfRow row))) ≡ is_other (option_map OfRow o) (Some (OfRow row))
+same_shown None row = refl
+same_shown (Some other) row = refl

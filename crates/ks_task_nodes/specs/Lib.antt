@@ -1,0 +1,4 @@
+pub mod Windows
+pub mod Nodes
+pub mod Records
+pub mod Stored

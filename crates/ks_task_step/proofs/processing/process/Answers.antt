@@ -1,0 +1,27 @@
+use Rattle.std.proofs.Common.{◌≡◌, List, Option, map, subst, ap, ◌∙◌}
+use Rattle.std.specs.Prelude.{IfOk}
+use Rattle.ks_history.specs.Faithful.{capped}
+use Rattle.ks_query.specs.Streams.{StreamItem}
+use Rattle.ks_def_tasks.specs.Step.{step_key}
+use Rattle.ks_def_lookups.specs.Lists.{item_in}
+use Rattle.ks_def_tasks.specs.Rules.{rules_of}
+use Rattle.ks_task_nodes.specs.declared.items.Item.{Item}
+use Rattle.ks_task_nodes.specs.Nodes.{node_view}
+use Rattle.ks_task_nodes.specs.Records.{arrival_of, message_of}
+use Rattle.ks_task_nodes.specs.Stored.{views, in_list}
+use Rattle.ks_task_step.specs.Steps.{old_list, made_at, late_of}
+use Rattle.ks_store.specs.Changelogs.{stores_in}
+use Rattle.ks_task_step.proofs.processing.process.Goals as goal
+
+pub returns-clause-records : goal.returns-clause-records
+returns-clause-records g c =
+    let step = c.args.step.now in
+    let key = step_key (message_of step.stamped.now.payload) in
+    subst (λ (is : List (Option StreamItem)). IfOk c.process_items.result (λ v. v.records.items ≡ made_at (rules_of g.H.Hash128.hash_of) (map node_view step.nodes.now) (stores_in step.changelogs.now) step.partition (arrival_of step.stamped.now) (item_in is) (in_list (old_list (stores_in step.changelogs.now) key (map node_view step.nodes.now))) key))
+    (ap (λ (is : List (Option Item)). views is) c.as_slice.ensures.value ∙ c.in_ok-items.ensures) c.process_items.ensures.records
+
+pub returns-clause-late : goal.returns-clause-late
+returns-clause-late g c =
+    let step = c.args.step.now in
+    subst (λ (is : List (Option StreamItem)). IfOk c.process_items.result (λ v. v.late ≡ capped (late_of (stores_in step.changelogs.now) (arrival_of step.stamped.now) (item_in is) (map node_view step.nodes.now))))
+    (ap (λ (is : List (Option Item)). views is) c.as_slice.ensures.value ∙ c.in_ok-items.ensures) c.process_items.ensures.late

@@ -1,0 +1,13 @@
+use Rattle.std.proofs.Common.{◌++◌, map, ap, sym, ◌∙◌, append-nil}
+use Rattle.std.specs.Prelude.{option_copied}
+use Rattle.ks_def_tasks.specs.Step.{row_in}
+use Rattle.ks_task_nodes.specs.Nodes.{node_view}
+use Rattle.ks_task_step.specs.Steps.{olds_in, news_in, sent_by}
+use Rattle.ks_task_step.proofs.Looking.{nothing_moved}
+use Rattle.ks_task_step.proofs.sends.push_table_change.Goals as goal
+
+pub returns-else-is_other : goal.returns-else-is_other
+returns-else-is_other c =
+    let values = c.args.values.now in
+    let none = nothing_moved c.args.by.now (option_copied c.args.field) c.args.node.now.topics.number (row_in (olds_in values) c.args.from) (row_in (news_in values) c.args.from) (sym c.in_ok-is_other.ensures ∙ c.if-is_other.false) in
+    sym (append-nil c.args.out.now.items) ∙ ap (λ xs. c.args.out.now.items ++ map (sent_by (node_view c.args.node.now) c.args.time) xs) (sym none)

@@ -1,0 +1,196 @@
+-- One whole step of a task over the bytes of its stores, in the machine's own words, by the nodes as the task runs them.
+use Rattle.std.specs.Prelude.{not, ℕ, ◌+◌, ◌==◌, Bool, cond, nat_eq, ◌||◌, List, [], ◌∷◌, ◌++◌, map, Option, Some, None, option_map, if◌then◌else◌}
+use Rattle.ks_row.specs.Reading.{◌>>=◌}
+use Rattle.ks_row.specs.declared.record.Rec.{Rec}
+use Rattle.ks_row.specs.declared.record.PartId.{PartId}
+use Rattle.ks_def_runs.specs.FinMap as fin
+use Rattle.ks_def_runs.specs.Bytes.{Store, empty_store}
+use Rattle.ks_hash.specs.Partition.{part_of_key}
+use Rattle.ks_wire.specs.Values.{SubscriptionValue}
+use Rattle.ks_wire.specs.Spelling.{subscription_key, subscription_bytes}
+use Rattle.ks_wire.specs.Reading.{hash_from}
+use Rattle.ks_expr.specs.Terms.{Test, Set}
+use Rattle.ks_expr.specs.declared.terms.JoinKind.{JoinKind}
+use Rattle.ks_expr.specs.Eval.{Row, holds, project, joined}
+use Rattle.ks_plan.specs.Plan.{Kind, is_windowed}
+use Rattle.ks_plan.specs.Plan.Kind.{StreamAggregate, TableAggregate, Windowed, ForeignKeyJoin}
+use Rattle.ks_plan.specs.declared.node.Topic.{Topic}
+use Rattle.ks_plan.specs.declared.node.Topic.TheVariants.{Subscriptions, Responses}
+use Rattle.ks_query.specs.Streams.{Key, StreamItem}
+use Rattle.ks_def_tasks.specs.Messages.{Stored, shown, Message, Rules, same_option, same_row}
+use Rattle.ks_def_tasks.specs.Messages.Message.{Asked, KeptHash}
+use Rattle.ks_def_tasks.specs.Foreign.{subscriptions, subscribed, answer_to, answer_all}
+use Rattle.ks_def_tasks.specs.Step.{Arrival, Values, Sent, arrived, changed, kept_row, of_row, direct, responded, send_subscriptions, send_responses, answer_of, step_key, row_in, regroup, regroup_rows, item_into, value_at, value_changes}
+use Rattle.ks_def_tasks.specs.Bytes.{ByteStores, stored_from, rec_of}
+use Rattle.ks_def_lookups.specs.Kept.{kept_under}
+use Rattle.ks_def_lookups.specs.Windows.{CountedBytes}
+use Rattle.ks_def_lookups.specs.Lists.{item_in, all_items, value_in}
+use Rattle.ks_def_lookups.specs.Counts.{nothing_counted, counted_item}
+use Rattle.ks_task_nodes.specs.Nodes.{TaskNode, kinds_in}
+use Rattle.ks_task_nodes.specs.Stored.{views, in_list, old_values, new_values}
+use Rattle.ks_store.specs.Changelogs.{stores_in}
+use Rattle.ks_task_step.specs.declared.step.NodeValues.{NodeValues}
+
+-- ---- what the nodes have at a step's key: items, stored values before and after
+abbrev pub items_in : NodeValues → ℕ → Option StreamItem
+items_in v = item_in (views v.items.now)
+
+abbrev pub olds_in : NodeValues → Values
+olds_in v = old_values v.olds.now
+
+abbrev pub news_in : NodeValues → Values
+news_in v = new_values v.olds.now v.news.now
+
+-- what a node stores at a key
+abbrev pub stored_at : ByteStores → Key → TaskNode → Option Stored
+stored_at stores k node = cond (is_windowed node.kind) None (cond node.topics.is_own (fin.get (stores node.topics.changelog) k >>= stored_from node.kind) None)
+
+abbrev pub old_list : ByteStores → Option Key → List TaskNode → List (Option Stored)
+old_list stores None nodes = []
+old_list stores (Some k) nodes = map (stored_at stores k) nodes
+
+-- the nodes act in list order
+abbrev pub new_from : Rules → Arrival → (ℕ → Option StreamItem) → Values → List (Option Stored) → List TaskNode → List (Option Stored)
+new_from rules a items olds news [] = news
+new_from rules a items olds news (node ∷ nodes) = new_from rules a items olds (news ++ value_at rules a items olds (value_in olds news) node.topics.number node.kind ∷ []) nodes
+
+abbrev pub new_list : Rules → Arrival → (ℕ → Option StreamItem) → Values → Option Key → List TaskNode → List (Option Stored)
+new_list rules a items olds None nodes = []
+new_list rules a items olds (Some k) nodes = new_from rules a items olds [] nodes
+
+-- ---- the values of tables that other tables make, after a step
+abbrev pub filter_value : Test → Values → Values → ℕ → Option Stored → Option Stored
+filter_value test olds news f old = cond (changed olds news f) (kept_row (λ v. cond (holds test v) (Some v) None) (row_in news f)) old
+
+abbrev pub map_value : Set → Values → Values → ℕ → Option Stored → Option Stored
+map_value set olds news f old = cond (changed olds news f) (kept_row (λ v. project set (Some v) None) (row_in news f)) old
+
+abbrev pub join_value : JoinKind → Set → Values → Values → ℕ → ℕ → Option Stored → Option Stored
+join_value kind set olds news l r old = cond (changed olds news l || changed olds news r) (of_row (joined kind set (row_in news l) (row_in news r))) old
+
+abbrev pub foreign_value : Rules → List ℕ → JoinKind → Set → Values → Values → ℕ → Option Message → Option Stored → Option Stored
+foreign_value rules fk kind set olds news l message old =
+    cond (changed olds news l) (direct fk kind set (row_in olds l) (row_in news l) old) (responded rules kind set (row_in news l) message old)
+
+-- ---- what is sent, and what is written into changelogs
+-- of 0 partitions there is none to choose
+abbrev pub part_in : Key → ℕ → ℕ
+part_in key n = if n == 0 then 0 else part_of_key key n
+
+-- the hashes that a join on a foreign key keeps under a key
+abbrev pub hashes_at : ByteStores → TaskNode → Key → List (Key × ℕ)
+hashes_at stores node b = cond node.topics.has_right (kept_under b (stores node.topics.hash_changelog)) []
+
+abbrev pub is_other_row : Option Row → Option Row → Bool
+is_other_row old new = not (same_option same_row old new)
+
+abbrev pub left_sends : Rules → TaskNode → List ℕ → Key → Option Row → Option Row → List Sent
+left_sends rules node fk k old new = cond (is_other_row old new) (send_subscriptions node.topics.number k (subscriptions rules.hash fk old new)) []
+
+abbrev pub right_sends : ByteStores → TaskNode → Key → Option Row → Option Row → List Sent
+right_sends stores node k old new = cond (is_other_row old new) (send_responses node.topics.number (answer_all new (hashes_at stores node k))) []
+
+abbrev pub join_here : Rules → ByteStores → TaskNode → List ℕ → ℕ → ℕ → Values → Values → Option Key → List Sent
+join_here rules stores node fk l r olds news None = []
+join_here rules stores node fk l r olds news (Some k) =
+    left_sends rules node fk k (row_in olds l) (row_in news l) ++ right_sends stores node k (row_in olds r) (row_in news r)
+
+abbrev pub answer_here : List TaskNode → ByteStores → ℕ → ℕ → Option Message → List Sent
+answer_here nodes stores n r (Some (Asked b k q)) = send_responses n (answer_of k (answer_to q (option_map shown (in_list (old_list stores (Some b) nodes) r))))
+answer_here nodes stores n r _ = []
+
+abbrev pub sends_of : Rules → List TaskNode → ByteStores → Arrival → (ℕ → Option StreamItem) → Values → Values → TaskNode → Kind → List Sent
+sends_of rules nodes stores a items olds news node (StreamAggregate f by field through) = cond through (regroup by node.topics.number (items f)) []
+sends_of rules nodes stores a items olds news node (Windowed f by w through) = cond through (regroup by node.topics.number (items f)) []
+sends_of rules nodes stores a items olds news node (TableAggregate f by field) = regroup_rows by field node.topics.number (row_in olds f) (row_in news f)
+sends_of rules nodes stores a items olds news node (ForeignKeyJoin l r fk kind set) =
+    join_here rules stores node fk l r olds news (step_key a.item.message) ++ answer_here nodes stores node.topics.number r (arrived a (Subscriptions node.topics.number))
+sends_of rules nodes stores a items olds news node _ = []
+
+abbrev pub number_to : TaskNode → Topic → ℕ
+number_to node (Subscriptions n) = node.topics.subscriptions
+number_to node (Responses n) = node.topics.responses
+number_to node _ = node.topics.repartition
+
+abbrev pub parts_to : TaskNode → Topic → ℕ
+parts_to node (Subscriptions n) = node.topics.right_partitions
+parts_to node _ = node.topics.partitions
+
+abbrev pub sent_by : TaskNode → ℕ → Sent → PartId × Rec
+sent_by node time x = (record { topic = number_to node x.topic; part = part_in x.key (parts_to node x.topic) }, rec_of (record { message = x.message; time = time }))
+
+-- a subscription as it is written
+abbrev pub asked_by : TaskNode → ℕ → Key × SubscriptionValue → PartId × Rec
+asked_by node time x = (record { topic = node.topics.subscriptions; part = part_in x.0 node.topics.right_partitions }, record { key = Some x.0; value = Some (subscription_bytes x.1); ts = time })
+
+abbrev pub sends_by : Rules → List TaskNode → ByteStores → Arrival → (ℕ → Option StreamItem) → Values → Values → TaskNode → List (PartId × Rec)
+sends_by rules nodes stores a items olds news node = map (sent_by node a.item.time) (sends_of rules nodes stores a items olds news node node.kind)
+
+-- of these nodes, among all
+abbrev pub all_sends : Rules → List TaskNode → ByteStores → Arrival → (ℕ → Option StreamItem) → Values → Values → List TaskNode → List (PartId × Rec)
+all_sends rules all stores a items olds news [] = []
+all_sends rules all stores a items olds news (node ∷ nodes) = sends_by rules all stores a items olds news node ++ all_sends rules all stores a items olds news nodes
+
+abbrev pub told_by : TaskNode → ℕ → ℕ → Message → PartId × Rec
+told_by node part time m = (record { topic = node.topics.changelog; part = part }, rec_of (record { message = m; time = time }))
+
+abbrev pub change_by : ℕ → Arrival → Values → Values → TaskNode → List (PartId × Rec)
+change_by part a olds news node = map (told_by node part a.item.time) (value_changes (step_key a.item.message) (olds node.topics.number) (news node.topics.number))
+
+-- of a windowed count that the task keeps
+abbrev pub counts_by : ByteStores → Arrival → (ℕ → Option StreamItem) → TaskNode → Kind → CountedBytes
+counts_by stores a items node (Windowed f by w through) = cond node.topics.is_own (counted_item w (stores node.topics.changelog) (item_into a items node.topics.number f through)) (nothing_counted (stores node.topics.changelog))
+counts_by stores a items node _ = nothing_counted (stores node.topics.changelog)
+
+abbrev pub counts_at : ByteStores → Arrival → (ℕ → Option StreamItem) → TaskNode → CountedBytes
+counts_at stores a items node = counts_by stores a items node node.kind
+
+abbrev pub at_part : ℕ → ℕ → Rec → PartId × Rec
+at_part log part r = (record { topic = log; part = part }, r)
+
+-- the hash at a foreign key and a left key
+abbrev pub hash_found : ByteStores → TaskNode → Key → Key → Option ℕ
+hash_found stores node b k = cond node.topics.has_right (fin.get (stores node.topics.hash_changelog) (subscription_key b k) >>= hash_from) None
+
+abbrev pub hash_here : ByteStores → TaskNode → Option Message → List Message
+hash_here stores node (Some (Asked b k q)) = cond (same_option nat_eq (hash_found stores node b k) (subscribed q)) [] (KeptHash b k (subscribed q) ∷ [])
+hash_here stores node _ = []
+
+abbrev pub hash_told : TaskNode → ℕ → ℕ → Message → PartId × Rec
+hash_told node part time m = (record { topic = node.topics.hash_changelog; part = part }, rec_of (record { message = m; time = time }))
+
+abbrev pub hashed_by : ℕ → ByteStores → Arrival → TaskNode → List (PartId × Rec)
+hashed_by part stores a node = map (hash_told node part a.item.time) (hash_here stores node (arrived a (Subscriptions node.topics.number)))
+
+abbrev pub recs_by : ℕ → ByteStores → Arrival → (ℕ → Option StreamItem) → Values → Values → TaskNode → List (PartId × Rec)
+recs_by part stores a items olds news node = change_by part a olds news node ++ map (at_part node.topics.changelog part) (counts_at stores a items node).recs ++ hashed_by part stores a node
+
+abbrev pub all_recs : ℕ → ByteStores → Arrival → (ℕ → Option StreamItem) → Values → Values → List TaskNode → List (PartId × Rec)
+all_recs part stores a items olds news [] = []
+all_recs part stores a items olds news (node ∷ nodes) = recs_by part stores a items olds news node ++ all_recs part stores a items olds news nodes
+
+abbrev pub late_of : ByteStores → Arrival → (ℕ → Option StreamItem) → List TaskNode → ℕ
+late_of stores a items [] = 0
+late_of stores a items (node ∷ nodes) = (counts_at stores a items node).late + late_of stores a items nodes
+
+-- all that a step makes: sends, then changelog records
+abbrev pub made_with : Rules → List TaskNode → ByteStores → ℕ → Arrival → (ℕ → Option StreamItem) → Values → Values → List (PartId × Rec)
+made_with rules nodes stores part a items olds news = all_sends rules nodes stores a items olds news nodes ++ all_recs part stores a items olds news nodes
+
+abbrev pub made_at : Rules → List TaskNode → ByteStores → ℕ → Arrival → (ℕ → Option StreamItem) → Values → Option Key → List (PartId × Rec)
+made_at rules nodes stores part a items olds key = made_with rules nodes stores part a items olds (value_in olds (new_list rules a items olds key nodes))
+
+abbrev pub made_of : Rules → List TaskNode → ByteStores → ℕ → Arrival → List (PartId × Rec)
+made_of rules nodes stores part a =
+    made_at rules nodes stores part a (item_in (all_items a [] (kinds_in nodes))) (in_list (old_list stores (step_key a.item.message) nodes)) (step_key a.item.message)
+
+abbrev pub late_in : List TaskNode → ByteStores → Arrival → ℕ
+late_in nodes stores a = late_of stores a (item_in (all_items a [] (kinds_in nodes))) nodes
+
+abbrev pub late_or_none : List TaskNode → ByteStores → Option Arrival → ℕ
+late_or_none nodes stores None = 0
+late_or_none nodes stores (Some a) = late_in nodes stores a
+
+abbrev pub made_or_none : Rules → List TaskNode → ByteStores → ℕ → Option Arrival → List (PartId × Rec)
+made_or_none rules nodes stores part None = []
+made_or_none rules nodes stores part (Some a) = made_of rules nodes stores part a

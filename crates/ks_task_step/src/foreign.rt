@@ -1,0 +1,545 @@
+//! The sides of a join on a foreign key (KIP-213).
+ghost use Rattle.std.specs.Prelude.{◌≡◌, ◌++◌, ◌∷◌, [], IfOk, OnOk, Some, None, map, option_map, nat_eq};
+ghost use Rattle.ks_expr.specs.Terms.{set_of};
+ghost use Rattle.ks_plan.specs.declared.node.Topic.TheVariants.{Subscriptions, Responses};
+ghost use Rattle.ks_def_tasks.specs.Messages.{shown, subscription_of, same_option};
+ghost use Rattle.ks_def_tasks.specs.Foreign.{subscriptions as asked_of, is_direct as direct_is, key_of_row, direct_row, subscribed, answer_all};
+ghost use Rattle.ks_def_tasks.specs.Step.{arrived, step_key, row_in, direct, responded, send_subscriptions, send_responses, answer_of};
+ghost use Rattle.ks_wire.specs.Spelling.{hash_bytes};
+ghost use Rattle.ks_def_tasks.specs.Messages.Message.{Asked, KeptHash};
+ghost use Rattle.ks_def_lookups.specs.Kept.{kept_under};
+ghost use Rattle.ks_def_tasks.specs.Rules.{rules_of};
+ghost use Rattle.ks_task_nodes.specs.Nodes.{node_view};
+ghost use Rattle.ks_task_nodes.specs.Records.{arrival_of, message_of};
+ghost use Rattle.ks_task_nodes.specs.Stored.{stored_in, value_view, in_list};
+ghost use Rattle.ks_task_step.specs.Steps.{olds_in, news_in, old_list, sent_by, asked_by, hashes_at, hash_found, hash_here, hash_told, hashed_by, left_sends, right_sends, join_here, answer_here, foreign_value as foreign_stored};
+ghost use Rattle.ks_store.specs.Changelogs.{stores_in};
+
+use crate::sends::send_to;
+use crate::step::{NodeValues, Step, change_at, is_changed, new_row, old_row, stored_value};
+use crate::values::value_of_row;
+use ks_fk_left::{Answer, respond, subscriptions};
+use ks_fk_right::{answer, on_right};
+use ks_hash::Hash128;
+use ks_plan::Topic;
+use ks_row::{Blob, Change, Key, Name, PartId, Rec, Row, key_of_field};
+use ks_store::{Changelog, OrderedStore, find_bytes};
+use ks_table_ops::join_rows;
+use ks_task_nodes::{
+    ForeignKeyJoin, NewValue, Payload, ProcessorNode, StampedRecord, StoredValue, is_same_topic,
+    stored_row,
+};
+use ks_wire::{
+    Response, Subscription, read_hash, write_hash, write_response, write_subscription,
+    write_subscription_key,
+};
+use std::alloc::{AllocError, Global};
+
+// ---- the result
+
+fn foreign_key(alloc: Global, name: &Name, row: &Option<Row>) -> Result<Option<Key>, AllocError>
+    ensures { IfOk result (λ k. k ≡ key_of_row name.now row.now) }
+{
+    match row {
+        Some(row) => key_of_field(alloc, row, name.as_str().as_bytes()),
+        None => Ok(None),
+    }
+}
+
+// Whether no answer will come to a changed left row, so that the result is set at once.
+fn is_direct(
+    alloc: Global,
+    name: &Name,
+    old: &Option<Row>,
+    new: &Option<Row>,
+) -> Result<bool, AllocError>
+    ensures { IfOk result (λ b. b ≡ direct_is name.now old.now new.now) }
+{
+    match new {
+        Some(_) => Ok(foreign_key(alloc, name, new)?.is_none()),
+        None => Ok(foreign_key(alloc, name, old)?.is_none()),
+    }
+}
+
+// The result of a left row without a right one.
+fn left_alone(
+    alloc: Global,
+    join: &ForeignKeyJoin<'_>,
+    row: &Option<Row>,
+) -> Result<Option<Row>, AllocError>
+    ensures { IfOk result (λ r. r ≡ direct_row join.now.kind (set_of join.now.set.now) row.now) }
+{
+    match row {
+        Some(row) => join_rows(alloc, join.kind, join.set, Some(row), None),
+        None => Ok(None),
+    }
+}
+
+fn direct_value<'a>(
+    alloc: Global,
+    join: &ForeignKeyJoin<'_>,
+    old: Option<StoredValue<'a>>,
+    before: &Option<Row>,
+    now: &Option<Row>,
+) -> Result<NewValue<'a>, AllocError>
+    ensures { IfOk result (λ v. value_view v ≡ direct join.now.foreign_key.now join.now.kind
+        (set_of join.now.set.now) before.now now.now (stored_in old.entry)) }
+{
+    if is_direct(alloc, join.foreign_key, before, now)? {
+        Ok(value_of_row(left_alone(alloc, join, now)?))
+    } else {
+        Ok(NewValue::Unchanged(old))
+    }
+}
+
+fn responded_value<'a, H: Hash128>(
+    alloc: Global,
+    number: u8,
+    join: &ForeignKeyJoin<'_>,
+    old: Option<StoredValue<'a>>,
+    values: &NodeValues<'_, '_>,
+    stamped: &StampedRecord<'_>,
+) -> Result<NewValue<'a>, AllocError>
+    ensures { IfOk result (λ v. value_view v ≡ responded (rules_of H.hash_of) join.now.kind
+        (set_of join.now.set.now) (row_in (news_in values.now) join.now.left)
+        (arrived (arrival_of stamped.now) (Responses number)) (stored_in old.entry)) }
+{
+    if !is_same_topic(stamped.topic, Topic::Responses(number)) {
+        return Ok(NewValue::Unchanged(old));
+    }
+    let Payload::Response { response, .. } = &stamped.payload else {
+        return Ok(NewValue::Unchanged(old));
+    };
+    let left = new_row(alloc, values, join.left)?;
+    match respond::<H>(alloc, join.kind, join.set, left.as_ref(), response)? {
+        Answer::Stale => Ok(NewValue::Unchanged(old)),
+        Answer::Set(row) => Ok(value_of_row(row)),
+    }
+}
+
+/// What a join on a foreign key stores after the step: by its left row where that changed, else by a response to it. Want of memory is
+/// the one error.
+pub fn foreign_value<'a, H: Hash128>(
+    alloc: Global,
+    number: u8,
+    join: &ForeignKeyJoin<'_>,
+    old: Option<StoredValue<'a>>,
+    values: &NodeValues<'_, '_>,
+    stamped: &StampedRecord<'_>,
+) -> Result<NewValue<'a>, AllocError>
+    ensures { IfOk result (λ v. value_view v ≡ foreign_stored (rules_of H.hash_of)
+        join.now.foreign_key.now join.now.kind (set_of join.now.set.now) (olds_in values.now)
+        (news_in values.now) join.now.left (arrived (arrival_of stamped.now) (Responses number))
+        (stored_in old.entry)) }
+{
+    if is_changed(alloc, values, join.left)? {
+        let before = old_row(alloc, values, join.left)?;
+        let now = new_row(alloc, values, join.left)?;
+        direct_value(alloc, join, old, &before, &now)
+    } else {
+        responded_value::<H>(alloc, number, join, old, values, stamped)
+    }
+}
+
+// ---- what a changed row of a side sends
+
+fn push_subscriptions(
+    alloc: Global,
+    out: &mut Vec<(PartId, Rec)>,
+    node: &ProcessorNode<'_>,
+    asked: &[(Key, Subscription)],
+    time: u64,
+) -> Result<(), AllocError>
+    ensures { OnOk result (out.new.items ≡ out.old.items
+        ++ map (asked_by (node_view node.now) time) asked.now) }
+{
+    let topics = node.topics;
+    for (foreign, subscription) in asked {
+        let value = write_subscription(alloc, subscription)?;
+        let to = topics.right_partitions;
+        out.push(send_to(alloc, topics.subscriptions, to, foreign, value, time)?)?;
+    }
+    Ok(())
+}
+
+fn push_responses(
+    alloc: Global,
+    out: &mut Vec<(PartId, Rec)>,
+    node: &ProcessorNode<'_>,
+    responses: &[(Key, Response)],
+    time: u64,
+) -> Result<(), AllocError>
+    ensures { OnOk result (out.new.items ≡ out.old.items
+        ++ map (sent_by (node_view node.now) time)
+        (send_responses node.now.topics.number responses.now)) }
+{
+    let topics = node.topics;
+    for (left, response) in responses {
+        let value = write_response(alloc, response)?;
+        out.push(send_to(
+            alloc,
+            topics.responses,
+            topics.partitions,
+            left,
+            value,
+            time,
+        )?)?;
+    }
+    Ok(())
+}
+
+// A left row that changed asks.
+#[tactic(auto, using(crate::proofs::Asking::asked_is))]
+fn push_left<H: Hash128>(
+    alloc: Global,
+    out: &mut Vec<(PartId, Rec)>,
+    node: &ProcessorNode<'_>,
+    name: &Name,
+    change: &Change,
+    time: u64,
+) -> Result<(), AllocError>
+    ensures { OnOk result (out.new.items ≡ out.old.items
+        ++ map (sent_by (node_view node.now) time)
+        (send_subscriptions node.now.topics.number change.now.key
+        (asked_of (rules_of H.hash_of).hash name.now change.now.old change.now.new))) }
+{
+    let (asked, _) = subscriptions::<H>(alloc, name, change)?;
+    push_subscriptions(alloc, out, node, &asked, time)
+}
+
+fn responses_in(
+    alloc: Global,
+    changelogs: &[Changelog],
+    number: u16,
+    change: &Change,
+) -> Result<Vec<(Key, Response)>, AllocError>
+    ensures { IfOk result (λ v. v.items ≡ answer_all change.now.new
+        (kept_under change.now.key (stores_in changelogs.now number))) }
+{
+    let mut rest = changelogs;
+    while let [changelog, more @ ..] = rest {
+        if number == changelog.topic {
+            return on_right(alloc, &changelog.store, change);
+        }
+        rest = more;
+    }
+    let none = OrderedStore::new(alloc);
+    on_right(alloc, &none, change)
+}
+
+fn responses_to(
+    alloc: Global,
+    changelogs: &[Changelog],
+    node: &ProcessorNode<'_>,
+    change: &Change,
+) -> Result<Vec<(Key, Response)>, AllocError>
+    ensures { IfOk result (λ v. v.items ≡ answer_all change.now.new
+        (hashes_at (stores_in changelogs.now) (node_view node.now) change.now.key)) }
+{
+    if node.topics.has_right {
+        responses_in(alloc, changelogs, node.topics.hash_changelog, change)
+    } else {
+        Ok(Vec::new(alloc))
+    }
+}
+
+// A right row that changed answers.
+fn push_right(
+    alloc: Global,
+    out: &mut Vec<(PartId, Rec)>,
+    changelogs: &[Changelog],
+    node: &ProcessorNode<'_>,
+    change: &Change,
+    time: u64,
+) -> Result<(), AllocError>
+    ensures { OnOk result (out.new.items ≡ out.old.items
+        ++ map (sent_by (node_view node.now) time)
+        (send_responses node.now.topics.number
+        (answer_all change.now.new (hashes_at (stores_in changelogs.now) (node_view node.now)
+        change.now.key)))) }
+{
+    let responses = responses_to(alloc, changelogs, node, change)?;
+    push_responses(alloc, out, node, &responses, time)
+}
+
+fn push_left_if<H: Hash128>(
+    alloc: Global,
+    out: &mut Vec<(PartId, Rec)>,
+    node: &ProcessorNode<'_>,
+    join: &ForeignKeyJoin<'_>,
+    values: &NodeValues<'_, '_>,
+    key: &Key,
+    time: u64,
+) -> Result<(), AllocError>
+    ensures { OnOk result (out.new.items ≡ out.old.items
+        ++ map (sent_by (node_view node.now) time)
+        (left_sends (rules_of H.hash_of) (node_view node.now) join.now.foreign_key.now key.now
+        (row_in (olds_in values.now) join.now.left) (row_in (news_in values.now) join.now.left))) }
+{
+    if is_changed(alloc, values, join.left)? {
+        let change = change_at(alloc, values, key.clone()?, join.left)?;
+        push_left::<H>(alloc, out, node, join.foreign_key, &change, time)
+    } else {
+        Ok(())
+    }
+}
+
+fn push_right_if(
+    alloc: Global,
+    out: &mut Vec<(PartId, Rec)>,
+    step: &Step<'_>,
+    node: &ProcessorNode<'_>,
+    right: u8,
+    values: &NodeValues<'_, '_>,
+    key: &Key,
+) -> Result<(), AllocError>
+    ensures { OnOk result (out.new.items ≡ out.old.items
+        ++ map (sent_by (node_view node.now) step.now.stamped.now.time)
+        (right_sends (stores_in step.now.changelogs.now) (node_view node.now) key.now
+        (row_in (olds_in values.now) right) (row_in (news_in values.now) right))) }
+{
+    if is_changed(alloc, values, right)? {
+        let change = change_at(alloc, values, key.clone()?, right)?;
+        push_right(
+            alloc,
+            out,
+            step.changelogs,
+            node,
+            &change,
+            step.stamped.time,
+        )
+    } else {
+        Ok(())
+    }
+}
+
+/// What both sides send of their changed rows at the step's key. Want of memory is the one error.
+#[tactic(auto, using(crate::proofs::Asking::both_sent))]
+pub fn push_join<H: Hash128>(
+    alloc: Global,
+    out: &mut Vec<(PartId, Rec)>,
+    step: &Step<'_>,
+    node: &ProcessorNode<'_>,
+    join: &ForeignKeyJoin<'_>,
+    values: &NodeValues<'_, '_>,
+) -> Result<(), AllocError>
+    ensures { OnOk result (out.new.items ≡ out.old.items
+        ++ map (sent_by (node_view node.now) step.now.stamped.now.time)
+        (join_here (rules_of H.hash_of) (stores_in step.now.changelogs.now) (node_view node.now)
+        join.now.foreign_key.now join.now.left join.now.right (olds_in values.now)
+        (news_in values.now) (step_key (message_of step.now.stamped.now.payload)))) }
+{
+    let Some(key) = step.stamped.key() else {
+        return Ok(());
+    };
+    push_left_if::<H>(alloc, out, node, join, values, key, step.stamped.time)?;
+    push_right_if(alloc, out, step, node, join.right, values, key)
+}
+
+// ---- the answer to a subscription
+
+// The right row of the moment, at a foreign key.
+fn right_row(
+    alloc: Global,
+    step: &Step<'_>,
+    right: u8,
+    foreign: &Key,
+) -> Result<Option<Row>, AllocError>
+    ensures { IfOk result (λ r. r ≡ option_map shown
+        (in_list (old_list (stores_in step.now.changelogs.now) (Some foreign.now)
+        (map node_view step.now.nodes.now)) right)) }
+{
+    match step.nodes.get(right as usize) {
+        Some(node) => stored_row(alloc, stored_value(step.changelogs, foreign, node)),
+        None => Ok(None),
+    }
+}
+
+fn push_response(
+    alloc: Global,
+    out: &mut Vec<(PartId, Rec)>,
+    node: &ProcessorNode<'_>,
+    left: &Key,
+    response: Option<Response>,
+    time: u64,
+) -> Result<(), AllocError>
+    ensures { OnOk result (out.new.items ≡ out.old.items
+        ++ map (sent_by (node_view node.now) time)
+        (send_responses node.now.topics.number (answer_of left.now response))) }
+{
+    let Some(response) = response else {
+        return Ok(());
+    };
+    let topics = node.topics;
+    let value = write_response(alloc, &response)?;
+    out.push(send_to(
+        alloc,
+        topics.responses,
+        topics.partitions,
+        left,
+        value,
+        time,
+    )?)?;
+    Ok(())
+}
+
+/// The answer to a subscription, with the right row of the moment. Want of memory is the one error.
+pub fn push_answer(
+    alloc: Global,
+    out: &mut Vec<(PartId, Rec)>,
+    step: &Step<'_>,
+    node: &ProcessorNode<'_>,
+    right: u8,
+) -> Result<(), AllocError>
+    ensures { OnOk result (out.new.items ≡ out.old.items
+        ++ map (sent_by (node_view node.now) step.now.stamped.now.time)
+        (answer_here (map node_view step.now.nodes.now) (stores_in step.now.changelogs.now)
+        node.now.topics.number right (arrived (arrival_of step.now.stamped.now)
+        (Subscriptions node.now.topics.number)))) }
+{
+    if !is_same_topic(step.stamped.topic, Topic::Subscriptions(node.topics.number)) {
+        return Ok(());
+    }
+    match &step.stamped.payload {
+        Payload::Subscription {
+            foreign,
+            subscription,
+        } => {
+            let row = right_row(alloc, step, right, foreign)?;
+            let response = answer(subscription, row.as_ref())?;
+            push_response(
+                alloc,
+                out,
+                node,
+                subscription.left(),
+                response,
+                step.stamped.time,
+            )
+        }
+        _ => Ok(()),
+    }
+}
+
+// ---- the hash of a subscription
+
+// The hash that is kept: the instructions 2 and 3 put it, the others delete.
+fn subscribed_hash(subscription: &Subscription) -> Option<u128>
+    ensures { result ≡ subscribed (subscription_of subscription.now) }
+{
+    match subscription.instruction() {
+        0 | 1 => None,
+        _ => subscription.hash(),
+    }
+}
+
+fn stored_hash(
+    alloc: Global,
+    changelogs: &[Changelog],
+    node: &ProcessorNode<'_>,
+    foreign: &Key,
+    left: &Key,
+) -> Result<Option<u128>, AllocError>
+    ensures { IfOk result (λ h. h ≡ hash_found (stores_in changelogs.now) (node_view node.now)
+        foreign.now left.now) }
+{
+    if !node.topics.has_right {
+        return Ok(None);
+    }
+    let key = write_subscription_key(alloc, foreign, left)?;
+    match find_bytes(changelogs, node.topics.hash_changelog, key.as_slice()) {
+        Some(bytes) => Ok(read_hash(bytes)),
+        None => Ok(None),
+    }
+}
+
+fn is_same_hash(a: Option<u128>, b: Option<u128>) -> bool
+    ensures { result ≡ same_option nat_eq a b }
+{
+    match (a, b) {
+        (None, None) => true,
+        (Some(a), Some(b)) => a == b,
+        _ => false,
+    }
+}
+
+fn hash_value(alloc: Global, hash: Option<u128>) -> Result<Option<Blob>, AllocError>
+    ensures { IfOk result (λ v. v ≡ option_map hash_bytes hash) }
+{
+    match hash {
+        Some(hash) => Ok(Some(write_hash(alloc, hash)?)),
+        None => Ok(None),
+    }
+}
+
+fn push_new_hash(
+    alloc: Global,
+    out: &mut Vec<(PartId, Rec)>,
+    step: &Step<'_>,
+    node: &ProcessorNode<'_>,
+    foreign: &Key,
+    left: &Key,
+    hash: Option<u128>,
+) -> Result<(), AllocError>
+    ensures { OnOk result (out.new.items ≡ out.old.items
+        ++ hash_told (node_view node.now) step.now.partition step.now.stamped.now.time
+        (KeptHash foreign.now left.now hash) ∷ []) }
+{
+    let key = write_subscription_key(alloc, foreign, left)?;
+    let value = hash_value(alloc, hash)?;
+    out.push((
+        PartId {
+            topic: node.topics.hash_changelog,
+            part: step.partition,
+        },
+        Rec {
+            key: Some(key),
+            value,
+            ts: step.stamped.time,
+        },
+    ))?;
+    Ok(())
+}
+
+fn push_other_hash(
+    alloc: Global,
+    out: &mut Vec<(PartId, Rec)>,
+    step: &Step<'_>,
+    node: &ProcessorNode<'_>,
+    foreign: &Key,
+    subscription: &Subscription,
+) -> Result<(), AllocError>
+    ensures { OnOk result (out.new.items ≡ out.old.items
+        ++ map (hash_told (node_view node.now) step.now.partition step.now.stamped.now.time)
+        (hash_here (stores_in step.now.changelogs.now) (node_view node.now)
+        (Some (Asked foreign.now subscription.now.left (subscription_of subscription.now))))) }
+{
+    let old = stored_hash(alloc, step.changelogs, node, foreign, subscription.left())?;
+    let new = subscribed_hash(subscription);
+    if is_same_hash(old, new) {
+        return Ok(());
+    }
+    push_new_hash(alloc, out, step, node, foreign, subscription.left(), new)
+}
+
+/// The changelog record of a subscription's hash, where it is another than was kept. Want of memory is the one error.
+pub fn push_hash(
+    alloc: Global,
+    out: &mut Vec<(PartId, Rec)>,
+    step: &Step<'_>,
+    node: &ProcessorNode<'_>,
+) -> Result<(), AllocError>
+    ensures { OnOk result (out.new.items ≡ out.old.items
+        ++ hashed_by step.now.partition (stores_in step.now.changelogs.now)
+        (arrival_of step.now.stamped.now) (node_view node.now)) }
+{
+    if !is_same_topic(step.stamped.topic, Topic::Subscriptions(node.topics.number)) {
+        return Ok(());
+    }
+    match &step.stamped.payload {
+        Payload::Subscription {
+            foreign,
+            subscription,
+        } => push_other_hash(alloc, out, step, node, foreign, subscription),
+        _ => Ok(()),
+    }
+}

@@ -1,0 +1,236 @@
+//! What the nodes of a step send to repartition topics and between the sides of joins.
+ghost use Rattle.std.specs.Prelude.{◌≡◌, ◌++◌, IfOk, OnOk, Some, map, option_copied};
+ghost use Rattle.ks_query.specs.Streams.{group_key};
+ghost use Rattle.ks_def_tasks.specs.Step.{row_in, regroup, regroup_rows, send_deltas};
+ghost use Rattle.ks_def_tasks.specs.Rules.{rules_of};
+ghost use Rattle.ks_task_nodes.specs.Nodes.{node_view};
+ghost use Rattle.ks_task_nodes.specs.Records.{arrival_of};
+ghost use Rattle.ks_task_nodes.specs.Stored.{item_view};
+ghost use Rattle.ks_task_step.specs.Steps.{items_in, olds_in, news_in, part_in, sent_by, sends_by, all_sends};
+ghost use Rattle.ks_store.specs.Changelogs.{stores_in};
+
+use crate::foreign::{push_answer, push_join};
+use crate::step::{NodeValues, Step, change_at, is_changed};
+use ks_agg::table_parts;
+use ks_hash::{Hash128, murmur2};
+use ks_row::{Blob, Change, Key, Name, PartId, Rec, encode, key_of_field};
+use ks_task_nodes::{Item, Processor, ProcessorNode, copy_key, item_at};
+use ks_wire::{Delta, write_delta};
+use std::alloc::{AllocError, Global};
+
+// The partition of a key, as `partition_of` of ks_hash gives it, for any number of partitions; 0 of none.
+fn part_for(key: &[u8], n: u8) -> u8
+    ensures { result ≡ part_in key.now n }
+{
+    if n == 0 {
+        0
+    } else {
+        ((murmur2(key) & 0x7fff_ffff) % n as u32) as u8
+    }
+}
+
+/// A record for the partition of its key, of so many partitions of a topic. Want of memory is the one error.
+pub fn send_to(
+    alloc: Global,
+    topic: u16,
+    partitions: u8,
+    key: &Key,
+    value: Blob,
+    time: u64,
+) -> Result<(PartId, Rec), AllocError>
+    ensures part { IfOk result (λ x. x.0 ≡ record
+        { topic = topic; part = part_in key.now partitions }) }
+    ensures rec { IfOk result (λ x. x.1 ≡ record
+        { key = Some key.now; value = Some value; ts = time }) }
+{
+    let bytes = key.as_str().as_bytes();
+    let part = PartId {
+        topic,
+        part: part_for(bytes, partitions),
+    };
+    Ok((
+        part,
+        Rec {
+            key: Some(Blob::from_slice(alloc, bytes)?),
+            value: Some(value),
+            ts: time,
+        },
+    ))
+}
+
+fn push_deltas(
+    alloc: Global,
+    out: &mut Vec<(PartId, Rec)>,
+    node: &ProcessorNode<'_>,
+    deltas: &[(Key, Delta)],
+    time: u64,
+) -> Result<(), AllocError>
+    ensures { OnOk result (out.new.items ≡ out.old.items
+        ++ map (sent_by (node_view node.now) time)
+        (send_deltas node.now.topics.number deltas.now)) }
+{
+    let topics = node.topics;
+    for (group, delta) in deltas {
+        let value = write_delta(alloc, delta)?;
+        out.push(send_to(
+            alloc,
+            topics.repartition,
+            topics.partitions,
+            group,
+            value,
+            time,
+        )?)?;
+    }
+    Ok(())
+}
+
+fn group_of(alloc: Global, by: &Option<Name>, item: &Item) -> Result<Option<Key>, AllocError>
+    ensures { IfOk result (λ k. k ≡ group_key by.now (item_view item.now)) }
+{
+    match by {
+        Some(by) => key_of_field(alloc, &item.row, by.as_str().as_bytes()),
+        None => copy_key(&item.key),
+    }
+}
+
+// An item goes to its group; one without a group goes nowhere.
+fn push_item(
+    alloc: Global,
+    out: &mut Vec<(PartId, Rec)>,
+    node: &ProcessorNode<'_>,
+    by: &Option<Name>,
+    item: &Item,
+    time: u64,
+) -> Result<(), AllocError>
+    ensures { OnOk result (out.new.items ≡ out.old.items
+        ++ map (sent_by (node_view node.now) time)
+        (regroup by.now node.now.topics.number (Some (item_view item.now)))) }
+{
+    let Some(group) = group_of(alloc, by, item)? else {
+        return Ok(());
+    };
+    let topics = node.topics;
+    let value = encode(alloc, &item.row)?;
+    out.push(send_to(
+        alloc,
+        topics.repartition,
+        topics.partitions,
+        &group,
+        value,
+        time,
+    )?)?;
+    Ok(())
+}
+
+// Any key: what a table sends to its groups is told by the rows alone.
+fn any_key(alloc: Global) -> Result<Key, AllocError> {
+    match Key::of_text(alloc, "-")? {
+        Some(key) => Ok(key),
+        None => Err(AllocError),
+    }
+}
+
+fn push_row_change(
+    alloc: Global,
+    out: &mut Vec<(PartId, Rec)>,
+    node: &ProcessorNode<'_>,
+    by: &Name,
+    field: Option<&Name>,
+    change: &Change,
+    time: u64,
+) -> Result<(), AllocError>
+    ensures { OnOk result (out.new.items ≡ out.old.items
+        ++ map (sent_by (node_view node.now) time)
+        (regroup_rows by.now (option_copied field.entry) node.now.topics.number change.now.old
+        change.now.new)) }
+{
+    let deltas = table_parts(alloc, by, field, change)?;
+    push_deltas(alloc, out, node, &deltas, time)
+}
+
+// A table's row leaves its old group and joins the new one; a row that stays is not looked at.
+fn push_table_change(
+    alloc: Global,
+    out: &mut Vec<(PartId, Rec)>,
+    node: &ProcessorNode<'_>,
+    from: u8,
+    by: &Name,
+    field: Option<&Name>,
+    values: &NodeValues<'_, '_>,
+    time: u64,
+) -> Result<(), AllocError>
+    ensures { OnOk result (out.new.items ≡ out.old.items
+        ++ map (sent_by (node_view node.now) time)
+        (regroup_rows by.now (option_copied field.entry) node.now.topics.number
+        (row_in (olds_in values.now) from) (row_in (news_in values.now) from))) }
+{
+    let is_other = is_changed(alloc, values, from)?;
+    if is_other {
+        let change = change_at(alloc, values, any_key(alloc)?, from)?;
+        push_row_change(alloc, out, node, by, field, &change, time)
+    } else {
+        Ok(())
+    }
+}
+
+// What a node sends.
+fn push_sends<H: Hash128>(
+    alloc: Global,
+    out: &mut Vec<(PartId, Rec)>,
+    step: &Step<'_>,
+    node: &ProcessorNode<'_>,
+    values: &NodeValues<'_, '_>,
+) -> Result<(), AllocError>
+    ensures { OnOk result (out.new.items ≡ out.old.items
+        ++ sends_by (rules_of H.hash_of) (map node_view step.now.nodes.now)
+        (stores_in step.now.changelogs.now) (arrival_of step.now.stamped.now) (items_in values.now)
+        (olds_in values.now) (news_in values.now) (node_view node.now)) }
+{
+    let time = step.stamped.time;
+    match &node.processor {
+        Processor::StreamAggregate {
+            from,
+            by,
+            through: true,
+            ..
+        } => match item_at(values.items, *from) {
+            Some(item) => push_item(alloc, out, node, by, item, time),
+            None => Ok(()),
+        },
+        Processor::WindowedCount {
+            from,
+            by,
+            through: true,
+            ..
+        } => match item_at(values.items, *from) {
+            Some(item) => push_item(alloc, out, node, by, item, time),
+            None => Ok(()),
+        },
+        Processor::TableAggregate { from, by, field } => {
+            push_table_change(alloc, out, node, *from, by, *field, values, time)
+        }
+        Processor::ForeignKeyJoin(join) => {
+            push_join::<H>(alloc, out, step, node, join, values)?;
+            push_answer(alloc, out, step, node, join.right)
+        }
+        _ => Ok(()),
+    }
+}
+
+/// What all nodes send in a step. Want of memory is the one error.
+pub fn sends_of<H: Hash128>(
+    alloc: Global,
+    step: &Step<'_>,
+    values: &NodeValues<'_, '_>,
+) -> Result<Vec<(PartId, Rec)>, AllocError>
+    ensures { IfOk result (λ v. v.items ≡ all_sends (rules_of H.hash_of)
+        (map node_view step.now.nodes.now) (stores_in step.now.changelogs.now)
+        (arrival_of step.now.stamped.now) (items_in values.now) (olds_in values.now)
+        (news_in values.now) (map node_view step.now.nodes.now)) }
+{
+    let mut out = Vec::new(alloc);
+    for node in step.nodes {
+        push_sends::<H>(alloc, &mut out, step, node, values)?;
+    }
+    Ok(out)
+}

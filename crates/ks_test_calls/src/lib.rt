@@ -1,0 +1,14 @@
+//! Tests over the lower layers, of what no run of the program shows: hashes, the bytes of rows, the layout of topologies. The crate has
+//! nothing else.
+#![tactic(auto)]
+
+#[cfg(test)]
+mod calls;
+#[cfg(test)]
+mod hashes;
+#[cfg(test)]
+mod rows;
+#[cfg(test)]
+mod topologies;
+#[cfg(test)]
+mod wires;
