@@ -17,7 +17,6 @@ use ks_log::{Batch, Log};
 use ks_row::{Assignment, PartId, Rec, Refused, Seq, TaskId};
 use ks_txn::Txns;
 use std::alloc::{AllocError, Global};
-use std::thread::Threads;
 
 /// All that a cluster knows but its journal.
 #[derive(Drop)]
@@ -30,17 +29,6 @@ pub struct Broker {
 }
 
 impl Broker {
-    /// Lets a broker go, the partitions of its log side by side in threads.
-    pub fn let_go<R: Threads + Sync>(self, rt: &R) {
-        let Broker {
-            log,
-            txns: _,
-            group: _,
-            parked: _,
-        } = self;
-        log.let_go(rt);
-    }
-
     /// An empty broker of this work and these tasks.
     pub fn new<W: Work>(alloc: Global, work: &W, tasks: &[TaskId]) -> Result<Broker, AllocError>
         ensures { IfOk result (λ b. IsNew (W.plan work.now) tasks.now b) }

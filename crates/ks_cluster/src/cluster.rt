@@ -23,7 +23,7 @@ use ks_log::{copies, copy, ends_in};
 use ks_row::{Assignment, PartId, Rec, Refused, Seq, TaskId};
 use std::alloc::{AllocError, Global};
 use std::marker::Model;
-use std::thread::Threads;
+use std::mem;
 
 /// A cluster in memory: its partitions, producers, group and committed offsets, and the journal of all requests that
 /// write. The journal is a history at all times, and all else is where the journal leaves it.
@@ -488,8 +488,9 @@ impl<W: Work> Cluster<W> {
         Seq::of(journal)
     }
 
-    /// The journal alone, as `into_journal` gives it; the log is let go by several threads.
-    pub fn into_journal_wide<R: Threads + Sync>(self, rt: &R) -> Journal
+    /// The journal alone, as `into_journal` gives it, where the process is about to end: all else of the cluster is forgotten, and its
+    /// memory is taken until then.
+    pub fn into_last_journal(self) -> Journal
         ensures entries { result ≡ self.journal }
         ensures history { IsHistory (setup_of W.plan self) self.journal }
         ensures placed { ArePlaced (W.good self.work) (setup_of W.plan self) self.journal }
@@ -501,7 +502,7 @@ impl<W: Work> Cluster<W> {
             broker,
             journal,
         } = self;
-        broker.let_go(rt);
+        mem::forget(broker);
         Seq::of(journal)
     }
 

@@ -27,7 +27,7 @@ pub fn with_next_number(
 ) -> Result<Vec<(PartId, u64)>, AllocError>
     ensures { IfOk result (λ made. made.items ≡ renumber part number numbers.now) }
 {
-    let mut made = Vec::new(alloc);
+    let mut made = Vec::with_capacity(alloc, numbers.len().saturating_add(1))?;
     made.push((part, number))?;
     for pair in numbers {
         if !part.is(pair.0) {

@@ -1,13 +1,13 @@
 //! The left side of a foreign-key join: what a changed row asks of the right side, and what an answer sets (KIP-213).
 #![tactic(auto)]
 
-ghost use Rattle.std.specs.Prelude.{◌≡◌, ◌≤◌, ◌++◌, Some, None, IfOk, OnOk, option_copied, option_map, is_none};
+ghost use Rattle.std.specs.Prelude.{◌≡◌, ◌≤◌, ◌++◌, Some, None, IfOk, OnOk, option_copied, option_map, is_none, nat_eq};
 ghost use Rattle.ks_row.specs.Spelling.{spelling};
 ghost use Rattle.ks_row.specs.FieldKeys.{field_key};
 ghost use Rattle.ks_expr.specs.Terms.{set_of};
 ghost use Rattle.ks_expr.specs.Eval.{same_bytes, joined};
 ghost use Rattle.ks_def_tasks.specs.Messages.{same_option};
-ghost use Rattle.ks_def_tasks.specs.Foreign.{subscriptions, is_direct, key_of_row, respond as responded, is_present, hash_of};
+ghost use Rattle.ks_def_tasks.specs.Foreign.{subscriptions, is_direct, key_of_row, respond as responded, hash_of};
 ghost use Rattle.ks_fk_left.specs.Asked.{row_hash, told, asked, set_by};
 
 use ks_expr::{JoinKind, Proj};
@@ -33,8 +33,8 @@ pub enum Answer {
     Set(Option<Row>),
 }
 
-/// The hash of a row's bytes.
-fn hash_row<H: Hash128>(alloc: Global, row: &Row) -> Result<u128, AllocError>
+/// The hash of a row's bytes. Want of memory is the one error.
+pub fn hash_row<H: Hash128>(alloc: Global, row: &Row) -> Result<u128, AllocError>
     ensures { IfOk result (λ h. h ≡ row_hash H.hash_of row.now) }
 {
     let bytes = encode(alloc, row)?;
@@ -78,6 +78,16 @@ fn push_asked(
     Ok(())
 }
 
+// The hash of a row, where there is one.
+fn hash_of_row<H: Hash128>(alloc: Global, row: Option<&Row>) -> Result<Option<u128>, AllocError>
+    ensures { IfOk result (λ h. h ≡ hash_of (row_hash H.hash_of) (option_copied row.entry)) }
+{
+    match row {
+        Some(row) => Ok(Some(hash_row::<H>(alloc, row)?)),
+        None => Ok(None),
+    }
+}
+
 /// What a changed left row asks of the right side, by foreign key, the old one first; and whether the result is set at once,
 /// since no answer will come: where the new row has no foreign key, or the deleted one had none.
 pub fn subscriptions<H: Hash128>(
@@ -90,6 +100,23 @@ pub fn subscriptions<H: Hash128>(
         change.now.new)) }
     ensures direct { IfOk result (λ r. r.1 ≡ is_direct fk.now change.now.old change.now.new) }
 {
+    let hash = hash_of_row::<H>(alloc, change.new.as_ref())?;
+    subscriptions_by::<H>(alloc, fk, change, hash)
+}
+
+/// The same, by the hash of the new row, where there is one.
+pub fn subscriptions_by<H: Hash128>(
+    alloc: Global,
+    fk: &Name,
+    change: &Change,
+    hash: Option<u128>,
+) -> Result<(Vec<(Key, Subscription)>, bool), AllocError>
+    requires { hash ≡ hash_of (row_hash H.hash_of) change.now.new }
+    ensures asked { IfOk result (λ r. r.0.items
+        ≡ told change.now.key (subscriptions (row_hash H.hash_of) fk.now change.now.old
+        change.now.new)) }
+    ensures direct { IfOk result (λ r. r.1 ≡ is_direct fk.now change.now.old change.now.new) }
+{
     let before = foreign_key(alloc, fk, change.old.as_ref())?;
     let mut out = Vec::new(alloc);
     let Some(row) = &change.new else {
@@ -97,29 +124,23 @@ pub fn subscriptions<H: Hash128>(
         push_asked(&mut out, before, None, DELETE_AND_ANSWER, &change.key)?;
         return Ok((out, direct));
     };
-    let hash = hash_row::<H>(alloc, row)?;
     let now = foreign_key(alloc, fk, Some(row))?;
     let direct = now.is_none();
     if !is_same_key(&before, &now) {
-        push_asked(&mut out, before, Some(hash), DELETE, &change.key)?;
+        push_asked(&mut out, before, hash, DELETE, &change.key)?;
     }
-    push_asked(&mut out, now, Some(hash), ANSWER, &change.key)?;
+    push_asked(&mut out, now, hash, ANSWER, &change.key)?;
     Ok((out, direct))
 }
 
-/// Whether a response answers the present left row: their hashes are equal, or both are absent.
-fn is_answer<H: Hash128>(
-    alloc: Global,
-    left: Option<&Row>,
-    response: &Response,
-) -> Result<bool, AllocError>
-    ensures { IfOk result (λ b. b ≡ is_present (row_hash H.hash_of) (option_copied left.entry)
-        response.now) }
+/// Whether a response answers a left row of this hash, none where there is no row: their hashes are equal, or both are absent.
+pub fn is_answer_to(hash: Option<u128>, response: &Response) -> bool
+    ensures { result ≡ same_option nat_eq hash response.now.hash }
 {
-    match (left, response.hash) {
-        (None, None) => Ok(true),
-        (Some(row), Some(hash)) => Ok(hash_row::<H>(alloc, row)? == hash),
-        _ => Ok(false),
+    match (hash, response.hash) {
+        (None, None) => true,
+        (Some(own), Some(told)) => own == told,
+        _ => false,
     }
 }
 
@@ -134,7 +155,7 @@ pub fn respond<H: Hash128>(
     ensures { IfOk result (λ a. set_by a ≡ responded (row_hash H.hash_of) kind (set_of set.now)
         (option_copied left.entry) response.now) }
 {
-    if is_answer::<H>(alloc, left, response)? {
+    if is_answer_to(hash_of_row::<H>(alloc, left)?, response) {
         Ok(Answer::Set(join_rows(alloc, kind, set, left, response.right.as_ref())?))
     } else {
         Ok(Answer::Stale)

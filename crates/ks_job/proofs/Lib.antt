@@ -4,3 +4,4 @@ pub mod Ends
 pub mod Joined
 pub mod Fronts
 pub mod Crossed
+pub mod PlainLine

@@ -1,5 +1,6 @@
 pub mod Items
 pub mod Lines
+pub mod Plain
 pub mod Reader
 pub mod Cut
 pub mod ByLines

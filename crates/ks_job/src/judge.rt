@@ -1,12 +1,13 @@
 //! One line, judged.
-ghost use Rattle.std.specs.Prelude.{◌≡◌, ◌≤◌, ◌<◌, ◌+◌, IfOk, option_map, length};
+ghost use Rattle.std.specs.Prelude.{◌≡◌, ◌≤◌, ◌<◌, ◌+◌, IfOk, IfSome, option_map, length};
 ghost use Rattle.serde_json.specs.View.{view};
 ghost use Rattle.ks_job_record.specs.Gives.{Gives};
 ghost use Rattle.ks_job.specs.Items.{item_view};
+ghost use Rattle.ks_job.specs.Plain.{input_line, SaysAt};
 ghost use Rattle.ks_job.specs.Lines.{spot, parsed, is_blank_byte, is_blank as blank, passes, too_long as length_fault, topology_line, record_line, value_line, data_line, judged};
 
 use crate::place::Place;
-use ks_job_record::{JobKind, LineError, read_input, too_many};
+use ks_job_record::{Input, JobKind, LineError, read_input, read_plain, too_many};
 use ks_job_topology::{copy_names, read_topology};
 use ks_plan::Draft;
 use ks_row::{Name, Rec, Seq};
@@ -112,6 +113,35 @@ fn judge_topology(
     ))
 }
 
+// The place behind a record's line, and the record, where a job has room for it.
+fn take_input(
+    alloc: Global,
+    place: Place,
+    size: u64,
+    input: Input,
+) -> Result<(Place, Option<JobItem>), LineError>
+    requires some { 0 < size }
+    requires room { place.start + size ≤ 67108864 }
+    ensures { Gives (λ x. (spot x.0, option_map item_view x.1)) result
+        (input_line (spot place) size input) }
+{
+    if place.records < MOST_RECORDS {
+        let next = Place {
+            line: place.line + 1,
+            start: place.start + size,
+            topics: place.topics,
+            records: place.records + 1,
+        };
+        let item = JobItem::Input {
+            topic: input.topic,
+            rec: input.rec,
+        };
+        Ok((next, Some(item)))
+    } else {
+        Err(LineError::Fault(too_many(alloc, "records", MOST_RECORDS)?))
+    }
+}
+
 #[tactic(auto, unfolding(crate::specs::Lines::record_line))]
 fn judge_record(
     alloc: Global,
@@ -134,21 +164,13 @@ fn judge_record(
         }) size topics (view value.now)) }
 {
     let input = read_input(alloc, topics.as_slice(), value)?;
-    if records < MOST_RECORDS {
-        let next = Place {
-            line: line + 1,
-            start: start + size,
-            topics: Some(topics),
-            records: records + 1,
-        };
-        let item = JobItem::Input {
-            topic: input.topic,
-            rec: input.rec,
-        };
-        Ok((next, Some(item)))
-    } else {
-        Err(LineError::Fault(too_many(alloc, "records", MOST_RECORDS)?))
-    }
+    let place = Place {
+        line,
+        start,
+        topics: Some(topics),
+        records,
+    };
+    take_input(alloc, place, size, input)
 }
 
 fn judge_value(
@@ -184,6 +206,16 @@ fn judge_value(
     }
 }
 
+// The record of a plain line, once the topics are known.
+fn read_plain_at(alloc: Global, place: &Place, line: &[u8]) -> Result<Option<Input>, AllocError>
+    ensures { IfOk result (λ o. IfSome o (λ i. SaysAt (spot place.now) line.now i)) }
+{
+    match &place.topics {
+        Some(topics) => read_plain(alloc, topics.as_slice(), line),
+        None => Ok(None),
+    }
+}
+
 #[tactic(auto, unfolding(crate::specs::Lines::data_line))]
 fn judge_data(
     alloc: Global,
@@ -196,6 +228,9 @@ fn judge_data(
     ensures { Gives (λ x. (spot x.0, option_map item_view x.1)) result
         (data_line (spot place) size line.now) }
 {
+    if let Some(input) = read_plain_at(alloc, &place, line)? {
+        return take_input(alloc, place, size, input);
+    }
     match parse_line(alloc, line)? {
         Some(value) => judge_value(alloc, place, size, &value),
         None => Err(LineError::Fault(JobKind::NotJson)),

@@ -2,4 +2,8 @@ pub mod Gives
 pub mod Members
 pub mod Record
 pub mod Texts
+pub mod Plain
+pub mod PlainRows
+pub mod PlainLines
+pub mod Says
 pub mod Ordered

@@ -35,8 +35,8 @@ fn find_topic(topic: &str, topics: &[Name]) -> Option<usize>
     None
 }
 
-// The number of a topic, which is its place.
-fn topic_number(topic: &str, topics: &[Name]) -> Option<u16>
+/// The number of a topic, which is its place.
+pub fn topic_number(topic: &str, topics: &[Name]) -> Option<u16>
     ensures { result ≡ number_of topic.now topics.now }
 {
     let place = find_topic(topic, topics)?;

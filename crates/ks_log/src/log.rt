@@ -12,8 +12,6 @@ use ks_history::Slot;
 use ks_row::{PartId, Rec};
 use std::alloc::{AllocError, Global};
 use std::marker::Model;
-use std::thread;
-use std::thread::Threads;
 
 /// A log has fewer slots than this.
 const LIMIT: usize = 281_474_976_710_656;
@@ -124,17 +122,6 @@ impl Log {
             empty: Part::new(alloc),
             count: 0,
         }
-    }
-
-    /// Lets a log go, its partitions side by side in threads.
-    pub fn let_go<R: Threads + Sync>(self, rt: &R) {
-        let Log {
-            parts,
-            seats: _,
-            empty: _,
-            count: _,
-        } = self;
-        drop(thread::map_vec(rt, parts, &|written: Written| drop(written)));
     }
 
     /// Where a partition stands, or how many there are.

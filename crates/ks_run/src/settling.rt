@@ -37,7 +37,7 @@ use ks_task::{TaskWork, topology_fits};
 use ks_topo::{Topology, share_topology};
 use std::alloc::{AllocError, Global};
 use std::sync::Wait;
-use std::thread::{Threads, join};
+use std::thread::Threads;
 
 // Appends the lines of a journal, where they are asked for.
 fn push_lines(text: &mut Vec<u8>, entries: &[Entry], shown: bool) -> Result<(), AllocError>
@@ -49,8 +49,8 @@ fn push_lines(text: &mut Vec<u8>, entries: &[Entry], shown: bool) -> Result<(), 
     Ok(())
 }
 
-// The answer of a run that came to this: its text and its journal are made side by side, and the journal's lines come last.
-fn end_run<R: Threads + Sync, W: Work + Send>(
+// The answer of a run that came to this: the text of its verdict, and then the journal's lines.
+fn end_run<R: Threads + Sync, W: Work>(
     rt: &R,
     alloc: Global,
     cluster: Cluster<W>,
@@ -64,12 +64,8 @@ fn end_run<R: Threads + Sync, W: Work + Send>(
     ensures few { records_in (setup_of W.plan cluster) cluster.journal < 2 ^ 48 }
 {
     let status = verdict.status();
-    let (text, journal) = join(
-        rt,
-        move || print_verdict(rt, alloc, verdict),
-        move || cluster.into_journal_wide(rt),
-    );
-    let mut text = text?;
+    let mut text = print_verdict(rt, alloc, verdict)?;
+    let journal = cluster.into_last_journal();
     push_lines(&mut text, journal.as_slice(), shown)?;
     Ok(Answer {
         status,
@@ -84,19 +80,14 @@ fn hashes_fit<H: Hash128>()
 {}
 
 // The answer of a run that was cut short, and wasn't drained.
-fn end_undrained<R: Threads + Sync, W: Work + Send>(
-    rt: &R,
-    cluster: Cluster<W>,
-    status: u8,
-    text: Vec<u8>,
-) -> Answer
+fn end_undrained<W: Work>(cluster: Cluster<W>, status: u8, text: Vec<u8>) -> Answer
     ensures made { (result.status ≡ status) × (result.text.items ≡ text.items) }
     ensures left { IsLeft W.plan W.good cluster result.journal }
 {
     Answer {
         status,
         text,
-        journal: cluster.into_journal_wide(rt),
+        journal: cluster.into_last_journal(),
     }
 }
 
@@ -142,11 +133,11 @@ fn end_by<H: Hash128 + Send + Sync, R: Threads + Sync, W: Work + Send + Sync>(
         JobEnd::Whole => end_settled::<H, R, W>(rt, alloc, topology, cluster, shown),
         JobEnd::Stopped(stop) => {
             let text = print_bad_job(alloc, &stop)?;
-            Ok(end_undrained(rt, cluster, BAD_JOB, text))
+            Ok(end_undrained(cluster, BAD_JOB, text))
         }
         JobEnd::Failed => {
             let text = print_read_fault(alloc)?;
-            Ok(end_undrained(rt, cluster, READ_FAULT, text))
+            Ok(end_undrained(cluster, READ_FAULT, text))
         }
     }
 }

@@ -85,7 +85,7 @@ pub fn print_verdict<R: Threads + Sync>(
 }
 
 /// What a settled cluster of a topology has come to. Want of memory is the one error.
-pub fn judge<H: Hash128, R: Threads + Sync, W: Work + Sync>(
+pub fn judge<H: Hash128 + Sync, R: Threads + Sync, W: Work + Sync>(
     rt: &R,
     alloc: Global,
     topology: &Topology,
@@ -101,7 +101,7 @@ pub fn judge<H: Hash128, R: Threads + Sync, W: Work + Sync>(
         late,
         collision,
         ..
-    } = report::<H, W>(alloc, cluster, topology)?;
+    } = report::<H, R, W>(rt, alloc, cluster, topology)?;
     if let Some(collision) = collision {
         return Ok(Verdict::Collided { collision });
     }

@@ -42,8 +42,8 @@ has_place (n ∷ ns) zero lt = or_left (n == n) (has_topic n ns) (eq-eqb n n ref
 has_place (n ∷ ns) (suc i) lt = or_right (slice_index ns i == n) (has_topic (slice_index ns i) ns) (has_place ns i (omega (arith, lt)))
 
 -- a fetch goes on no further than the stable offset
-moves_on : (from : ℕ) (slots : List Slot) → from ≤ stable slots → (from ≤ read_next from 32 slots) × (read_next from 32 slots ≤ stable slots)
-moves_on from slots low = let f = fetched_is from 32 slots low (omega arith) in (omega (arith, f.later, f.moved), f.stable)
+moves_on : (from : ℕ) (slots : List Slot) → from ≤ stable slots → (from ≤ read_next from 4096 slots) × (read_next from 4096 slots ≤ stable slots)
+moves_on from slots low = let f = fetched_is from 4096 slots low (omega arith) in (omega (arith, f.later, f.moved), f.stable)
 
 -- what stands between two fetches of a changelog
 pub record Feeding (setup : Setup) (journal : List Entry) (topic : ℕ) (moved : Bool) (old now : Replica) : Type 0 where
@@ -59,7 +59,7 @@ module _ {W : Type 0} (plan : W → TaskPlan) (c : ClusterView W) (quiet : IsQui
   all_stable t topic = is_stable setup c.journal quiet.may.network history quiet.idle (part_of topic t)
 
   module _ (topic : ℕ) (r : Replica) (own : has_topic topic (setup.plan.changelogs r.id.sub) ≡ true) (of : IsReplicaOf setup c.journal r.id r) where
-    pub may_feed : (id : TaskId) (from : ℕ) → id ≡ r.id → from ≡ (replica_view r).position topic → MayFetch setup (state_of plan c) (part_of topic id) from 32
+    pub may_feed : (id : TaskId) (from : ℕ) → id ≡ r.id → from ≡ (replica_view r).position topic → MayFetch setup (state_of plan c) (part_of topic id) from 4096
     may_feed id from is at = record {
       part = subst (λ (u : TaskId). IsPart setup (part_of topic u)) (sym is) (quiet.may.made.changelogs r.id topic of.known own);
       within = subst (λ (u : TaskId). from ≤ length ((state_of plan c).partition (part_of topic u))) (sym is) (omega (arith, at, of.within topic));
@@ -67,20 +67,20 @@ module _ {W : Type 0} (plan : W → TaskPlan) (c : ClusterView W) (quiet : IsQui
     }
 
     -- a fetch that doesn't move it
-    pub stays : (id : TaskId) (from next : ℕ) → id ≡ r.id → from ≡ (replica_view r).position topic → next ≡ (fetched (state_of plan c) (part_of topic id) from 32).1 → next ≡ from → IsFedOn setup c.journal r.id topic false r r
+    pub stays : (id : TaskId) (from next : ℕ) → id ≡ r.id → from ≡ (replica_view r).position topic → next ≡ (fetched (state_of plan c) (part_of topic id) from 4096).1 → next ≡ from → IsFedOn setup c.journal r.id topic false r r
     stays id from next is at n same = record {
       fed = record { of = of; on = λ u. omega arith };
       ends = λ _.
           let slots = (state_of plan c).partition (part_of topic r.id) in
           let low : from ≤ stable slots = omega (arith, at, of.within topic, all_stable r.id topic) in
-          let f = fetched_is from 32 slots low (omega arith) in
-          let e : (fetched (state_of plan c) (part_of topic r.id) from 32).1 ≡ from = sym (n ∙ ap (λ (u : TaskId). (fetched (state_of plan c) (part_of topic u) from 32).1) is) ∙ same in
+          let f = fetched_is from 4096 slots low (omega arith) in
+          let e : (fetched (state_of plan c) (part_of topic r.id) from 4096).1 ≡ from = sym (n ∙ ap (λ (u : TaskId). (fetched (state_of plan c) (part_of topic u) from 4096).1) is) ∙ same in
           omega (arith, f.stops e, at, all_stable r.id topic);
       moves = λ no. absurd cc;
     }
 
     -- one that does
-    pub goes_on : (id : TaskId) (from next : ℕ) (recs : List (ℕ × Rec)) (new : Replica) → id ≡ r.id → from ≡ (replica_view r).position topic → recs ≡ (fetched (state_of plan c) (part_of topic id) from 32).0 → next ≡ (fetched (state_of plan c) (part_of topic id) from 32).1 → next ≢ from →
+    pub goes_on : (id : TaskId) (from next : ℕ) (recs : List (ℕ × Rec)) (new : Replica) → id ≡ r.id → from ≡ (replica_view r).position topic → recs ≡ (fetched (state_of plan c) (part_of topic id) from 4096).0 → next ≡ (fetched (state_of plan c) (part_of topic id) from 4096).1 → next ≢ from →
         replica_view new ≡ fed_replica (replica_view r) topic recs next → changelogs_of new ≡ changelogs_of r → (GivesFetched setup c.journal (replica_view r) topic recs next → FollowsOn setup c.journal (replica_view r) (replica_view new)) → IsFedOn setup c.journal r.id topic true r new
     goes_on id from next recs new is at got n ne view same follows = record {
       fed = record {
@@ -97,17 +97,17 @@ module _ {W : Type 0} (plan : W → TaskPlan) (c : ClusterView W) (quiet : IsQui
       moves = λ _. subst (λ (p : ℕ → ℕ). (replica_view r).position topic + 1 ≤ p topic) (sym positions) (moved (topic == topic) refl);
     }
       where
-        from_there : (recs, next) ≡ fetched (state_of plan c) (part_of topic r.id) ((replica_view r).position topic) 32
+        from_there : (recs, next) ≡ fetched (state_of plan c) (part_of topic r.id) ((replica_view r).position topic) 4096
         from_there =
-            ap₂ (λ (l : List (ℕ × Rec)) (k : ℕ). (l, k)) got n ∙ ap (λ (u : TaskId). fetched (state_of plan c) (part_of topic u) from 32) is ∙ ap (λ k. fetched (state_of plan c) (part_of topic r.id) k 32) at
+            ap₂ (λ (l : List (ℕ × Rec)) (k : ℕ). (l, k)) got n ∙ ap (λ (u : TaskId). fetched (state_of plan c) (part_of topic u) from 4096) is ∙ ap (λ k. fetched (state_of plan c) (part_of topic r.id) k 4096) at
 
         gives : GivesFetched setup c.journal (replica_view r) topic recs next
-        gives = record { limit = 32; some = omega arith; changelog = own; gives = from_there }
+        gives = record { limit = 4096; some = omega arith; changelog = own; gives = from_there }
 
         positions : (replica_view new).position ≡ with_number (replica_view r).position topic next
         positions = ap (λ (v : ReplicaView). v.position) view
 
-        here : next ≡ (fetched (state_of plan c) (part_of topic r.id) ((replica_view r).position topic) 32).1
+        here : next ≡ (fetched (state_of plan c) (part_of topic r.id) ((replica_view r).position topic) 4096).1
         here = ap (λ (g : List (ℕ × Rec) × ℕ). g.1) from_there
 
         step : ((replica_view r).position topic ≤ next) × (next ≤ end_of (state_of plan c) (part_of topic r.id))

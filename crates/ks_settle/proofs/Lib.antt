@@ -1,4 +1,3 @@
-pub mod Firsts
 pub mod Fetching
 pub mod Taking
 pub mod Topics
@@ -11,4 +10,5 @@ pub mod Ordering
 pub mod Idling
 pub mod Feeding
 pub mod Starting
+pub mod Putting
 pub mod Members

@@ -1,5 +1,5 @@
 -- A task that takes the records of a fetch, and passes over what comes after them.
-use Rattle.std.proofs.Common.{◌≡◌, ℕ, ◌+◌, ◌<◌, ◌≤◌, ◌-◌, Bool, true, false, cond, take, get_or, List, [], ◌∷◌, ◌++◌, length, refl, sym, ap, subst, ◌∙◌, arith, append-nil}
+use Rattle.std.proofs.Common.{◌≡◌, ℕ, ◌+◌, ◌<◌, ◌≤◌, ◌-◌, Bool, true, false, cond, List, [], ◌∷◌, ◌++◌, length, refl, sym, ap, subst, ◌∙◌, arith, append-nil}
 use Rattle.std.specs.Prelude.{◌==◌}
 use Rattle.std.proofs.lemmas.Bool.Decides.{Decides-eqb}
 use Rattle.ks_row.specs.declared.record.Rec.{Rec}
@@ -23,7 +23,6 @@ use Rattle.ks_settle.specs.Reading.{SendsOn, HasRead}
 use Rattle.ks_settle.specs.Drained.{MayDrain, IsReader, IsFetched, IsReadOn}
 use Rattle.ks_commit.specs.Alone.{IsIdle}
 use Rattle.ks_commit.proofs.Slots.{is_stable}
-use Rattle.ks_settle.proofs.Firsts.{take_one}
 use Rattle.ks_settle.proofs.Fetching.{Fetched, fetched_is}
 
 here : {A : Type 0} (f : ℕ → A) (k : ℕ) (x : A) → with_number f k x k ≡ x
@@ -150,15 +149,6 @@ taken_task plan topic v (r ∷ rs) = taken_task plan topic (take_view plan v top
 
 pub still_input : (numbers : ℕ → List ℕ) (plan : TaskPlan) (topic : ℕ) (v w : TaskView) (recs : List (ℕ × Rec)) → w ≡ take_all plan v topic recs → has_topic topic (numbers v.task.sub) ≡ true → has_topic topic (numbers w.task.sub) ≡ true
 still_input numbers plan topic v w recs is h = ap (λ (t : TaskId). has_topic topic (numbers t.sub)) (ap (λ (x : TaskView). x.task) is ∙ taken_task plan topic v recs) ∙ h
-
-take_all-push : (plan : TaskPlan) (topic : ℕ) (v : TaskView) (recs : List (ℕ × Rec)) (r : ℕ × Rec) → take_all plan v topic (recs ++ r ∷ []) ≡ take_view plan (take_all plan v topic recs) topic r.0 r.1
-take_all-push plan topic v [] r = refl
-take_all-push plan topic v (x ∷ recs) r = take_all-push plan topic (take_view plan v topic x.0 x.1) recs r
-
-pub one_record_more : (plan : TaskPlan) (topic : ℕ) (v now new : TaskView) (recs : List (ℕ × Rec)) (i : ℕ) (r : ℕ × Rec) → i < length recs → r ≡ get_or recs i r → now ≡ take_all plan v topic (take i recs) →
-    new ≡ take_view plan now topic r.0 r.1 → new ≡ take_all plan v topic (take (i + 1) recs)
-one_record_more plan topic v now new recs i r h there was is =
-    is ∙ ap (λ w. take_view plan w topic r.0 r.1) was ∙ sym (take_all-push plan topic v (take i recs) r) ∙ ap (take_all plan v topic) (sym (take_one recs i r h there))
 
 -- ---- a fetch may be made
 pub may_fetch : (d : DraftView) (setup : Setup) (journal : List Entry) (topic : ℕ) (t : Task) (id : TaskId) (from : ℕ) → IsSetup setup → IsReader d setup journal topic t → id ≡ (task_view t).task → from ≡ (task_view t).inputs topic →

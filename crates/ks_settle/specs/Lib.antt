@@ -2,3 +2,4 @@ pub mod Drained
 pub mod Fetches
 pub mod Reading
 pub mod Restoring
+pub mod Restored

@@ -162,7 +162,8 @@ struct TaskManager {
 
 impl TaskManager {
     // Whatever workers the cluster had are removed; then one of its own has every task, and each is restored.
-    fn start<W: Work>(
+    fn start<R: Threads + Sync, W: Work + Sync>(
+        rt: &R,
         alloc: Global,
         topology: &Topology,
         cluster: &mut Cluster<W>,
@@ -179,7 +180,7 @@ impl TaskManager {
         remove_workers(alloc, cluster)?;
         write_all_markers(alloc, cluster)?;
         let publisher = Publisher::start(alloc, cluster, WORKER, topology.tasks())?;
-        let tasks = restore_tasks(alloc, topology, cluster, &publisher)?;
+        let tasks = restore_tasks(rt, alloc, topology, cluster, &publisher)?;
         Ok(TaskManager { tasks, publisher })
     }
 
@@ -293,7 +294,7 @@ pub fn drain<H: Hash128 + Sync, R: Threads + Sync, W: Work + Sync>(
         cluster.old cluster.new }
 {
     let _nodes = topology.nodes();
-    let mut manager = TaskManager::start(alloc, topology, cluster)?;
+    let mut manager = TaskManager::start(rt, alloc, topology, cluster)?;
     manager.drain_all::<H, R, W>(rt, alloc, topology, cluster)?;
     let_go(rt, manager.tasks);
     Ok(())

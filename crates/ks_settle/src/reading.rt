@@ -15,12 +15,9 @@ use ks_cluster::{Cluster, Work};
 use ks_commit::Frozen;
 use ks_hash::Hash128;
 use ks_row::{PartId, Rec};
-use ks_task::Task;
+use ks_task::{MOST_FETCHED, Task};
 use ks_topo::Topology;
 use std::alloc::{AllocError, Global};
-
-// The most records of one fetch.
-pub const MOST_FETCHED: u32 = 32;
 
 // Whether the topic is one of these numbers.
 fn has_number(numbers: &[u16], topic: u16) -> bool
@@ -52,11 +49,7 @@ fn take_fetched<H: Hash128>(
         ≡ take_all (work_of (rules_of H.hash_of) (plan_in topology.now)) (task_view task.old) topic
         recs.now) }
 {
-    for i in 0..recs.len() {
-        let rec = &recs[i];
-        task.take::<H>(alloc, topology, topic, rec.0, &rec.1)?;
-    }
-    Ok(())
+    task.take_all::<H>(alloc, topology, topic, recs)
 }
 
 // One fetch from where the task stands; false where it doesn't move it, and then it stands at the end.

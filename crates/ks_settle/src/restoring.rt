@@ -1,5 +1,6 @@
 //! Tasks are restored: replicas are fed up to the ends of their changelogs, and made tasks at the committed offsets.
 ghost use Rattle.std.specs.Prelude.{◌≡◌, ℕ, true, length, IfOk, OnOk};
+ghost use Rattle.std.specs.List.{All};
 ghost use Rattle.ks_history.specs.Machine.{has_topic};
 ghost use Rattle.ks_history.specs.State.{has_task};
 ghost use Rattle.ks_topo.specs.Topologies.{draft_of, plan_in};
@@ -8,15 +9,27 @@ ghost use Rattle.ks_commit.specs.Committed.{IsReady};
 ghost use Rattle.ks_def_tasks.specs.Rules.{HaveParts};
 ghost use Rattle.ks_settle.specs.Drained.{MayDrain, HasTasksOf, Rests, AreRestored};
 ghost use Rattle.ks_settle.specs.Restoring.{IsQuiet, IsReplicaOf, IsFedOn, IsFedTo, HasReachedFirst};
+ghost use Rattle.ks_settle.specs.Restored.{MayRestore, IsRestoredAs, names_in, AreTried};
 
-use crate::reading::MOST_FETCHED;
 use ks_cluster::{Cluster, Work};
 use ks_commit::Publisher;
 use ks_row::{PartId, TaskId};
 use ks_standby::Replica;
-use ks_task::Task;
-use ks_topo::Topology;
+use ks_task::{MOST_FED, Task};
+use ks_topo::{Topology, share_topology};
 use std::alloc::{AllocError, Global};
+use std::thread;
+use std::thread::Threads;
+
+// The most threads that restore tasks side by side.
+const THREADS: usize = 64;
+
+// The name of a task, and what came of restoring it; want of memory until then.
+#[derive(Drop)]
+struct Restoration {
+    name: TaskId,
+    task: Result<Task, AllocError>,
+}
 
 // One fetch of a changelog from where the replica stands; false where it doesn't move it, and then it stands at the end.
 fn feed_on<W: Work>(
@@ -39,7 +52,7 @@ fn feed_on<W: Work>(
         part: replica.id().part,
     };
     let from = replica.position(changelog);
-    let (recs, next) = cluster.fetch(alloc, part, from, MOST_FETCHED)?;
+    let (recs, next) = cluster.fetch(alloc, part, from, MOST_FED)?;
     if next == from {
         return Ok(false);
     }
@@ -120,10 +133,65 @@ fn restore<W: Work>(
     }
 }
 
-/// Every task of the topology, restored by the worker that has them all: its stores are what the committed records of its changelogs
-/// leave, its positions the committed offsets. Kafka Streams: what a `StoreChangelogReader` does before a task runs. `AllocError`:
-/// memory ran out; the cluster is as it was.
-pub fn restore_tasks<W: Work>(
+// These tasks, none of which is restored yet.
+fn restorations_of(alloc: Global, names: &[TaskId]) -> Result<Vec<Restoration>, AllocError>
+    ensures { IfOk result (λ v. names_in v.items ≡ names.now) }
+{
+    let mut all = Vec::with_capacity(alloc, names.len())?;
+    for name in names {
+        all.push(Restoration {
+            name: *name,
+            task: Err(AllocError),
+        })?;
+    }
+    Ok(all)
+}
+
+// Restores one task.
+fn restore_own<W: Work>(
+    alloc: Global,
+    topology: &Topology,
+    cluster: &Cluster<W>,
+    publisher: &Publisher,
+    one: &mut Restoration,
+)
+    requires may { MayRestore W.plan (draft_of topology.now) cluster.now publisher.now }
+    requires there { has_task one.old.name cluster.now.tasks ≡ true }
+    ensures { IsRestoredAs (draft_of topology.now) (setup_of W.plan cluster.now)
+        cluster.now.journal one.old.name one.new }
+{
+    one.task = restore(alloc, topology, cluster, publisher, one.name);
+}
+
+// Restores all of the tasks, side by side.
+fn restore_each<R: Threads + Sync, W: Work + Sync>(
+    rt: &R,
+    alloc: Global,
+    topology: &Topology,
+    cluster: &Cluster<W>,
+    publisher: &Publisher,
+    all: &mut [Restoration],
+)
+    requires may { MayRestore W.plan (draft_of topology.now) cluster.now publisher.now }
+    requires there { All (λ x. has_task x.name cluster.now.tasks ≡ true) all.old }
+    ensures { AreTried (draft_of topology.now) (setup_of W.plan cluster.now)
+        cluster.now.journal all.old all.new }
+{
+    share_topology();
+    let one = |_: usize, it: &mut Restoration|
+        requires { MayRestore W.plan (draft_of topology.now) cluster.now publisher.now
+            × (has_task it.now.name cluster.now.tasks ≡ true) }
+        ensures { IsRestoredAs (draft_of topology.entry.now) (setup_of W.plan cluster.entry.now)
+            cluster.entry.now.journal it.entry.now.name it.exit.now }
+    { restore_own(alloc, topology, cluster, publisher, it) };
+    thread::for_each_mut(rt, all, THREADS, &one);
+}
+
+/// Every task of the topology, restored by the worker that has them all, side by side in at most 64 threads: its stores are what the
+/// committed records of its changelogs leave, its positions the committed offsets. Kafka Streams: what a `StoreChangelogReader` does
+/// before a task runs. `AllocError`: memory ran out; the cluster is as it was.
+pub fn restore_tasks<R: Threads + Sync, W: Work + Sync>(
+    rt: &R,
     alloc: Global,
     topology: &Topology,
     cluster: &Cluster<W>,
@@ -137,10 +205,12 @@ pub fn restore_tasks<W: Work>(
     ensures { IfOk result (λ v. AreRestored (draft_of topology.now) (setup_of W.plan cluster.now)
         cluster.now.journal cluster.now.tasks v.items) }
 {
-    let names = topology.tasks();
+    let mut all = restorations_of(alloc, topology.tasks())?;
+    let each = all.as_mut_slice();
+    restore_each(rt, alloc, topology, cluster, publisher, each);
     let mut tasks = Vec::new(alloc);
-    for i in 0..names.len() {
-        tasks.push(restore(alloc, topology, cluster, publisher, names[i])?)?;
+    for one in all {
+        tasks.push(one.task?)?;
     }
     Ok(tasks)
 }

@@ -15,6 +15,7 @@ use ks_row::Name;
 use ks_settle_tables::rows::form_of;
 use ks_topo::{Node, Topology, Wiring};
 use std::alloc::{AllocError, Global};
+use std::thread::Threads;
 
 /// Two records that collide in the changelog of the left side of a join on a foreign key.
 #[derive(Drop)]
@@ -44,7 +45,8 @@ fn node_at<'a>(topology: &'a Topology, place: usize) -> &'a Node
 }
 
 // The first collision in the changelog of a node.
-fn first_in_changelog<H: Hash128, W: Work>(
+fn first_in_changelog<H: Hash128 + Sync, R: Threads + Sync, W: Work + Sync>(
+    rt: &R,
     alloc: Global,
     cluster: &Cluster<W>,
     topology: &Topology,
@@ -61,11 +63,12 @@ fn first_in_changelog<H: Hash128, W: Work>(
     let Some(topic) = node.store else {
         unreachable!();
     };
-    first_in_parts::<H, W>(alloc, cluster, form_of(&node.op), topic, node.parts)
+    first_in_parts::<H, R, W>(rt, alloc, cluster, form_of(&node.op), topic, node.parts)
 }
 
 // The first collision of a node, where it is a join on a foreign key.
-fn first_of_node<H: Hash128, W: Work>(
+fn first_of_node<H: Hash128 + Sync, R: Threads + Sync, W: Work + Sync>(
+    rt: &R,
     alloc: Global,
     cluster: &Cluster<W>,
     topology: &Topology,
@@ -82,7 +85,7 @@ fn first_of_node<H: Hash128, W: Work>(
     let Some(left) = left_of(node.wiring) else {
         return Ok(None);
     };
-    let Some(records) = first_in_changelog::<H, W>(alloc, cluster, topology, left)? else {
+    let Some(records) = first_in_changelog::<H, R, W>(rt, alloc, cluster, topology, left)? else {
         return Ok(None);
     };
     Ok(Some(JoinCollision {
@@ -93,7 +96,8 @@ fn first_of_node<H: Hash128, W: Work>(
 
 /// The first hash collision of the joins on a foreign key: by join, partition of its left side's changelog, greater and lesser offset.
 /// A left side of several joins is searched for each. `Err` only where memory ran out.
-pub fn first_in_joins<H: Hash128, W: Work>(
+pub fn first_in_joins<H: Hash128 + Sync, R: Threads + Sync, W: Work + Sync>(
+    rt: &R,
     alloc: Global,
     cluster: &Cluster<W>,
     topology: &Topology,
@@ -105,7 +109,7 @@ pub fn first_in_joins<H: Hash128, W: Work>(
 {
     let nodes = topology.nodes();
     for place in 0..nodes.len() {
-        if let Some(found) = first_of_node::<H, W>(alloc, cluster, topology, place)? {
+        if let Some(found) = first_of_node::<H, R, W>(rt, alloc, cluster, topology, place)? {
             return Ok(Some(found));
         }
     }

@@ -18,6 +18,7 @@ use ks_cluster::{Cluster, Work};
 use ks_hash::Hash128;
 use ks_topo::Topology;
 use std::alloc::{AllocError, Global};
+use std::thread::Threads;
 
 fn is_settled(pending: u32, lags: &[Lag]) -> bool
     ensures { result ≡ is_at_rest pending lags.now }
@@ -27,7 +28,8 @@ fn is_settled(pending: u32, lags: &[Lag]) -> bool
 
 /// The report of a cluster that was made for a topology. Positions that were read and not committed don't count. `Err` only where
 /// memory ran out.
-pub fn report<H: Hash128, W: Work>(
+pub fn report<H: Hash128 + Sync, R: Threads + Sync, W: Work + Sync>(
+    rt: &R,
     alloc: Global,
     cluster: &Cluster<W>,
     topology: &Topology,
@@ -56,6 +58,6 @@ pub fn report<H: Hash128, W: Work>(
         lags,
         pending,
         late: cluster.late(),
-        collision: first_in_joins::<H, W>(alloc, cluster, topology)?,
+        collision: first_in_joins::<H, R, W>(rt, alloc, cluster, topology)?,
     })
 }

@@ -2,8 +2,8 @@
 #![tactic(auto)]
 
 mod merging;
+mod node_tables;
 pub mod rows;
-mod tables;
 mod windows;
 
-pub use tables::tables;
+pub use node_tables::tables;

@@ -10,7 +10,7 @@ ghost use Rattle.ks_history.specs.State.{has_task, offset_in};
 ghost use Rattle.ks_history.specs.Faithful.{capped};
 ghost use Rattle.ks_law_topology.specs.Work.{work_of};
 ghost use Rattle.ks_law_restore.specs.Replicas.{restored_view, rested_view};
-ghost use Rattle.ks_law_restore.specs.Views.{take_view, skip_view, committed_view, IsFrozen};
+ghost use Rattle.ks_law_restore.specs.Views.{take_view, take_all, skip_view, committed_view, IsFrozen};
 ghost use Rattle.ks_commit.specs.Work.{work_view};
 ghost use Rattle.ks_def_tasks.specs.Rules.{HaveParts, rules_of};
 ghost use Rattle.ks_task_nodes.specs.Nodes.{node_view, kinds_in, nodes_of};
@@ -39,6 +39,12 @@ use ks_task_nodes::{
 use ks_task_step::{Step, StepOutput, process};
 use ks_topo::{Topic, Topology};
 use std::alloc::{AllocError, AllocFailed, Global};
+
+/// The most records of one fetch that a task takes.
+pub const MOST_FETCHED: u32 = 32;
+
+/// The most records of one fetch that a replica is fed.
+pub const MOST_FED: u32 = 4_096;
 
 /// A task: its nodes, its stores and positions, and what it made since its last commit. A node is kept by the numbers of its topics; what
 /// it computes is borrowed of the topology while a record is taken.
@@ -164,15 +170,29 @@ impl Task {
         Ok(Replica::of_parts(id, changelogs))
     }
 
-    // All that the nodes make of a record of a topic.
+    // Its nodes, with what they compute.
+    fn own_nodes<'a>(
+        &self,
+        alloc: Global,
+        topology: &'a Topology,
+    ) -> Result<Vec<ProcessorNode<'a>>, AllocError>
+        requires { IsTaskOf (draft_of topology.now) self.now }
+        ensures { IfOk result (λ v. map node_view v.items
+            ≡ nodes_of (plan_in topology.now) self.now.id.sub) }
+    {
+        processor_nodes(alloc, &self.nodes, topology.nodes())
+    }
+
+    // All that its nodes make of a record of a topic.
     fn process<H: Hash128>(
         &self,
         alloc: Global,
         topology: &Topology,
+        nodes: &[ProcessorNode<'_>],
         topic: u16,
         rec: &Rec,
     ) -> Result<StepOutput, AllocError>
-        requires { IsTaskOf (draft_of topology.now) self.now }
+        requires { map node_view nodes.now ≡ nodes_of (plan_in topology.now) self.now.id.sub }
         ensures late { IfOk result (λ m. m.late
             ≡ capped (late_or_none (nodes_of (plan_in topology.now) self.now.id.sub)
             (stores_in self.now.changelogs.items)
@@ -184,13 +204,46 @@ impl Task {
             (arrival_at (plan_in topology.now).kinds (topic_at (plan_in topology.now) topic)
             rec.now)) }
     {
-        let nodes = processor_nodes(alloc, &self.nodes, topology.nodes())?;
         let at = PartId {
             topic,
             part: self.id.part,
         };
         let purposes = topology.purposes();
-        process_record::<H>(alloc, purposes, nodes.as_slice(), &self.changelogs, at, rec)
+        process_record::<H>(alloc, purposes, nodes, &self.changelogs, at, rec)
+    }
+
+    // Takes the next readable record of an input by its nodes.
+    fn take_by<H: Hash128>(
+        &mut self,
+        alloc: Global,
+        topology: &Topology,
+        nodes: &[ProcessorNode<'_>],
+        topic: u16,
+        offset: u64,
+        rec: &Rec,
+    ) -> Result<(), AllocError>
+        requires task { IsTaskOf (draft_of topology.now) self.old }
+        requires nodes { map node_view nodes.now ≡ nodes_of (plan_in topology.now) self.old.id.sub }
+        requires input { has_topic topic (input_numbers (plan_in topology.now)
+            (task_view self.old).task.sub) ≡ true }
+        ensures task { OnOk result (IsTaskOf (draft_of topology.now) self.new) }
+        ensures view { OnOk result (task_view self.new
+            ≡ take_view (work_of (rules_of H.hash_of) (plan_in topology.now)) (task_view self.old)
+            topic offset rec.now) }
+    {
+        let Some(next) = offset.checked_add(1) else {
+            return Err(AllocError);
+        };
+        // Stores and records hold bytes: the machine's law asks for it.
+        hold_bytes(&self.changelogs);
+        record_is_bytes(rec);
+        let mut output = self.process::<H>(alloc, topology, nodes, topic, rec)?;
+        keep_records(&mut self.changelogs, self.id.part, &output.records)?;
+        move_input(&mut self.inputs, topic, next);
+        take_in_order(&mut self.order, topic)?;
+        self.made.append(&mut output.records)?;
+        self.late = self.late.saturating_add(output.late);
+        Ok(())
     }
 
     /// Takes the next readable record of an input. After want of memory the task is to be dropped.
@@ -210,18 +263,32 @@ impl Task {
             ≡ take_view (work_of (rules_of H.hash_of) (plan_in topology.now)) (task_view self.old)
             topic offset rec.now) }
     {
-        let Some(next) = offset.checked_add(1) else {
-            return Err(AllocError);
-        };
-        // Stores and records hold bytes: the machine's law asks for it.
-        hold_bytes(&self.changelogs);
-        record_is_bytes(rec);
-        let mut output = self.process::<H>(alloc, topology, topic, rec)?;
-        keep_records(&mut self.changelogs, self.id.part, &output.records)?;
-        move_input(&mut self.inputs, topic, next);
-        take_in_order(&mut self.order, topic)?;
-        self.made.append(&mut output.records)?;
-        self.late = self.late.saturating_add(output.late);
+        let nodes = self.own_nodes(alloc, topology)?;
+        self.take_by::<H>(alloc, topology, nodes.as_slice(), topic, offset, rec)
+    }
+
+    /// Takes these records of an input, with their offsets, one after another. After want of memory the task is to be dropped.
+    pub fn take_all<H: Hash128>(
+        &mut self,
+        alloc: Global,
+        topology: &Topology,
+        topic: u16,
+        recs: &[(u64, Rec)],
+    ) -> Result<(), AllocError>
+        requires task { IsTaskOf (draft_of topology.now) self.old }
+        requires input { has_topic topic (input_numbers (plan_in topology.now)
+            (task_view self.old).task.sub) ≡ true }
+        ensures task { OnOk result (IsTaskOf (draft_of topology.now) self.new) }
+        ensures view { OnOk result (task_view self.new
+            ≡ take_all (work_of (rules_of H.hash_of) (plan_in topology.now)) (task_view self.old)
+            topic recs.now) }
+    {
+        let nodes = self.own_nodes(alloc, topology)?;
+        let nodes = nodes.as_slice();
+        for i in 0..recs.len() {
+            let rec = &recs[i];
+            self.take_by::<H>(alloc, topology, nodes, topic, rec.0, &rec.1)?;
+        }
         Ok(())
     }
 

@@ -179,7 +179,7 @@ pub fn items_of(
     ensures { IfOk result (λ v. views v.items
         ≡ all_items (arrival_of stamped.now) [] (kinds_in (map node_view nodes.now))) }
 {
-    let mut items = Vec::new(alloc);
+    let mut items = Vec::with_capacity(alloc, nodes.len())?;
     let mut rest = nodes;
     while let [first, more @ ..] = rest {
         push_item(alloc, &first.processor, &mut items, stamped)?;

@@ -283,7 +283,7 @@ pub fn processor_nodes<'a>(
 ) -> Result<Vec<ProcessorNode<'a>>, AllocError>
     ensures { IfOk result (λ v. map node_view v.items ≡ with_kinds topics.now nodes.now) }
 {
-    let mut processors = Vec::new(alloc);
+    let mut processors = Vec::with_capacity(alloc, topics.len())?;
     for one in topics {
         processors.push(ProcessorNode {
             topics: *one,

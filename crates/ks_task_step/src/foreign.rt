@@ -7,6 +7,7 @@ ghost use Rattle.ks_def_tasks.specs.Foreign.{subscriptions as asked_of, is_direc
 ghost use Rattle.ks_def_tasks.specs.Step.{arrived, step_key, row_in, direct, responded, send_subscriptions, send_responses, answer_of};
 ghost use Rattle.ks_wire.specs.Spelling.{hash_bytes};
 ghost use Rattle.ks_def_tasks.specs.Messages.Message.{Asked, KeptHash};
+ghost use Rattle.ks_fk_left.specs.Asked.{told};
 ghost use Rattle.ks_def_lookups.specs.Kept.{kept_under};
 ghost use Rattle.ks_def_tasks.specs.Rules.{rules_of};
 ghost use Rattle.ks_task_nodes.specs.Nodes.{node_view};
@@ -15,10 +16,11 @@ ghost use Rattle.ks_task_nodes.specs.Stored.{stored_in, value_view, in_list};
 ghost use Rattle.ks_task_step.specs.Steps.{olds_in, news_in, old_list, sent_by, asked_by, hashes_at, hash_found, hash_here, hash_told, hashed_by, left_sends, right_sends, join_here, answer_here, foreign_value as foreign_stored};
 ghost use Rattle.ks_store.specs.Changelogs.{stores_in};
 
+use crate::hashes::new_hash;
 use crate::sends::send_to;
 use crate::step::{NodeValues, Step, change_at, is_changed, new_row, old_row, stored_value};
 use crate::values::value_of_row;
-use ks_fk_left::{Answer, respond, subscriptions};
+use ks_fk_left::{is_answer_to, subscriptions_by};
 use ks_fk_right::{answer, on_right};
 use ks_hash::Hash128;
 use ks_plan::Topic;
@@ -46,18 +48,23 @@ fn foreign_key(alloc: Global, name: &Name, row: &Option<Row>) -> Result<Option<K
     }
 }
 
-// Whether no answer will come to a changed left row, so that the result is set at once.
+// Whether no answer will come to a changed left row, so that the result is set at once. The row before is read only where there is none
+// after.
 fn is_direct(
     alloc: Global,
-    name: &Name,
-    old: &Option<Row>,
+    join: &ForeignKeyJoin<'_>,
+    values: &NodeValues<'_, '_>,
     new: &Option<Row>,
 ) -> Result<bool, AllocError>
-    ensures { IfOk result (λ b. b ≡ direct_is name.now old.now new.now) }
+    ensures { IfOk result (λ b. b ≡ direct_is join.now.foreign_key.now
+        (row_in (olds_in values.now) join.now.left) new.now) }
 {
     match new {
-        Some(_) => Ok(foreign_key(alloc, name, new)?.is_none()),
-        None => Ok(foreign_key(alloc, name, old)?.is_none()),
+        Some(_) => Ok(foreign_key(alloc, join.foreign_key, new)?.is_none()),
+        None => {
+            let old = old_row(alloc, values, join.left)?;
+            Ok(foreign_key(alloc, join.foreign_key, &old)?.is_none())
+        }
     }
 }
 
@@ -79,14 +86,15 @@ fn direct_value<'a>(
     alloc: Global,
     join: &ForeignKeyJoin<'_>,
     old: Option<StoredValue<'a>>,
-    before: &Option<Row>,
-    now: &Option<Row>,
+    values: &NodeValues<'_, '_>,
 ) -> Result<NewValue<'a>, AllocError>
     ensures { IfOk result (λ v. value_view v ≡ direct join.now.foreign_key.now join.now.kind
-        (set_of join.now.set.now) before.now now.now (stored_in old.entry)) }
+        (set_of join.now.set.now) (row_in (olds_in values.now) join.now.left)
+        (row_in (news_in values.now) join.now.left) (stored_in old.entry)) }
 {
-    if is_direct(alloc, join.foreign_key, before, now)? {
-        Ok(value_of_row(left_alone(alloc, join, now)?))
+    let now = new_row(alloc, values, join.left)?;
+    if is_direct(alloc, join, values, &now)? {
+        Ok(value_of_row(left_alone(alloc, join, &now)?))
     } else {
         Ok(NewValue::Unchanged(old))
     }
@@ -110,11 +118,12 @@ fn responded_value<'a, H: Hash128>(
     let Payload::Response { response, .. } = &stamped.payload else {
         return Ok(NewValue::Unchanged(old));
     };
-    let left = new_row(alloc, values, join.left)?;
-    match respond::<H>(alloc, join.kind, join.set, left.as_ref(), response)? {
-        Answer::Stale => Ok(NewValue::Unchanged(old)),
-        Answer::Set(row) => Ok(value_of_row(row)),
+    if !is_answer_to(new_hash::<H>(alloc, values, join.left)?, response) {
+        return Ok(NewValue::Unchanged(old));
     }
+    let left = new_row(alloc, values, join.left)?;
+    let (left, right) = (left.as_ref(), response.right.as_ref());
+    Ok(value_of_row(join_rows(alloc, join.kind, join.set, left, right)?))
 }
 
 /// What a join on a foreign key stores after the step: by its left row where that changed, else by a response to it. Want of memory is
@@ -133,9 +142,7 @@ pub fn foreign_value<'a, H: Hash128>(
         (stored_in old.entry)) }
 {
     if is_changed(alloc, values, join.left)? {
-        let before = old_row(alloc, values, join.left)?;
-        let now = new_row(alloc, values, join.left)?;
-        direct_value(alloc, join, old, &before, &now)
+        direct_value(alloc, join, old, values)
     } else {
         responded_value::<H>(alloc, number, join, old, values, stamped)
     }
@@ -188,23 +195,21 @@ fn push_responses(
     Ok(())
 }
 
-// A left row that changed asks.
-#[tactic(auto, using(crate::proofs::Asking::asked_is))]
-fn push_left<H: Hash128>(
+// What a left row that changed asks.
+fn asked_by_left<H: Hash128>(
     alloc: Global,
-    out: &mut Vec<(PartId, Rec)>,
-    node: &ProcessorNode<'_>,
-    name: &Name,
-    change: &Change,
-    time: u64,
-) -> Result<(), AllocError>
-    ensures { OnOk result (out.new.items ≡ out.old.items
-        ++ map (sent_by (node_view node.now) time)
-        (send_subscriptions node.now.topics.number change.now.key
-        (asked_of (rules_of H.hash_of).hash name.now change.now.old change.now.new))) }
+    join: &ForeignKeyJoin<'_>,
+    values: &NodeValues<'_, '_>,
+    key: &Key,
+) -> Result<Vec<(Key, Subscription)>, AllocError>
+    ensures { IfOk result (λ v. v.items ≡ told key.now
+        (asked_of (rules_of H.hash_of).hash join.now.foreign_key.now
+        (row_in (olds_in values.now) join.now.left) (row_in (news_in values.now) join.now.left))) }
 {
-    let (asked, _) = subscriptions::<H>(alloc, name, change)?;
-    push_subscriptions(alloc, out, node, &asked, time)
+    let hash = new_hash::<H>(alloc, values, join.left)?;
+    let change = change_at(alloc, values, key.clone()?, join.left)?;
+    let (asked, _) = subscriptions_by::<H>(alloc, join.foreign_key, &change, hash)?;
+    Ok(asked)
 }
 
 fn responses_in(
@@ -262,6 +267,7 @@ fn push_right(
     push_responses(alloc, out, node, &responses, time)
 }
 
+#[tactic(auto, using(crate::proofs::Asking::asked_is))]
 fn push_left_if<H: Hash128>(
     alloc: Global,
     out: &mut Vec<(PartId, Rec)>,
@@ -277,8 +283,8 @@ fn push_left_if<H: Hash128>(
         (row_in (olds_in values.now) join.now.left) (row_in (news_in values.now) join.now.left))) }
 {
     if is_changed(alloc, values, join.left)? {
-        let change = change_at(alloc, values, key.clone()?, join.left)?;
-        push_left::<H>(alloc, out, node, join.foreign_key, &change, time)
+        let asked = asked_by_left::<H>(alloc, join, values, key)?;
+        push_subscriptions(alloc, out, node, &asked, time)
     } else {
         Ok(())
     }

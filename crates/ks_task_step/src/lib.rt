@@ -4,9 +4,11 @@
 
 mod counts;
 mod foreign;
+mod hashes;
 mod processing;
 mod sends;
 mod step;
+mod streams;
 mod values;
 
 pub use processing::process;

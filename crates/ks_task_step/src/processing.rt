@@ -14,10 +14,11 @@ use crate::counts::{count_of, push_recs};
 use crate::foreign::push_hash;
 use crate::sends::sends_of;
 use crate::step::{NodeValues, Step, StepOutput, old_value};
+use crate::streams::passed_items;
 use crate::values::{next_values, stored_values};
 use ks_hash::Hash128;
 use ks_row::{Blob, PartId, Rec};
-use ks_task_nodes::{Item, ProcessorNode, StoredValue, changed_value, items_of};
+use ks_task_nodes::{Item, ProcessorNode, StoredValue, changed_value};
 use std::alloc::{AllocError, Global};
 
 // ---- what changelogs are told
@@ -191,6 +192,6 @@ pub fn process<'s, H: Hash128>(alloc: Global, step: &Step<'s>) -> Result<StepOut
         (late_in (map node_view step.now.nodes.now) (stores_in step.now.changelogs.now)
         (arrival_of step.now.stamped.now))) }
 {
-    let items = items_of(alloc, step.nodes, step.stamped)?;
+    let items = passed_items(alloc, step.nodes, step.stamped)?;
     process_items::<H>(alloc, step, items.as_slice())
 }

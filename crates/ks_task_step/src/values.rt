@@ -37,7 +37,7 @@ fn stored_values_at<'a>(
     ensures { IfOk result (λ v. map stored_in v.items
         ≡ map (stored_at (stores_in changelogs.now) key.now) (map node_view nodes.now)) }
 {
-    let mut olds = Vec::new(alloc);
+    let mut olds = Vec::with_capacity(alloc, nodes.len())?;
     for node in nodes {
         olds.push(stored_value(changelogs, key, node))?;
     }
@@ -271,7 +271,7 @@ fn new_values_at<'a, 's, H: Hash128>(
         ≡ new_from (rules_of H.hash_of) (arrival_of stamped.now) (item_in (views items.now))
         (old_values olds.now) [] (map node_view nodes.now)) }
 {
-    let mut news = Vec::new(alloc);
+    let mut news = Vec::with_capacity(alloc, nodes.len())?;
     let mut rest = nodes;
     while let [node, more @ ..] = rest {
         push_new_value::<H>(alloc, &mut news, node, items, olds, stamped)?;

@@ -18,6 +18,7 @@ use ks_topo::Topology;
 use std::alloc::{AllocError, Global};
 use std::process::Abort;
 use std::test::Fail;
+use std::thread::Threads;
 
 fn name<R: Abort>(rt: &R, alloc: Global, letter: &[u8; 1]) -> Result<Name, AllocError>
     ensures { IfOk result (λ n. n ≡ letter.now) }
@@ -60,7 +61,8 @@ fn topology<R: Abort>(rt: &R, alloc: Global) -> Result<Topology, AllocError>
 }
 
 /// What is settled, how many producers are pending, and each lag with its committed offset and end.
-fn told(
+fn told<R: Threads + Sync>(
+    rt: &R,
     alloc: Global,
     cluster: &Cluster<Copying>,
     topology: &Topology,
@@ -68,7 +70,7 @@ fn told(
     requires ours { IsOurs cluster.now }
     requires table { draft_of topology.now ≡ table_draft }
 {
-    let report = report::<Murmur3, Copying>(alloc, cluster, topology)?;
+    let report = report::<Murmur3, R, Copying>(rt, alloc, cluster, topology)?;
     let mut text = format!(in alloc; "settled {}, pending {}", report.settled, report.pending)?;
     for lag in &report.lags {
         write!(
@@ -88,23 +90,23 @@ fn a_report_at_each_stage_of_a_commit(rt: HostRuntime) -> Result<(), Fail> {
     let topology = topology(&rt, alloc)?;
     let recs = [record(alloc)?];
     let cluster = produced(alloc, &recs[0])?;
-    assert_eq!(rt; told(alloc, &cluster, &topology)?.as_str(), BEHIND);
+    assert_eq!(rt; told(&rt, alloc, &cluster, &topology)?.as_str(), BEHIND);
     // What was read and isn't committed doesn't count.
     assert_eq!(rt; fetch(alloc, &cluster, 0, 0, 10)?.as_str(), "1 to 1");
-    assert_eq!(rt; told(alloc, &cluster, &topology)?.as_str(), BEHIND);
+    assert_eq!(rt; told(&rt, alloc, &cluster, &topology)?.as_str(), BEHIND);
     let cluster = sent(alloc, &recs[0], &recs)?;
     assert_eq!(rt;
-        told(alloc, &cluster, &topology)?.as_str(),
+        told(&rt, alloc, &cluster, &topology)?.as_str(),
         "settled false, pending 1, 0/0 committed 0 end 1"
     );
     let cluster = decided(alloc, &recs[0], &recs)?;
     assert_eq!(rt;
-        told(alloc, &cluster, &topology)?.as_str(),
+        told(&rt, alloc, &cluster, &topology)?.as_str(),
         "settled false, pending 1"
     );
     let cluster = marked(alloc, &recs[0], &recs)?;
     assert_eq!(rt;
-        told(alloc, &cluster, &topology)?.as_str(),
+        told(&rt, alloc, &cluster, &topology)?.as_str(),
         "settled true, pending 0"
     );
     Ok(())

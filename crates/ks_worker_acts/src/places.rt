@@ -40,7 +40,7 @@ pub fn places_of(
     ensures { IfOk result (λ v. v.items
         ≡ places_from (input_numbers (plan_in topology.now)) 0 tasks.now) }
 {
-    let mut places = Vec::new(alloc);
+    let mut places = Vec::with_capacity(alloc, tasks.len())?;
     for i in 0..tasks.len() {
         let task = &tasks[i];
         let topics = inputs_in(topology, task.id().sub);

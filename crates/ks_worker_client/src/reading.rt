@@ -19,11 +19,8 @@ use ks_shared::Shared;
 use std::alloc::Global;
 use std::sync::Wait;
 
-// The most records of one fetch.
-const MOST_FETCHED: u32 = 32;
-
 impl<W: Work, G: Gate> ClusterClient<W, G> {
-    /// The first 32 committed records of a partition at or past an offset, and where the next fetch goes on.
+    /// The first so many committed records of a partition at or past an offset, and where the next fetch goes on.
     pub fn fetch<R: Wait>(
         &mut self,
         rt: &R,
@@ -31,19 +28,20 @@ impl<W: Work, G: Gate> ClusterClient<W, G> {
         shared: &Shared<W>,
         part: PartId,
         from: u64,
+        most: u32,
     ) -> Result<(Vec<(u64, Rec)>, u64), Halt>
         requires may { MayCall W.plan shared.now.growing.id self.old.pass self.old.gate }
         requires fetch { MayFetch (setup_in W.plan self.old.pass.frame)
-            (state_seen W.plan self.old.pass) part from 32 }
+            (state_seen W.plan self.old.pass) part from most }
         ensures gate { self.new.gate ≡ counts_after self.old.gate result }
         ensures later { Later W.plan self.old.pass self.new.pass }
         ensures records { IfOk result (λ r. r.0.items
-            ≡ (fetched (state_seen W.plan self.new.pass) part from 32).0) }
+            ≡ (fetched (state_seen W.plan self.new.pass) part from most).0) }
         ensures next { IfOk result (λ r. r.1
-            ≡ (fetched (state_seen W.plan self.new.pass) part from 32).1) }
+            ≡ (fetched (state_seen W.plan self.new.pass) part from most).1) }
     {
         self.gate.pass_step()?;
-        or_halt(shared.fetch(rt, alloc, part, from, MOST_FETCHED, &mut self.pass))
+        or_halt(shared.fetch(rt, alloc, part, from, most, &mut self.pass))
     }
 
     /// The committed offset of each input of a task, in their order. Refused: OldGeneration, NotAssigned, Unstable.

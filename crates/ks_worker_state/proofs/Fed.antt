@@ -29,16 +29,16 @@ use Rattle.ks_worker_state.specs.Standbys.{IsStandby, IsFedStandby}
 module _ (setup : Setup) where
   -- it may be fed where it stands
   pub may_feed : (journal : List Entry) (r : Replica) (topic part from : ℕ) → IsSetup setup → IsStandby setup journal r → has_topic topic (changelogs_of r) ≡ true → part ≡ r.id.part → from ≡ (replica_view r).position topic →
-      MayFetch setup (at setup journal) (record { topic = topic; part = part }) from 32
+      MayFetch setup (at setup journal) (record { topic = topic; part = part }) from 4096
   may_feed journal r topic part from made s there is at_it =
       let own : has_topic topic (setup.plan.changelogs r.id.sub) ≡ true = sym (ap (has_topic topic) s.replica.changelogs) ∙ there in
-      let may : MayFetch setup (at setup journal) (part_of topic r.id) ((replica_view r).position topic) 32 = record {
+      let may : MayFetch setup (at setup journal) (part_of topic r.id) ((replica_view r).position topic) 4096 = record {
         part = made.changelogs r.id topic s.known own;
         within = replica_is_within setup journal (replica_view r) topic own s.replica.follows;
         some = omega arith;
       } in
-      subst (λ n. MayFetch setup (at setup journal) (record { topic = topic; part = part }) n 32) (sym at_it)
-      (subst (λ n. MayFetch setup (at setup journal) (record { topic = topic; part = n }) ((replica_view r).position topic) 32) (sym is) may)
+      subst (λ n. MayFetch setup (at setup journal) (record { topic = topic; part = part }) n 4096) (sym at_it)
+      (subst (λ n. MayFetch setup (at setup journal) (record { topic = topic; part = n }) ((replica_view r).position topic) 4096) (sym is) may)
 
   -- whatever others write
   pub standby_stays : (journal more : List Entry) (r : Replica) → IsNetwork setup.plan → IsHistory setup (journal ++ more) → IsStandby setup journal r → IsStandby setup (journal ++ more) r
@@ -50,26 +50,26 @@ module _ (setup : Setup) where
   -- it takes what a fetch gives
   pub standby_fed : (journal more : List Entry) (old new : Replica) (topic part from next : ℕ) (recs : List (ℕ × Rec)) → IsNetwork setup.plan → IsHistory setup (journal ++ more) → IsStandby setup journal old →
       has_topic topic (changelogs_of old) ≡ true → part ≡ old.id.part → from ≡ (replica_view old).position topic →
-      (recs, next) ≡ fetched (at setup (journal ++ more)) (record { topic = topic; part = part }) from 32 →
+      (recs, next) ≡ fetched (at setup (journal ++ more)) (record { topic = topic; part = part }) from 4096 →
       replica_view new ≡ fed_replica (replica_view old) topic recs next → changelogs_of new ≡ changelogs_of old → IsFedStandby setup journal (journal ++ more) (topic ∷ []) old new
   standby_fed journal more old new topic part from next recs net history s there is at_it got view logs =
       let now : List Entry = journal ++ more in
       let t : IsStandby setup now old = standby_stays journal more old net history s in
       let own : has_topic topic (setup.plan.changelogs old.id.sub) ≡ true = sym (ap (has_topic topic) t.replica.changelogs) ∙ there in
-      let gave : (recs, next) ≡ fetched (at setup now) (part_of topic old.id) ((replica_view old).position topic) 32 =
-      got ∙ ap₂ (λ (p n : ℕ). fetched (at setup now) (record { topic = topic; part = p }) n 32) is at_it in
-      let fed : replica_view new ≡ fed_replica (replica_view old) topic (fetched (at setup now) (part_of topic old.id) ((replica_view old).position topic) 32).0 (fetched (at setup now) (part_of topic old.id) ((replica_view old).position topic) 32).1 =
+      let gave : (recs, next) ≡ fetched (at setup now) (part_of topic old.id) ((replica_view old).position topic) 4096 =
+      got ∙ ap₂ (λ (p n : ℕ). fetched (at setup now) (record { topic = topic; part = p }) n 4096) is at_it in
+      let fed : replica_view new ≡ fed_replica (replica_view old) topic (fetched (at setup now) (part_of topic old.id) ((replica_view old).position topic) 4096).0 (fetched (at setup now) (part_of topic old.id) ((replica_view old).position topic) 4096).1 =
       view ∙ ap (λ (g : List (ℕ × Rec) × ℕ). fed_replica (replica_view old) topic g.0 g.1) gave in
       let same : old.id ≡ new.id = sym (ap (λ (v : ReplicaView). v.task) view) in
       let moved : IsFed setup now (topic ∷ []) (replica_view old) (replica_view new) = subst (IsFed setup now (topic ∷ []) (replica_view old)) (sym fed)
-      (feeding_moves setup now (replica_view old) topic 32 (replica_is_within setup now (replica_view old) topic own t.replica.follows) (omega arith)) in
+      (feeding_moves setup now (replica_view old) topic 4096 (replica_is_within setup now (replica_view old) topic own t.replica.follows) (omega arith)) in
       record {
         standby = record {
           known = subst (λ u. has_task u setup.tasks ≡ true) same t.known;
           replica = record {
             task = refl;
             changelogs = logs ∙ t.replica.changelogs ∙ ap (λ (u : TaskId). setup.plan.changelogs u.sub) same;
-            follows = subst (ReplicaFollows setup now) (sym fed) (feeding_follows setup now (replica_view old) topic 32 own (omega arith) t.replica.follows);
+            follows = subst (ReplicaFollows setup now) (sym fed) (feeding_follows setup now (replica_view old) topic 4096 own (omega arith) t.replica.follows);
           };
         };
         changelogs = logs;
@@ -143,11 +143,11 @@ one_more_topic xs i h = sym (take-suc xs i 0 h) ∙ ap (λ k. take k xs) (sym (a
 module _ {W : Type 0} (plan : W → TaskPlan) (pass new : PassView Entry (Frame W)) (l : Later plan pass new) where
   pub fed_by : (old fed : Replica) (topic part from next : ℕ) (recs : List (ℕ × Rec)) → IsNetwork (setup_in plan pass.frame).plan → IsStandby (setup_in plan pass.frame) pass.seen old →
       has_topic topic (changelogs_of old) ≡ true → part ≡ old.id.part → from ≡ (replica_view old).position topic →
-      recs ≡ (fetched (state_seen plan new) (record { topic = topic; part = part }) from 32).0 → next ≡ (fetched (state_seen plan new) (record { topic = topic; part = part }) from 32).1 →
+      recs ≡ (fetched (state_seen plan new) (record { topic = topic; part = part }) from 4096).0 → next ≡ (fetched (state_seen plan new) (record { topic = topic; part = part }) from 4096).1 →
       replica_view fed ≡ fed_replica (replica_view old) topic recs next → changelogs_of fed ≡ changelogs_of old → IsFedStandby (setup_in plan pass.frame) pass.seen new.seen (topic ∷ []) old fed
   fed_by old fed topic part from next recs net s there is at_it records goes view logs =
       let setup : Setup = setup_in plan pass.frame in
-      let here : (recs, next) ≡ fetched (at setup (pass.seen ++ l.more)) (record { topic = topic; part = part }) from 32 =
-      (λ i. (records i, goes i)) ∙ ap₂ (λ f j. fetched (at (setup_in plan f) j) (record { topic = topic; part = part }) from 32) (same_frame plan pass new l) l.seen in
+      let here : (recs, next) ≡ fetched (at setup (pass.seen ++ l.more)) (record { topic = topic; part = part }) from 4096 =
+      (λ i. (records i, goes i)) ∙ ap₂ (λ f j. fetched (at (setup_in plan f) j) (record { topic = topic; part = part }) from 4096) (same_frame plan pass new l) l.seen in
       subst (λ j. IsFedStandby setup pass.seen j (topic ∷ []) old fed) (sym l.seen)
       (standby_fed setup pass.seen l.more old fed topic part from next recs net l.history s there is at_it here view logs)

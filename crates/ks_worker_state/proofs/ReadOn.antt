@@ -1,6 +1,5 @@
 -- A task reads what one fetch gives.
-use Rattle.std.proofs.Common.{◌≡◌, ◌≢◌, ℕ, ◌+◌, ◌<◌, ◌≤◌, true, false, List, [], ◌∷◌, ◌++◌, length, take, get_or, refl, sym, ap, ap₂, subst, ◌∙◌, arith, add-one}
-use Rattle.std.proofs.Math.Seq.{take-suc}
+use Rattle.std.proofs.Common.{◌≡◌, ◌≢◌, ℕ, ◌+◌, ◌<◌, ◌≤◌, true, false, List, [], ◌∷◌, ◌++◌, refl, sym, ap, ap₂, subst, ◌∙◌, arith}
 use Rattle.ks_row.specs.declared.record.Rec.{Rec}
 use Rattle.ks_row.specs.declared.record.PartId.{PartId}
 use Rattle.ks_row.specs.declared.record.TaskId.{TaskId}
@@ -33,17 +32,6 @@ use Rattle.ks_worker_state.specs.Tasks.{IsHeldTask, IsReadOnce, MakesInside}
 use Rattle.ks_worker_state.specs.Topology.{RunsTopology}
 
 -- ---- the records of a fetch, one after another
-take_all-push : (plan : TaskPlan) (topic : ℕ) (v : TaskView) (rs : List (ℕ × Rec)) (r : ℕ × Rec) → take_all plan v topic (rs ++ r ∷ []) ≡ take_view plan (take_all plan v topic rs) topic r.0 r.1
-take_all-push plan topic v [] r = refl
-take_all-push plan topic v (x ∷ rs) r = take_all-push plan topic (take_view plan v topic x.0 x.1) rs r
-
-pub one_record_more : (plan : TaskPlan) (topic : ℕ) (v now new : TaskView) (recs : List (ℕ × Rec)) (i : ℕ) (r : ℕ × Rec) → i < length recs → r ≡ get_or recs i r → now ≡ take_all plan v topic (take i recs) →
-    new ≡ take_view plan now topic r.0 r.1 → new ≡ take_all plan v topic (take (i + 1) recs)
-one_record_more plan topic v now new recs i r h there was is =
-    is ∙ ap (λ w. take_view plan w topic r.0 r.1) was ∙ sym (take_all-push plan topic v (take i recs) r)
-    ∙ ap (λ (y : ℕ × Rec). take_all plan v topic (take i recs ++ y ∷ [])) there
-    ∙ ap (take_all plan v topic) (sym (take-suc recs i r h) ∙ ap (λ k. take k recs) (sym (add-one i)))
-
 -- taking leaves the task what it is
 pub takes_on : (plan : TaskPlan) (v : TaskView) (topic : ℕ) (rs : List (ℕ × Rec)) → (take_all plan v topic rs).task ≡ v.task
 takes_on plan v topic [] = refl

@@ -12,11 +12,12 @@ use ks_edge::Gate;
 use ks_row::PartId;
 use ks_shared::Shared;
 use ks_standby::Replica;
+use ks_task::MOST_FED;
 use ks_worker_client::{ClusterClient, Halt, or_halt};
 use std::alloc::Global;
 use std::sync::Wait;
 
-/// Feeds a replica what one fetch of one of its changelogs gives; whether that moved it.
+/// Feeds a replica what one fetch of one of its changelogs gives, at most 4,096 records; whether that moved it.
 pub fn feed_from<R: Wait, W: Work, G: Gate>(
     rt: &R,
     alloc: Global,
@@ -39,7 +40,7 @@ pub fn feed_from<R: Wait, W: Work, G: Gate>(
         topic,
         part: replica.id().part,
     };
-    let (recs, next) = client.fetch(rt, alloc, shared, part, from)?;
+    let (recs, next) = client.fetch(rt, alloc, shared, part, from, MOST_FED)?;
     or_halt(replica.feed(topic, recs.as_slice(), next))?;
     Ok(from < next)
 }

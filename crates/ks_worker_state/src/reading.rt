@@ -19,7 +19,7 @@ use ks_edge::Gate;
 use ks_hash::Hash128;
 use ks_row::{PartId, Rec};
 use ks_shared::Shared;
-use ks_task::Task;
+use ks_task::{MOST_FETCHED, Task};
 use ks_topo::Topology;
 use ks_worker_client::{Halt, Member, Session, or_halt};
 use std::alloc::{AllocError, Global};
@@ -41,11 +41,7 @@ fn take_fetched<H: Hash128>(
         ≡ take_all (work_of (rules_of H.hash_of) (plan_in topology.now)) (task_view task.old) topic
         recs.now) }
 {
-    for i in 0..recs.len() {
-        let rec = &recs[i];
-        task.take::<H>(alloc, topology, topic, rec.0, &rec.1)?;
-    }
-    Ok(())
+    task.take_all::<H>(alloc, topology, topic, recs)
 }
 
 /// A task takes what one fetch of one of its inputs gives, at most 32 records; whether that moved it.
@@ -86,7 +82,9 @@ pub fn read_once<H: Hash128, R: Wait, W: Work, G: Gate>(
         topic,
         part: task.id().part,
     };
-    let (recs, next) = session.client.fetch(rt, alloc, shared, part, from)?;
+    let (recs, next) = session
+        .client
+        .fetch(rt, alloc, shared, part, from, MOST_FETCHED)?;
     if next == from {
         return Ok(false);
     }

@@ -1,22 +1,21 @@
-use Rattle.std.proofs.Common.{[], get_or, sym, subst, ◌∙◌}
-use Rattle.ks_row.specs.declared.record.TaskId.{TaskId}
+use Rattle.std.proofs.Common.{sym, ap, ◌∙◌, arith}
 use Rattle.ks_topo.specs.Topologies.{draft_of}
 use Rattle.ks_cluster.specs.View.{setup_of}
-use Rattle.ks_settle.specs.Drained.{AreRestored}
-use Rattle.ks_settle.proofs.Works.{there_in, same_default}
-use Rattle.ks_settle.proofs.Starting.{none_restored, one_restored}
+use Rattle.ks_settle.proofs.Putting.{all_there, none_put, one_put, all_put}
 use Rattle.ks_settle.proofs.restoring.restore_tasks.Goals as goal
 
-pub loop-i-init : goal.loop-i-init
-loop-i-init g c =
-    subst (AreRestored (draft_of c.args.topology.now) (setup_of g.W.Work.plan c.args.cluster.now) c.args.cluster.now.journal []) (sym c.new-tasks.ensures.items)
-    (none_restored (draft_of c.args.topology.now) (setup_of g.W.Work.plan c.args.cluster.now) c.args.cluster.now.journal)
+pub restore_each-requires-clause-may : goal.restore_each-requires-clause-may
+restore_each-requires-clause-may g c κs within = record { may = c.requires.may; of = c.requires.of; parts = c.requires.parts; ready = c.requires.ready }
 
-pub restore-requires-clause-there : goal.restore-requires-clause-there
-restore-requires-clause-there g c = there_in c.tasks-names.result.now c.args.cluster.now.tasks c.loop-i.i (record { sub = 0; part = 0 }) c.loop-i-test.true (c.tasks-names.ensures ∙ sym c.requires.of.tasks)
+pub restore_each-requires-clause-there : goal.restore_each-requires-clause-there
+restore_each-requires-clause-there g c κs within = all_there c.in_ok-all.all.items c.as_mut_slice-each.result.now c.args.cluster.now.tasks (c.in_ok-all.ensures ∙ c.tasks.ensures ∙ sym c.requires.of.tasks) c.as_mut_slice-each.ensures.value
 
-pub loop-i-preserved : goal.loop-i-preserved
-loop-i-preserved g c =
-    let x : TaskId = get_or c.tasks-names.result.now c.loop-i.i (record { sub = 0; part = 0 }) in
-    one_restored (draft_of c.args.topology.now) (setup_of g.W.Work.plan c.args.cluster.now) c.args.cluster.now.journal c.tasks-names.result.now c.loop-i.i x c.loop-i.tasks.items c.push.new.self.items c.in_ok-restore.field-0 c.loop-i-test.true
-    (same_default c.tasks-names.result.now c.loop-i.i (record { sub = 0; part = 0 }) x c.loop-i-test.true) c.loop-i.invariant c.in_ok-restore.ensures.rests c.in_ok-restore.ensures.id c.in_ok-push.ensures.items
+pub loop-one-preserved : goal.loop-one-preserved
+loop-one-preserved g c =
+    one_put (draft_of c.args.topology.now) (setup_of g.W.Work.plan c.args.cluster.now) c.args.cluster.now.journal c.args.cluster.now.tasks c.loop-one.tasks.items c.push.new.self.items c.loop-one.one-iterator.rest.items c.next.new.self.rest.items
+    c.in-Some.one c.in_ok-one.field-0 c.loop-one.invariant c.in-Some.ensures.steps.0 c.in_ok-one.was c.in_ok-push.ensures.items
+
+pub returns : goal.returns
+returns g c =
+    all_put (draft_of c.args.topology.now) (setup_of g.W.Work.plan c.args.cluster.now) c.args.cluster.now.journal c.args.cluster.now.tasks c.loop-one.tasks.items c.loop-one.one-iterator.rest.items c.loop-one.invariant
+    (omega (arith, c.loop-one.one-iterator.rest.ok, c.in-None.ensures.steps.0))

@@ -6,10 +6,9 @@ use Rattle.ks_settle_report.specs.Hashed.{row_hash}
 use Rattle.ks_settle_report.proofs.LeftSides.{is_part, first_is}
 use Rattle.ks_settle_report.proofs.joins.first_in_changelog.Goals as goal
 
-pub first_in_parts-requires : goal.first_in_parts-requires
-first_in_parts-requires g c = record {
-  parts = is_part (draft_of c.args.topology.now) c.args.place c.node_at-node.result.now c.node_at-node.ensures c.requires.changelog c.in-Some.topic c.in-Some.is (setup_of g.W.Work.plan c.args.cluster.now) c.requires.counts;
-}
+pub first_in_parts-requires-clause-parts : goal.first_in_parts-requires-clause-parts
+first_in_parts-requires-clause-parts g c κs within =
+    is_part (draft_of c.args.topology.now) c.args.place c.node_at-node.result.now c.node_at-node.ensures c.requires.changelog c.in-Some.topic c.in-Some.is (setup_of g.W.Work.plan c.args.cluster.now) c.requires.counts
 
 pub returns : goal.returns
 returns g c = IfOk-weaker c.first_in_parts.result _ _

@@ -1,4 +1,4 @@
-use Rattle.std.proofs.Common.{◌≡◌, List, Option, map, subst, ap, ◌∙◌}
+use Rattle.std.proofs.Common.{◌≡◌, ℕ, List, Option, map, subst, ap, ◌∙◌}
 use Rattle.std.specs.Prelude.{IfOk}
 use Rattle.ks_history.specs.Faithful.{capped}
 use Rattle.ks_query.specs.Streams.{StreamItem}
@@ -17,11 +17,11 @@ pub returns-clause-records : goal.returns-clause-records
 returns-clause-records g c =
     let step = c.args.step.now in
     let key = step_key (message_of step.stamped.now.payload) in
-    subst (λ (is : List (Option StreamItem)). IfOk c.process_items.result (λ v. v.records.items ≡ made_at (rules_of g.H.Hash128.hash_of) (map node_view step.nodes.now) (stores_in step.changelogs.now) step.partition (arrival_of step.stamped.now) (item_in is) (in_list (old_list (stores_in step.changelogs.now) key (map node_view step.nodes.now))) key))
-    (ap (λ (is : List (Option Item)). views is) c.as_slice.ensures.value ∙ c.in_ok-items.ensures) c.process_items.ensures.records
+    subst (λ (f : ℕ → Option StreamItem). IfOk c.process_items.result (λ v. v.records.items ≡ made_at (rules_of g.H.Hash128.hash_of) (map node_view step.nodes.now) (stores_in step.changelogs.now) step.partition (arrival_of step.stamped.now) f (in_list (old_list (stores_in step.changelogs.now) key (map node_view step.nodes.now))) key))
+    (ap (λ (is : List (Option Item)). item_in (views is)) c.as_slice.ensures.value ∙ c.in_ok-items.ensures) c.process_items.ensures.records
 
 pub returns-clause-late : goal.returns-clause-late
 returns-clause-late g c =
     let step = c.args.step.now in
-    subst (λ (is : List (Option StreamItem)). IfOk c.process_items.result (λ v. v.late ≡ capped (late_of (stores_in step.changelogs.now) (arrival_of step.stamped.now) (item_in is) (map node_view step.nodes.now))))
-    (ap (λ (is : List (Option Item)). views is) c.as_slice.ensures.value ∙ c.in_ok-items.ensures) c.process_items.ensures.late
+    subst (λ (f : ℕ → Option StreamItem). IfOk c.process_items.result (λ v. v.late ≡ capped (late_of (stores_in step.changelogs.now) (arrival_of step.stamped.now) f (map node_view step.nodes.now))))
+    (ap (λ (is : List (Option Item)). item_in (views is)) c.as_slice.ensures.value ∙ c.in_ok-items.ensures) c.process_items.ensures.late

@@ -33,7 +33,7 @@ start-requires-clause-good g c =
     good_alone g.W.Work.plan g.W.Work.good c.args.cluster.now c.write_all_markers.new.cluster on none c.requires.alone
 
 pub restore_tasks-requires-clause-may : goal.restore_tasks-requires-clause-may
-restore_tasks-requires-clause-may g c =
+restore_tasks-requires-clause-may g c κs within =
     let plan = g.W.Work.plan in
     let started = c.in_ok-publisher.ensures.started in
     let one = still_may plan 0 c.args.cluster.now c.remove_workers.new.cluster c.remove_workers.ensures.on c.requires.may in
@@ -41,7 +41,7 @@ restore_tasks-requires-clause-may g c =
     still_may plan 0 c.write_all_markers.new.cluster c.start.new.cluster (drains_by 16 0 c.write_all_markers.new.cluster c.start.new.cluster started.more refl started.is started.publishing) two
 
 pub restore_tasks-requires-clause-of : goal.restore_tasks-requires-clause-of
-restore_tasks-requires-clause-of g c =
+restore_tasks-requires-clause-of g c κs within =
     let plan = g.W.Work.plan in
     let d = draft_of c.args.topology.now in
     let started = c.in_ok-publisher.ensures.started in

@@ -1,0 +1,211 @@
+//! The record of a plain line, read from its bytes, with no JSON value between: members as `topic`, `key`, `value` and `ts`, no blanks,
+//! ASCII without escapes, whole numbers of up to 18 digits. Of any other line nothing is told.
+ghost use Rattle.std.specs.Prelude.{◌≡◌, true, IfOk, IfSome};
+ghost use Rattle.ks_job_record.specs.Plain.{field_of};
+ghost use Rattle.ks_job_record.specs.PlainRows.{IsMadeField, IsPut, TakesMember, ClosesRow, place_among};
+ghost use Rattle.ks_job_record.specs.PlainLines.{IsFront, IsEnd, EndsLine};
+ghost use Rattle.ks_job_record.specs.Says.{Says};
+
+use crate::pieces::{Plain, after, behind, split_digits, split_member, split_quoted};
+use crate::record::{Input, topic_number};
+use ks_row::{Blob, Field, Name, Rec, Row, Text, encode};
+use std::alloc::{AllocError, Global};
+use std::cmp::Ordering;
+use std::str;
+
+const MOST_MEMBERS: usize = 16;
+
+const MOST_TIME: u64 = 9_007_199_254_740_992;
+
+// A line up to the value of its record.
+#[derive(Clone, Copy)]
+struct Front<'a> {
+    topic: u16,
+    key: &'a [u8],
+    rest: &'a [u8],
+}
+
+// The field with memory of its own; none where its text is too long.
+fn make_field(alloc: Global, plain: Plain<'_>) -> Result<Option<Field>, AllocError>
+    ensures { IfOk result (λ o. IfSome o (λ f. IsMadeField (field_of plain.entry) f)) }
+{
+    match plain {
+        Plain::Number(number) => Ok(Some(Field::Int(number))),
+        Plain::Text(text) => match Text::of(alloc, text)? {
+            Some(text) => Ok(Some(Field::Text(text))),
+            None => Ok(None),
+        },
+    }
+}
+
+// Where a name belongs among members in order of names; none where it stands there.
+fn find_place(fields: &[(Name, Field)], name: &Name) -> Option<usize>
+    ensures { result ≡ place_among 0 name.now fields.now }
+{
+    let mut place = 0;
+    let mut rest = fields;
+    while let [(first, _), more @ ..] = rest {
+        match name.cmp(first) {
+            Ordering::Less => return Some(place),
+            Ordering::Equal => return None,
+            Ordering::Greater => {}
+        }
+        place += 1;
+        rest = more;
+    }
+    Some(place)
+}
+
+// Puts a member at its place. Whether it is one, and its name wasn't there.
+fn put_member(
+    alloc: Global,
+    fields: &mut Vec<(Name, Field)>,
+    name: &[u8],
+    plain: Plain<'_>,
+) -> Result<bool, AllocError>
+    ensures { IfOk result (λ b. b ≡ true
+        → IsPut (name.now, field_of plain.entry) fields.old.items fields.new.items) }
+{
+    let Some(name) = Name::of(alloc, name)? else {
+        return Ok(false);
+    };
+    let Some(field) = make_field(alloc, plain)? else {
+        return Ok(false);
+    };
+    let Some(place) = find_place(fields.as_slice(), &name) else {
+        return Ok(false);
+    };
+    fields.insert(place, (name, field))?;
+    Ok(true)
+}
+
+#[tactic(auto, using(crate::proofs::PlainRows::takes))]
+fn take_member<'a>(
+    alloc: Global,
+    fields: &mut Vec<(Name, Field)>,
+    bytes: &'a [u8],
+) -> Result<Option<&'a [u8]>, AllocError>
+    ensures { IfOk result (λ o. IfSome o (λ rest.
+        TakesMember fields.old.items bytes.now fields.new.items rest.now)) }
+{
+    let Some((name, plain, rest)) = split_member(bytes) else {
+        return Ok(None);
+    };
+    if put_member(alloc, fields, name, plain)? {
+        Ok(Some(rest))
+    } else {
+        Ok(None)
+    }
+}
+
+// Puts the members up to the closing brace at their places; the bytes behind it.
+fn take_members<'a>(
+    alloc: Global,
+    fields: &mut Vec<(Name, Field)>,
+    bytes: &'a [u8],
+) -> Result<Option<&'a [u8]>, AllocError>
+    ensures { IfOk result (λ o. IfSome o (λ rest.
+        ClosesRow fields.old.items bytes.now fields.new.items rest.now)) }
+{
+    let mut rest = bytes;
+    for _ in 0..MOST_MEMBERS {
+        let Some(more) = take_member(alloc, fields, rest)? else {
+            return Ok(None);
+        };
+        if let Some(end) = behind(more, b'}') {
+            return Ok(Some(end));
+        }
+        let Some(next) = behind(more, b',') else {
+            return Ok(None);
+        };
+        rest = next;
+    }
+    Ok(None)
+}
+
+fn split_front<'a>(topics: &[Name], line: &'a [u8]) -> Option<Front<'a>>
+    ensures { IfSome result (λ f. IsFront topics.now line.now f.topic f.key.now f.rest.now) }
+{
+    let (topic, rest) = split_quoted(after(line, b"{\"topic\":\"")?)?;
+    let (key, rest) = split_quoted(after(rest, b",\"key\":\"")?)?;
+    let rest = after(rest, b",\"value\":")?;
+    let Ok(topic) = str::from_utf8(topic) else {
+        return None;
+    };
+    let topic = topic_number(topic, topics)?;
+    if key.is_empty() || key.len() > 1024 {
+        return None;
+    }
+    Some(Front { topic, key, rest })
+}
+
+// The time at the end of a line, 0 where none is given.
+fn read_end(bytes: &[u8]) -> Option<u64>
+    ensures { IfSome result (λ n. IsEnd bytes.now n) }
+{
+    if bytes == b"}".as_slice() {
+        return Some(0);
+    }
+    let (time, rest) = split_digits(after(bytes, b",\"ts\":")?)?;
+    if time <= MOST_TIME && rest == b"}".as_slice() {
+        Some(time)
+    } else {
+        None
+    }
+}
+
+fn end_record(
+    alloc: Global,
+    front: Front<'_>,
+    value: Option<Blob>,
+    rest: &[u8],
+) -> Result<Option<Input>, AllocError>
+    ensures { IfOk result (λ o. IfSome o (λ i.
+        EndsLine front.entry.topic front.entry.key.now value rest.now i)) }
+{
+    let Some(ts) = read_end(rest) else {
+        return Ok(None);
+    };
+    let key = Some(Blob::from_slice(alloc, front.key)?);
+    Ok(Some(Input {
+        topic: front.topic,
+        rec: Rec { key, value, ts },
+    }))
+}
+
+fn read_row_record(
+    alloc: Global,
+    topics: &[Name],
+    line: &[u8],
+    front: Front<'_>,
+) -> Result<Option<Input>, AllocError>
+    requires { IsFront topics.now line.now front.topic front.key.now front.rest.now }
+    ensures { IfOk result (λ o. IfSome o (λ i. Says topics.now line.now i)) }
+{
+    let Some(members) = behind(front.rest, b'{') else {
+        return Ok(None);
+    };
+    let mut fields = Vec::with_capacity(alloc, 4)?;
+    let Some(rest) = take_members(alloc, &mut fields, members)? else {
+        return Ok(None);
+    };
+    let Some(row) = Row::from_rising(fields) else {
+        return Ok(None);
+    };
+    let value = encode(alloc, &row)?;
+    end_record(alloc, front, Some(value), rest)
+}
+
+/// The record of a plain line: the line is the text of a JSON value, of which `read_input` gives this record. `None`: the line isn't plain, or
+/// has a fault; it is to be read as JSON. Keys and texts are copied. `Err` only where memory ran out.
+pub fn read_plain(alloc: Global, topics: &[Name], line: &[u8]) -> Result<Option<Input>, AllocError>
+    ensures { IfOk result (λ o. IfSome o (λ i. Says topics.now line.now i)) }
+{
+    let Some(front) = split_front(topics, line) else {
+        return Ok(None);
+    };
+    match after(front.rest, b"null") {
+        Some(rest) => end_record(alloc, front, None, rest),
+        None => read_row_record(alloc, topics, line, front),
+    }
+}
