@@ -28,8 +28,8 @@ an argument, its result or its state changed. `tests/plant CRATE` does so over l
 judged: the search met its limit. Not tried: constructors and functions whose values may not be let go, which can't be judged at all, and
 places where time was up. A body that means the same as the one that stands isn't counted. The commit is that of the tree that was planted;
 with `told`, of an older row, the one that told of it."""
-HAND_HEAD = """Each changes a line or two of one crate, and is named in words. The gate tries those of `crates/CRATE/must-fail/`, and
-`tests/wrong-bodies/run CRATE` those of `tests/wrong-bodies/CRATE/` (with `--all` the gate's too). The goals are those that the prover didn't
+HAND_HEAD = """Each changes a line or two of one crate, and is named in words. The check tries those of `crates/*/must-fail/`, and
+`tests/wrong-bodies/run CRATE` those of `tests/wrong-bodies/` (with `--all` the check's too). The goals are those that the prover didn't
 prove when the script tried it last."""
 
 
@@ -138,9 +138,9 @@ def hand_part():
                 last = [goals_shown(row), row["commit"]] if row else ["not tried since it is kept", ""]
                 lines.append(f"| `{crate}` | {path.stem.replace('_', ' ')} | {place} | {' | '.join(last)} |")
     sums = [f"{counts[outcome, ''] + counts[outcome, 'yes']} {outcome}" for outcome in ("refused", "failed", "not tried")]
-    gate = sum(count for (_, place), count in counts.items() if place)
+    checked = sum(count for (_, place), count in counts.items() if place)
     limits = sum(map(is_by_limit, tried.values()))
-    whole = f"{sum(counts.values())} wrong bodies, {gate} of them in the gate: {', '.join(sums)}; {limits} refused only where a search met its limit."
+    whole = f"{sum(counts.values())} wrong bodies, {checked} of them in the check: {', '.join(sums)}; {limits} refused only where a search met its limit."
     return ["", "## Written by hand", "", paragraph(HAND_HEAD), "", whole, "", *lines]
 
 
