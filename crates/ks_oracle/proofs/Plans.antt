@@ -111,10 +111,10 @@ kind_is ts ks (TableOf t) h = refl
 kind_is ts ks (FilterOf f x) h = either (is_stream (known_at ks f).kind) (FilterOf f x) (StreamFilter (node_number ks f) x) (TableFilter (node_number ks f) x) refl refl
 kind_is ts ks (MapOf f s) h = either (is_stream (known_at ks f).kind) (MapOf f s) (StreamMap (node_number ks f) s) (TableMap (node_number ks f) s) refl refl
 kind_is ts ks (KeyOf f k) h = refl
-kind_is ts ks (CountOf f by) h = either (is_stream (known_at ks f).kind) (CountOf f by) (StreamAggregate (node_number ks f) by None (is_some by || (known_at ks f).with_key_of)) (TableAggregate (node_number ks f) (unwrap_or by []) None) refl refl
-kind_is ts ks (SumOf f by field) h = either (is_stream (known_at ks f).kind) (SumOf f by field) (StreamAggregate (node_number ks f) by (Some field) (is_some by || (known_at ks f).with_key_of)) (TableAggregate (node_number ks f) (unwrap_or by []) (Some field)) refl refl
+kind_is ts ks (CountOf f by) h = either (is_stream (known_at ks f).kind) (CountOf f by) (StreamAggregate (node_number ks f) by None (is_some by || (known_at ks f).rekeyed)) (TableAggregate (node_number ks f) (unwrap_or by []) None) refl refl
+kind_is ts ks (SumOf f by field) h = either (is_stream (known_at ks f).kind) (SumOf f by field) (StreamAggregate (node_number ks f) by (Some field) (is_some by || (known_at ks f).rekeyed)) (TableAggregate (node_number ks f) (unwrap_or by []) (Some field)) refl refl
 kind_is ts ks (WindowedOf f by size advance grace) h =
-    ap (λ (w : Option Window). option_map (λ (g : Option Name × Window). Windowed (node_number ks f) g.0 g.1 (is_some by || (known_at ks f).with_key_of)) (option_map (with_by by) w)) (good_window size advance grace h)
+    ap (λ (w : Option Window). option_map (λ (g : Option Name × Window). Windowed (node_number ks f) g.0 g.1 (is_some by || (known_at ks f).rekeyed)) (option_map (with_by by) w)) (good_window size advance grace h)
 kind_is ts ks (JoinOf l r kind s) h = refl
 kind_is ts ks (FkJoinOf l r fk kind s) h = refl
 
@@ -134,7 +134,7 @@ all_kinds : (ts : List (Name × ℤ)) (ks : List Known) (ns : List NodeView) →
 all_kinds ts ks [] = sym (append-nil (kinds_of ks))
 all_kinds ts ks (n ∷ ns) =
     all_kinds ts (learn ts ks n) ns
-    ∙ (ap (λ (l : List Kind). l ++ rest_kinds ts (learn ts ks n) ns) (kinds-push ks (record { name = n.name; kind = (known_of ts ks n.op).0; with_key_of = (known_of ts ks n.op).1 }))
+    ∙ (ap (λ (l : List Kind). l ++ rest_kinds ts (learn ts ks n) ns) (kinds-push ks (record { name = n.name; kind = (known_of ts ks n.op).0; rekeyed = (known_of ts ks n.op).1 }))
     ∙ append_assoc (kinds_of ks) ((known_of ts ks n.op).0 ∷ []) (rest_kinds ts (learn ts ks n) ns))
 
 get_end : (xs : List Kind) (x : Kind) (ys : List Kind) → get_or (xs ++ x ∷ ys) (length xs) no_kind ≡ x
@@ -145,7 +145,7 @@ length_known : (ts : List (Name × ℤ)) (ks : List Known) (ns : List NodeView) 
 length_known ts ks [] = omega arith
 length_known ts ks (n ∷ ns) =
     let more = length_known ts (learn ts ks n) ns in
-    let one = ap (λ (l : List Kind). length l) (kinds-push ks (record { name = n.name; kind = (known_of ts ks n.op).0; with_key_of = (known_of ts ks n.op).1 })) in
+    let one = ap (λ (l : List Kind). length l) (kinds-push ks (record { name = n.name; kind = (known_of ts ks n.op).0; rekeyed = (known_of ts ks n.op).1 })) in
     omega (arith, more, one, length-append (kinds_of ks) ((known_of ts ks n.op).0 ∷ []))
 
 module _ (d : DraftView) where
@@ -222,7 +222,7 @@ all_names : (ts : List (Name × ℤ)) (ks : List Known) (ns : List NodeView) →
 all_names ts ks [] = sym (append-nil (known_names ks))
 all_names ts ks (n ∷ ns) =
     all_names ts (learn ts ks n) ns
-    ∙ (ap (λ (l : List Name). l ++ view_names ns) (names-push ks (record { name = n.name; kind = (known_of ts ks n.op).0; with_key_of = (known_of ts ks n.op).1 }))
+    ∙ (ap (λ (l : List Name). l ++ view_names ns) (names-push ks (record { name = n.name; kind = (known_of ts ks n.op).0; rekeyed = (known_of ts ks n.op).1 }))
     ∙ append_assoc (known_names ks) (n.name ∷ []) (view_names ns))
 
 there_is : (ns : List Node) (name : Name) → has_name (names_of ns) name ≡ true → (node : Node) × (slice_get ns (name_place (names_of ns) name) ≡ Some node)

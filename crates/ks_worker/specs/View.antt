@@ -10,11 +10,11 @@ abbrev pub uncommitted_by : List Task → ℕ
 uncommitted_by [] = 0
 uncommitted_by (t ∷ ts) = uncommitted t + uncommitted_by ts
 
-pub record IsShown {W G : Type 0} (worker : Worker W G) (feeding : Bool) (view : TurnView) : Type 0 where
+pub record IsShown {W G : Type 0} (worker : Worker W G) (fed : Bool) (view : TurnView) : Type 0 where
   pub number : view.worker ≡ worker.state.member.number
   pub turn : view.turn ≡ worker.turn
   pub tasks : view.tasks ≡ min (length worker.state.tasks.items) (2 ^ 32 - 1)
   pub dirty : view.dirty ≡ min (uncommitted_by worker.state.tasks.items) (2 ^ 64 - 1)
   pub dry : view.dry ≡ worker.dry
   pub waiting : view.waiting ≡ worker.waiting
-  pub feeding : view.feeding ≡ feeding
+  pub feeding : view.feeding ≡ fed

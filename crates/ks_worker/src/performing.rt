@@ -39,7 +39,11 @@ impl<W: Work, G: Gate> Worker<W, G> {
             self.old.state self.new.state) }
     {
         let moved = work::<H, R, W, G>(rt, alloc, topology, shared, &mut self.state, pick)?;
-        self.dry = if moved { 0 } else { self.dry.saturating_add(1) };
+        if moved {
+            self.dry = 0;
+        } else {
+            self.dry = self.dry.saturating_add(1);
+        }
         Ok(())
     }
 
