@@ -24,7 +24,8 @@ class Told(NamedTuple):
 STATUSES = {
     0: (
         "Settled",
-        "The job ran to its end: each table is the topology's query over all records, none lost and none counted twice.",
+        "The job ran to its end. `settled` says that each table is the topology's query over all records, none lost and none counted twice; "
+        "`./streams --version` tells whether the program that says so is proved.",
         "",
     ),
     1: (

@@ -26,6 +26,8 @@ def read_file(path):
     """The bytes of a file; of standard input for `-`."""
     try:
         if path == "-":
+            if sys.stdin.isatty():
+                print("streams: reading from the terminal, end it with Ctrl-D", file=sys.stderr)
             return sys.stdin.buffer.read()
         with open(path, "rb") as file:
             return file.read()

@@ -10,7 +10,7 @@ committed; those of other transactions are lost and counted apart. So in and los
 
 from collections import Counter
 
-from journal_lines import CALLER, drain_start
+from journal_lines import drain_start
 
 # How a transaction ended: decided either way; aborted since the producer's epoch was ended, by its own `init` or by `expire`; not at all.
 COMMITTED, ABORTED, ENDED, OPEN = "committed", "aborted", "ended", "open"

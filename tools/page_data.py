@@ -15,7 +15,7 @@ from typing import NamedTuple
 from decode import escaped
 from journal_lines import ARGUMENTS, CALLER, counted
 from journal_sums import COMMITTED, ENDED, OPEN, TASK_COLUMNS, COLUMNS, is_idle, task_order
-from journal_text import Wording, places_text
+from journal_text import Wording
 
 # Bytes of JSON that a page has room for: words of the journal, rows of tables, places of tasks.
 LINES_ROOM, TABLES_ROOM, PLACES_ROOM = 15_000_000, 7_000_000, 1_000_000

@@ -135,9 +135,7 @@ class Silent:
     # Expressions.
 
     def projected(self, node, sides):
-        """What the rows of a `set` may have; None where too little is known."""
-        if any(rows.fields is None for rows, _ in sides.values()):
-            sides = {side: (rows, name) for side, (rows, name) in sides.items()}
+        """What the rows of a `set` may have; None where nothing is known of them."""
         fields = {}
         for name, value in self.members["set"].last().items():
             seen = self.expression(value, sides, f"set.{name}")

@@ -1,8 +1,8 @@
 // The drawing of the lanes on a canvas: the lines from `from` to `to`, over its whole width.
 
 const LANE = 58, AXIS = 24;
-// Least distance of two signs of one kind, and of two numbers below.
-const SIGN_GAP = 7, NUMBER_GAP = 90;
+// Least distance of two signs of one kind, of a sign's middle from an edge, and of two numbers below.
+const SIGN_GAP = 7, SIGN_EDGE = 5, NUMBER_GAP = 90;
 
 class LaneDrawing {
   constructor(canvas, source) {
@@ -96,7 +96,8 @@ class LaneDrawing {
   drawEvents(lane, y) {
     const ends = {}, [first, end] = this.shown(lane);
     for (let at = first; at < end; at++) {
-      const mark = lane.marks[at], [shape, color] = SIGNS[mark], x = this.x(lane.events[at] + .5);
+      const mark = lane.marks[at], [shape, color] = SIGNS[mark];
+      const x = Math.max(SIGN_EDGE, Math.min(this.x(lane.events[at] + .5), this.width - SIGN_EDGE));
       if (x - (ends[mark] ?? -SIGN_GAP) < SIGN_GAP) continue;
       ends[mark] = x;
       drawSign(this.pen, shape, this.color(color), x, y + 43, y);
