@@ -9,7 +9,7 @@ from job_check import check_job
 SHOWN_OF_A_KIND = 10
 ABOUT = """Checks a job without running it: tells every fault with line, column, node and member, the value, why, and what to do, and warns of
 what is silent when it runs (a field that no record has, a text in a sum, records without a key, times in seconds ..)."""
-AFTER = """JOB is a file, or - for standard input. In brackets stands the fault as the program prints it; the first one is what the program would tell.
+AFTER = """JOB is a file, or - for standard input. In brackets stands the fault as the program prints it; of these it would tell the first.
 Ends with 0 (warnings too), 2 where there is a fault, 3 where there are warnings alone and --strict, 64 where the words are wrong."""
 
 

@@ -38,9 +38,11 @@ def parser():
     words.add_argument("--decimal-comma", action="store_true", help="amounts have a comma, as in 12,50")
     words.add_argument("--text", metavar="COLUMN", action="append", default=[], help="every cell is a text, as of article numbers")
     words.add_argument("--ts", metavar="COLUMN", action="append", default=[], help="the record's time, and no field")
-    words.add_argument("--ts-unit", choices=("ms", "s", "iso"), default="ms", help="times are milliseconds, seconds, or ISO 8601 (without a zone: UTC)")
+    unit = "times are milliseconds, seconds, or ISO 8601 (without a zone: UTC)"
+    words.add_argument("--ts-unit", choices=("ms", "s", "iso"), default="ms", help=unit)
     words.add_argument("--delimiter", metavar="C", default=",", help="what stands between cells: a character, or tab")
-    words.add_argument("--encoding", metavar="NAME", default="utf-8-sig", help="of the CSV files: utf-8 (with or without a byte order mark), latin-1 ..")
+    encoding = "of the CSV files: utf-8 (with or without a byte order mark), latin-1 .."
+    words.add_argument("--encoding", metavar="NAME", default="utf-8-sig", help=encoding)
     words.add_argument("--ragged", action="store_true", help="surplus cells are dropped and missing ones are empty, and both are counted")
     return words
 

@@ -117,7 +117,8 @@ class RecordLine:
             return
         todo = "a key is a text of 1 to 1,024 bytes; leave it out, or write null, where there is none"
         if inner.kind == "number":
-            self.out.add(bad_shape("key"), inner.at, "key", "a number is no key", f'write it in quotes, "key":"{self.out.line.spelled(inner)}"', inner)
+            todo = f'write it in quotes, "key":"{self.out.line.spelled(inner)}"'
+            self.out.add(bad_shape("key"), inner.at, "key", "a number is no key", todo, inner)
         elif inner.kind != "text":
             self.out.add(bad_shape("key"), inner.at, "key", f"it has to be a text, not {kind_of(inner)}", todo, inner)
         elif not 1 <= len(inner.value.encode()) <= MOST_KEY_BYTES:
@@ -157,8 +158,10 @@ class RecordLine:
             todo = "a row has whole numbers and texts alone"
             if value.kind == "truth":
                 todo += ': write 1 and 0, or "true" and "false"'
-            elif value.kind in ("array", "object"):
-                todo += f': make fields of its parts, such as "{name}_0"' if value.kind == "array" else f': make fields of its members, such as "{name}_part"'
+            elif value.kind == "array":
+                todo += f': make fields of its parts, such as "{name}_0"'
+            elif value.kind == "object":
+                todo += f': make fields of its members, such as "{name}_part"'
             self.out.add(bad_shape(name), value.at, member, f"a field can't be {kind_of(value)}", todo, value)
 
     def number(self, name, member, value):

@@ -109,7 +109,8 @@ class Silent:
         if seen.text_line is None:
             return self.warn("field", "it is a text, and a text counts as 0", "sum a number", self.members["field"])
         total = seen.numbers + seen.texts
-        why = f"it is a text in {seen.texts:,} of {plural(total, 'row')}, first in line {seen.text_line} ({as_text(seen.text)}), and a text counts as 0"
+        first = f"first in line {seen.text_line} ({as_text(seen.text)})"
+        why = f"it is a text in {seen.texts:,} of {plural(total, 'row')}, {first}, and a text counts as 0"
         todo = f'write whole numbers without quotes, "{name}":1250; count decimals in hundredths (cents)'
         return self.warn("field", why, todo, self.members["field"])
 

@@ -145,7 +145,8 @@ class TopologyLine:
         if value.kind != "number":
             self.out.add(bad_shape(fault_member), value.at, member, f"it has to be a number, not {kind_of(value)}", todo, value)
         elif not value.is_integer:
-            self.out.add(bad_number(fault_member), value.at, member, "it has to be a whole number of 64 bits, written without point and exponent", todo, value)
+            why = "it has to be a whole number of 64 bits, written without point and exponent"
+            self.out.add(bad_number(fault_member), value.at, member, why, todo, value)
         else:
             return value.value
         return None
