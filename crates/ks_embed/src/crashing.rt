@@ -1,16 +1,22 @@
 //! A gate of one's own, which crashes its worker again and again.
-ghost use Rattle.std.specs.Prelude.{◌≡◌, ◌+◌, ℕ, IfOk, length};
+ghost use Rattle.std.specs.Prelude.{◌≡◌, ◌+◌, ℕ};
 ghost use Rattle.ks_edge.specs.Counts.{stops_of, calls_of, one_if, HasRoom};
 
 use ks_edge::{Act, Gate, TurnView};
-use std::alloc::{AllocError, Global};
 
 /// Crashes its worker at each tenth turn. Else it lets it work, commit once it finds nothing more, and write the markers that wait; it
 /// stops it after 16 looks that moved nothing.
 #[derive(Drop)]
-struct CrashingGate {
+pub struct CrashingGate {
     asked: u64,
     stops: u64,
+}
+
+impl CrashingGate {
+    /// A gate as after a reset.
+    pub fn new() -> Self {
+        CrashingGate { asked: 0, stops: 0 }
+    }
 }
 
 impl Gate for CrashingGate {
@@ -47,15 +53,4 @@ impl Gate for CrashingGate {
     fn cut(&mut self, _step: u32) -> bool {
         false
     }
-}
-
-/// Sixteen gates, which is what `run_job` wants: one for each worker that there may be.
-pub fn crashing_gates(alloc: Global) -> Result<Vec<Box<dyn Gate + Send>>, AllocError>
-    ensures { IfOk result (λ gates. length gates.items ≡ 16) }
-{
-    let mut gates: Vec<Box<dyn Gate + Send>> = Vec::new(alloc);
-    for _ in 0..16usize {
-        gates.push(Box::new(alloc, CrashingGate { asked: 0, stops: 0 })?)?;
-    }
-    Ok(gates)
 }

@@ -9,8 +9,8 @@ ghost use Rattle.ks_run.specs.Journals.{IsSettledRun};
 
 mod crashing;
 
-use crashing::crashing_gates;
-use ks_edge::{MemSink, MemSource};
+use crashing::CrashingGate;
+use ks_edge::{Gate, MemSink, MemSource};
 use ks_hash::Murmur3;
 use ks_history::{Entry, Reply, Request};
 use ks_run::{Ended, run_job};
@@ -47,13 +47,17 @@ fn run_bytes<R: Threads + Wait + Sync>(
         × IsSettledRun (rules_of murmur3_of) false (Some job.now) text ended.journal
         × Appends (Some out.old.held) (Some out.new.held) text)) }
 {
+    // Sixteen gates, which is what `run_job` wants: one for each worker that there may be.
+    let mut gates: Vec<Box<dyn Gate + Send>> = Vec::new(alloc);
+    for _ in 0..16usize {
+        gates.push(Box::new(alloc, CrashingGate::new())?)?;
+    }
     // At most 1,000 turns: so the job is read whole before the worker begins, and each run is like the others.
     let mut settings = Settings::usual();
     settings.stop = Some(1_000);
     // All bytes at once, and no call that fails.
     let bytes = Vec::from_slice(alloc, job)?;
     let mut input = MemSource::new(bytes, Vec::new(alloc), Vec::new(alloc));
-    let gates = crashing_gates(alloc)?;
     Ok(run_job::<Murmur3, R, MemSource, MemSink>(rt, alloc, &settings, &mut input, out, gates))
 }
 

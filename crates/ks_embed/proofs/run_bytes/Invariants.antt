@@ -1,5 +1,5 @@
 use Rattle.std.proofs.Common.{◌≡◌, length}
-use Rattle.ks_embed.proofs.crashing.crashing_gates.Given as goal
+use Rattle.ks_embed.proofs.run_bytes.Given as goal
 
 -- one gate for each turn so far
 abbrev pub invariant-loop : goal.invariant-loop
