@@ -103,6 +103,8 @@ def library_words(crate, clones, sources=()):
 
 def prover_words(verb, crate, clones, sources=(), jobs="2"):
     """The command that checks (or, by the verb build, builds) a crate from its folder, without what the caller has to add."""
-    command = [kit() / "bin/rattle", verb, "--crate-name", crate, "src/lib.rt", *library_words(crate, clones, sources)]
+    is_program = (ROOT / "crates" / crate / "src/main.rt").exists()
+    root = "src/main.rt" if is_program else "src/lib.rt"
+    command = [kit() / "bin/rattle", verb, "--crate-name", crate, root, *library_words(crate, clones, sources)]
     command += ["--antt-project", kit() / "rattle/logic/antt-project.json", "--logic-built", kit() / "logic_built"]
     return [str(word) for word in [*command, "--links", f"{crate}=", "--jobs", jobs]]
