@@ -32,6 +32,9 @@ HAND_HEAD = """Each changes a line or two of one crate, and is named in words. T
 `tests/wrong-bodies/run CRATE` those of `tests/wrong-bodies/` (with `--all` the check's too). The goals are those that the prover didn't
 prove when the script tried it last."""
 
+# How many letters of two goals stand side by side in a row of the page.
+MOST_GOALS = 50
+
 
 def read_rows(path):
     """The lines of a file of data; none where there is no such file."""
@@ -122,14 +125,15 @@ def goals_shown(row):
     told = [f"`{goal.partition(' (')[0]}`" for goal in row["told"]]
     if row["outcome"] != "refused":
         return "**FAILED**: " + row["told"][0].replace("|", "/")[:60]
-    more = f" and {len(told) - 2} more" if len(told) > 2 else ""
-    return ", ".join(told[:2]) + more + " (a search met its limit)" * is_by_limit(row)
+    shown = told[:2] if sum(map(len, told[:2])) <= MOST_GOALS else told[:1]
+    more = f" and {len(told) - len(shown)} more" if len(told) > len(shown) else ""
+    return ", ".join(shown) + more + " (a search met its limit)" * is_by_limit(row)
 
 
 def hand_part():
     """The wrong bodies that were written by hand: a line for each, with what refused it when it was tried last."""
     tried = {(row["crate"], row["edit"]): row for row in read_rows(TRIED)}
-    lines, counts = ["| Crate | Wrong body | Gate | Refused by | Commit |", "|---|---|---|---|---|"], collections.Counter()
+    lines, counts = ["| Crate | Wrong body | In the check | Refused by | Commit |", "|---|---|---|---|---|"], collections.Counter()
     for crate in sorted(tree.read_crates()):
         for folder in (tree.ROOT / "crates" / crate / "must-fail", tree.ROOT / "tests/wrong-bodies" / crate):
             for path in sorted(folder.glob("*.edit")):
