@@ -8,6 +8,7 @@ use ks_row::TaskId;
 // No client's instance.
 const NO_CLIENT: u16 = 256;
 
+/// Whether a task is one of these.
 pub fn is_known(tasks: &[TaskId], task: TaskId) -> bool
     ensures { result ≡ has_task task tasks.now }
 {
@@ -19,6 +20,7 @@ pub fn is_known(tasks: &[TaskId], task: TaskId) -> bool
     false
 }
 
+/// Whether a worker is one of these.
 pub fn is_worker(workers: &[u8], worker: u8) -> bool
     ensures { result ≡ has_worker worker workers.now }
 {

@@ -8,6 +8,7 @@ use Rattle.std.proofs.lemmas.Bool.Decides.{Decides-eqb}
 use Rattle.std.proofs.lemmas.Option.{slice_get_within, get_or_from_slice_get}
 use Rattle.ks_expr.specs.declared.terms.JoinKind.{JoinKind}
 use Rattle.ks_expr.specs.Terms.{Set}
+use Rattle.ks_expr.specs.declared.terms.Fk.{Fk}
 use Rattle.ks_plan.specs.Drafts.{DraftView}
 use Rattle.ks_plan.specs.Faults.{fault_of}
 use Rattle.ks_plan.specs.Plan.{Plan, Kind, plan_of}
@@ -66,7 +67,7 @@ module _ (p : Plan) (fits : Fits p) where
   own_low : (n : ℕ) (k : Kind) → slice_get p.kinds n ≡ Some k → sub_of p n < sub_count p
   own_low n k e = low_node n (slice_get_within p.kinds n k e)
 
-  right_low : (n l r : ℕ) (fk : List ℕ) (kind : JoinKind) (s : Set) → slice_get p.kinds n ≡ Some (ForeignKeyJoin l r fk kind s) → r < n → sub_of p (right_of (kind_at p n)) < sub_count p
+  right_low : (n l r : ℕ) (fk : Fk) (kind : JoinKind) (s : Set) → slice_get p.kinds n ≡ Some (ForeignKeyJoin l r fk kind s) → r < n → sub_of p (right_of (kind_at p n)) < sub_count p
   right_low n l r fk kind s e lt =
       subst (λ k. sub_of p (right_of k) < sub_count p) (sym (kind-is p.kinds n (ForeignKeyJoin l r fk kind s) e)) (low_node r (omega (arith, slice_get_within p.kinds n (ForeignKeyJoin l r fk kind s) e)))
 

@@ -42,6 +42,7 @@ impl Broker {
         })
     }
 
+    /// Appends a record of no transaction to a partition, and answers its offset. After want of memory nothing has changed.
     pub fn produce(&mut self, alloc: Global, part: PartId, rec: Rec) -> Result<u64, AllocError>
         ensures ok { IfOk result (λ n. Moves self.old self.new (Produce part rec) (Number n)) }
         ensures err { OnErr result (self.new ≡ self.old) }
@@ -50,6 +51,8 @@ impl Broker {
         Ok(offset)
     }
 
+    /// Begins a further epoch of a worker's producer and answers it; an undecided transaction of it is aborted. Where the epochs are at
+    /// an end the answer is want of memory, and nothing has changed.
     pub fn init(&mut self, alloc: Global, w: u8) -> Result<u64, AllocError>
         requires { w ≤ 16 }
         ensures ok { IfOk result (λ n. Moves self.old self.new (Init w) (Number n)) }
@@ -62,6 +65,7 @@ impl Broker {
         Ok(self.txns.init(w))
     }
 
+    /// Adds a partition to a worker's transaction, or refuses it. After want of memory nothing has changed.
     pub fn add(
         &mut self,
         alloc: Global,
@@ -77,6 +81,8 @@ impl Broker {
         Ok(outcome)
     }
 
+    /// Appends a batch of a worker's transaction to a partition and answers the offset of its first record, or refuses it: for its
+    /// epoch, a partition that wasn't added, a number out of sequence. After want of memory nothing has changed.
     pub fn append(
         &mut self,
         alloc: Global,
@@ -130,6 +136,8 @@ impl Broker {
         }
     }
 
+    /// Gives a worker's transaction the offsets that a task is to have once it commits, or refuses them. After want of memory nothing
+    /// has changed.
     pub fn send_offsets(
         &mut self,
         alloc: Global,
@@ -153,6 +161,7 @@ impl Broker {
         }
     }
 
+    /// Commits or aborts a worker's transaction, from which point its markers wait to be written; or refuses it. Takes no memory.
     pub fn decide(&mut self, alloc: Global, w: u8, epoch: u64, commit: bool) -> Result<(), Refused>
         requires { w ≤ 16 }
         ensures { Moves self.old self.new (Decide w epoch commit) (done_or result) }
@@ -164,6 +173,8 @@ impl Broker {
         Ok(())
     }
 
+    /// Writes the next waiting marker of a worker's transaction and answers its partition and whether it commits; none where none
+    /// waits. After want of memory nothing has changed.
     pub fn mark_next(&mut self, alloc: Global, w: u8) -> Result<Option<(PartId, bool)>, AllocError>
         requires { w ≤ 16 }
         ensures ok { IfOk result (λ m. Moves self.old self.new (MarkNext w) (Marked m)) }
@@ -178,6 +189,8 @@ impl Broker {
         Ok(Some((marker.part, marker.commit)))
     }
 
+    /// Makes a worker a member of the group and answers the generation that begins. Where the generations are at an end the answer is
+    /// want of memory, and nothing has changed.
     pub fn join(&mut self, alloc: Global, w: u8) -> Result<u64, AllocError>
         ensures ok { IfOk result (λ n. Moves self.old self.new (Join w) (Number n)) }
         ensures err { OnErr result (self.new ≡ self.old) }
@@ -256,6 +269,7 @@ impl Broker {
         Ok(self.group.probe(generation))
     }
 
+    /// Parks a task's stores at an instance. After want of memory nothing has changed.
     pub fn park(&mut self, instance: u8, task: TaskId) -> Result<(), AllocError>
         ensures ok { OnOk result (Moves self.old self.new (Park instance task) Done) }
         ensures err { OnErr result (self.new ≡ self.old) }

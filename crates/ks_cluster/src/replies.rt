@@ -5,6 +5,7 @@ ghost use Rattle.ks_cluster.specs.Replies.{done_or, number_or, truth_or};
 use ks_history::Reply;
 use ks_row::Refused;
 
+/// The reply to a request that answers nothing, or its refusal.
 pub fn done(outcome: &Result<(), Refused>) -> Reply
     ensures { result ≡ done_or outcome.now }
 {
@@ -14,6 +15,7 @@ pub fn done(outcome: &Result<(), Refused>) -> Reply
     }
 }
 
+/// The reply to a request that answers a number, or its refusal.
 pub fn numbered(outcome: &Result<u64, Refused>) -> Reply
     ensures { result ≡ number_or outcome.now }
 {
@@ -23,6 +25,7 @@ pub fn numbered(outcome: &Result<u64, Refused>) -> Reply
     }
 }
 
+/// The reply to a request that answers yes or no, or its refusal.
 pub fn told(outcome: &Result<bool, Refused>) -> Reply
     ensures { result ≡ truth_or outcome.now }
 {

@@ -16,7 +16,8 @@ use Rattle.ks_row.specs.Reading.{◌>>=◌}
 use Rattle.ks_row.proofs.Fields.{wide32, bytes_again, number_again}
 use Rattle.ks_row.proofs.Spelled.{key_again}
 use Rattle.ks_wire.specs.Spelling.{long_key, subscription_key}
-use Rattle.ks_wire.specs.Reading.{long_key_at, subscription_key_from, hash_from}
+use Rattle.ks_wire.specs.Reading.{long_key_at, subscription_key_from, subscriber_from}
+use Rattle.ks_wire.specs.declared.values.Subscriber.{Subscriber}
 use Rattle.ks_wire.proofs.Wired.{subscription_key_codec}
 use Rattle.ks_expr.specs.Eval.{same_bytes}
 use Rattle.ks_def_runs.specs.FinMap as fin
@@ -45,11 +46,11 @@ long_key_again key rest k =
     ap long_key_at regrouped ∙ rw (number_again w32 (2 ^ 32) wide32 (length key) (key ++ rest) lt, bytes_again key rest, key_again key k) refl
 
 -- ---- the greatest key comes last
-AllUnder : Key → List (Key × ℕ) → Type 0
+AllUnder : Key → List (Key × Subscriber) → Type 0
 AllUnder l [] = Unit {0}
 AllUnder l (x ∷ xs) = (by_bytes l x.0 ≡ Greater) × AllUnder l xs
 
-AllUnder-last : (l : Key) (xs : List (Key × ℕ)) (x : Key × ℕ) → AllUnder l xs → by_bytes l x.0 ≡ Greater → AllUnder l (xs ++ x ∷ [])
+AllUnder-last : (l : Key) (xs : List (Key × Subscriber)) (x : Key × Subscriber) → AllUnder l xs → by_bytes l x.0 ≡ Greater → AllUnder l (xs ++ x ∷ [])
 unfolding AllUnder
 AllUnder-last l [] x h g = (g, tt)
 AllUnder-last l (y ∷ ys) x h g = (h.0, AllUnder-last l ys x h.1 g)
@@ -58,7 +59,7 @@ under_nothing : (l : Key) → AllUnder l []
 unfolding AllUnder
 under_nothing l = tt
 
-put_last : (l : Key) (h : ℕ) (xs : List (Key × ℕ)) → AllUnder l xs → put by_bytes l h xs ≡ xs ++ (l, h) ∷ []
+put_last : (l : Key) (h : Subscriber) (xs : List (Key × Subscriber)) → AllUnder l xs → put by_bytes l h xs ≡ xs ++ (l, h) ∷ []
 unfolding AllUnder
 put_last l h [] under = refl
 put_last l h (x ∷ xs) under = ap (λ o. by_order o ((l, h) ∷ x ∷ xs) ((x.0, h) ∷ xs) (x ∷ put by_bytes l h xs)) under.0 ∙ ap (λ ys. x ∷ ys) (put_last l h xs under.1)
@@ -73,12 +74,12 @@ module _ (foreign : Key) (key : IsKey foreign) where
   readk bytes = left_at foreign (subscription_key_from bytes)
 
   -- both parts, where both are there
-  abbrev pick : Option Key → Option ℕ → Option (Key × ℕ)
+  abbrev pick : Option Key → Option Subscriber → Option (Key × Subscriber)
   pick (Some l) (Some h) = Some (l, h)
   pick _ _ = None
 
-  abbrev picked : List ℕ × List ℕ → Option (Key × ℕ)
-  picked e = pick (readk e.0) (hash_from e.1)
+  abbrev picked : List ℕ × List ℕ → Option (Key × Subscriber)
+  picked e = pick (readk e.0) (subscriber_from e.1)
 
   -- what is read under the key is spelled under it
   left-is : (d : Option (Key × Key)) (l : Key) → left_at foreign d ≡ Some l → d ≡ Some (foreign, l)
@@ -99,7 +100,7 @@ module _ (foreign : Key) (key : IsKey foreign) where
   with_foreign None = None
   with_foreign (Some l) = Some (foreign, l)
 
-  abbrev with_hash : Option ℕ → Key × Key → Option (Key × ℕ)
+  abbrev with_hash : Option Subscriber → Key × Key → Option (Key × Subscriber)
   with_hash None k = None
   with_hash (Some h) k = Some (k.1, h)
 
@@ -112,12 +113,12 @@ module _ (foreign : Key) (key : IsKey foreign) where
       by None = refl
       by (Some l) = refl
 
-  kept_is : (s : Option (Key × Key)) (h : Option ℕ) → (s >>= (λ k. h >>= (λ x. Some (k.1, x)))) ≡ (s >>= with_hash h)
+  kept_is : (s : Option (Key × Key)) (h : Option Subscriber) → (s >>= (λ k. h >>= (λ x. Some (k.1, x)))) ≡ (s >>= with_hash h)
   kept_is None h = refl
   kept_is (Some k) None = refl
   kept_is (Some k) (Some x) = refl
 
-  same_pick : (o : Option Key) (h : Option ℕ) → (with_foreign o >>= with_hash h) ≡ pick (left_at foreign (with_foreign o)) h
+  same_pick : (o : Option Key) (h : Option Subscriber) → (with_foreign o >>= with_hash h) ≡ pick (left_at foreign (with_foreign o)) h
   same_pick None h = refl
   same_pick (Some l) None = ap (λ t. pick (cond t (Some l) None) None) (sym (same_itself foreign))
   same_pick (Some l) (Some x) = ap (λ t. pick (cond t (Some l) None) (Some x)) (sym (same_itself foreign))
@@ -126,10 +127,10 @@ module _ (foreign : Key) (key : IsKey foreign) where
   unfolding kept_in
   kept_there e rest is =
       let read : subscription_key_from e.0 ≡ with_foreign (key_from rest) = ap subscription_key_from is ∙ read_under rest in
-      kept_is (subscription_key_from e.0) (hash_from e.1)
-      ∙ ap (λ (s : Option (Key × Key)). s >>= with_hash (hash_from e.1)) read
-      ∙ same_pick (key_from rest) (hash_from e.1)
-      ∙ ap (λ (s : Option (Key × Key)). pick (left_at foreign s) (hash_from e.1)) (sym read)
+      kept_is (subscription_key_from e.0) (subscriber_from e.1)
+      ∙ ap (λ (s : Option (Key × Key)). s >>= with_hash (subscriber_from e.1)) read
+      ∙ same_pick (key_from rest) (subscriber_from e.1)
+      ∙ ap (λ (s : Option (Key × Key)). pick (left_at foreign s) (subscriber_from e.1)) (sym read)
 
   -- whether a pair stands under the key
   starts : (e : List ℕ × List ℕ) → (starts_with ◌==◌ e.0 (long_key foreign) ≡ true → e.0 ≡ long_key foreign ++ drop (length (long_key foreign)) e.0)
@@ -137,9 +138,9 @@ module _ (foreign : Key) (key : IsKey foreign) where
   starts e = starts_is Decides-eqb e.0 (long_key foreign) (starts_with ◌==◌ e.0 (long_key foreign)) refl
 
   not_picked : (e : List ℕ × List ℕ) → AreBytes (e ∷ []) → starts_with ◌==◌ e.0 (long_key foreign) ≡ false → picked e ≡ None
-  not_picked e bytes apart = by (readk e.0) refl (hash_from e.1)
+  not_picked e bytes apart = by (readk e.0) refl (subscriber_from e.1)
     where
-      by : (o : Option Key) → readk e.0 ≡ o → (h : Option ℕ) → pick o h ≡ None
+      by : (o : Option Key) → readk e.0 ≡ o → (h : Option Subscriber) → pick o h ≡ None
       by None is h = refl
       by (Some l) is h = absurd (true≢false (sym ((starts e).1 l (spelled_under e bytes l is)) ∙ apart))
 
@@ -153,7 +154,7 @@ module _ (foreign : Key) (key : IsKey foreign) where
 
   -- ---- the map that is read in order
   -- the keys so far are under those that are still read
-  Above : List (Key × ℕ) → Pairs → Type 0
+  Above : List (Key × Subscriber) → Pairs → Type 0
   Above xs [] = Unit {0}
   Above xs (e ∷ es) = ((l : Key) → readk e.0 ≡ Some l → AllUnder l xs) × Above xs es
 
@@ -165,7 +166,7 @@ module _ (foreign : Key) (key : IsKey foreign) where
   turned : (a b : List ℕ) → by_bytes a b ≡ Less → by_bytes b a ≡ Greater
   turned a b e = nat_list_cmp_total.antisymm b a ∙ ap ordering_reverse e
 
-  above_more : (e : List ℕ × List ℕ) → AreBytes (e ∷ []) → (l : Key) → readk e.0 ≡ Some l → (h : ℕ) (xs : List (Key × ℕ)) (es : Pairs) → AreBytes es → T (below_all by_bytes e.0 es) → Above xs es → Above (xs ++ (l, h) ∷ []) es
+  above_more : (e : List ℕ × List ℕ) → AreBytes (e ∷ []) → (l : Key) → readk e.0 ≡ Some l → (h : Subscriber) (xs : List (Key × Subscriber)) (es : Pairs) → AreBytes es → T (below_all by_bytes e.0 es) → Above xs es → Above (xs ++ (l, h) ∷ []) es
   unfolding Above
   above_more e own l is h xs [] bytes below above = tt
   above_more e own l is h xs (d ∷ es) bytes below above = (
@@ -191,17 +192,17 @@ module _ (foreign : Key) (key : IsKey foreign) where
   sorted_parts true b p = (tt, p)
   sorted_parts false b p = absurd p
 
-  read_all : (es : Pairs) → AreBytes es → T (is_sorted by_bytes es) → (m : FinMap by_bytes ℕ) → Above (fin.entries m) es →
-      fin.entries (fold (λ m e. with_pair by_bytes m (readk e.0) (hash_from e.1)) m es) ≡ fin.entries m ++ some_of picked es
+  read_all : (es : Pairs) → AreBytes es → T (is_sorted by_bytes es) → (m : FinMap by_bytes Subscriber) → Above (fin.entries m) es →
+      fin.entries (fold (λ m e. with_pair by_bytes m (readk e.0) (subscriber_from e.1)) m es) ≡ fin.entries m ++ some_of picked es
   unfolding Above
   read_all [] bytes sorted m above = sym (append-nil (fin.entries m))
   read_all (e ∷ es) bytes sorted m above =
       let parts = sorted_parts (below_all by_bytes e.0 es) (is_sorted by_bytes es) sorted in
-      by (readk e.0) refl (hash_from e.1) parts.0 (λ w. read_all es bytes.1 parts.1 w)
+      by (readk e.0) refl (subscriber_from e.1) parts.0 (λ w. read_all es bytes.1 parts.1 w)
     where
-      by : (o : Option Key) → readk e.0 ≡ o → (h : Option ℕ) → T (below_all by_bytes e.0 es) →
-          ((w : FinMap by_bytes ℕ) → Above (fin.entries w) es → fin.entries (fold (λ m e. with_pair by_bytes m (readk e.0) (hash_from e.1)) w es) ≡ fin.entries w ++ some_of picked es) →
-          fin.entries (fold (λ m e. with_pair by_bytes m (readk e.0) (hash_from e.1)) (with_pair by_bytes m o h) es) ≡ fin.entries m ++ with_some (pick o h) (some_of picked es)
+      by : (o : Option Key) → readk e.0 ≡ o → (h : Option Subscriber) → T (below_all by_bytes e.0 es) →
+          ((w : FinMap by_bytes Subscriber) → Above (fin.entries w) es → fin.entries (fold (λ m e. with_pair by_bytes m (readk e.0) (subscriber_from e.1)) w es) ≡ fin.entries w ++ some_of picked es) →
+          fin.entries (fold (λ m e. with_pair by_bytes m (readk e.0) (subscriber_from e.1)) (with_pair by_bytes m o h) es) ≡ fin.entries m ++ with_some (pick o h) (some_of picked es)
       by None is h below rest = rest m above.1
       by (Some l) is None below rest = rest m above.1
       by (Some l) is (Some h) below rest =
@@ -209,15 +210,15 @@ module _ (foreign : Key) (key : IsKey foreign) where
           rest (fin.insert m l h) (subst (λ xs. Above xs es) (sym grown) (above_more e (bytes.0, tt) l is h (fin.entries m) es bytes.1 below above.1))
           ∙ ap (λ xs. xs ++ some_of picked es) grown ∙ append_assoc (fin.entries m) ((l, h) ∷ []) (some_of picked es)
 
-  read_from_nothing : (es : Pairs) → AreBytes es → T (is_sorted by_bytes es) → fin.entries (map_from by_bytes readk hash_from es) ≡ some_of picked es
+  read_from_nothing : (es : Pairs) → AreBytes es → T (is_sorted by_bytes es) → fin.entries (map_from by_bytes readk subscriber_from es) ≡ some_of picked es
   unfolding fin.empty fin.entries
   read_from_nothing es bytes sorted = read_all es bytes sorted fin.empty (above_nothing es)
 
-  pub under_key : (m : Store) → AreBytes (fin.entries m) → kept_under foreign m ≡ fin.entries (map_from by_bytes readk hash_from (fin.entries m))
+  pub under_key : (m : Store) → AreBytes (fin.entries m) → kept_under foreign m ≡ fin.entries (map_from by_bytes readk subscriber_from (fin.entries m))
   under_key m bytes = all_picked (fin.entries m) bytes ∙ sym (read_from_nothing (fin.entries m) bytes (fin.entries_sorted m))
 
 pub kept_is_decoded : KeptIsDecoded
 kept_is_decoded p sub stores n own bytes foreign key =
     let m = stores (number_of p (HashChangelog n)) in
     under_key foreign key m bytes
-    ∙ ap (λ c. fin.entries (map_from by_bytes (λ k. left_at foreign (subscription_key_from k)) hash_from (cond c (fin.entries m) []))) (sym own)
+    ∙ ap (λ c. fin.entries (map_from by_bytes (λ k. left_at foreign (subscription_key_from k)) subscriber_from (cond c (fin.entries m) []))) (sym own)

@@ -8,7 +8,7 @@ use Rattle.ks_row.specs.Texts.{IsKey, key_from}
 use Rattle.ks_row.specs.Reading.{◌>>=◌}
 use Rattle.ks_row.proofs.Spelled.{key_takes}
 use Rattle.ks_wire.specs.Spelling.{subscription_key}
-use Rattle.ks_wire.specs.Reading.{hash_from, subscription_key_from}
+use Rattle.ks_wire.specs.Reading.{subscriber_from, subscription_key_from}
 use Rattle.ks_wire.proofs.Wired.{subscription_key_codec}
 use Rattle.ks_expr.specs.Eval.{same_bytes}
 use Rattle.ks_plan.specs.Plan.{is_windowed}
@@ -67,7 +67,7 @@ left-is b (Some x) f e = by (same_bytes b x.0) refl e
         ap (λ y. Some y) (ap₂ (λ y z. (y, z)) (sym first) second)
     by false t g = absurd cc
 
-hashes_alone : (b k : Key) (es : List (List ℕ × List ℕ)) → AreBytes es → Alone by_bytes nat_list_cmp_total bytes_anti (λ c. left_at b (subscription_key_from c)) hash_from k (subscription_key b k) es
+hashes_alone : (b k : Key) (es : List (List ℕ × List ℕ)) → AreBytes es → Alone by_bytes nat_list_cmp_total bytes_anti (λ c. left_at b (subscription_key_from c)) subscriber_from k (subscription_key b k) es
 hashes_alone b k [] h = tt
 hashes_alone b k (e ∷ es) h = (
   λ g read tied.
@@ -97,15 +97,15 @@ stores_are_looked_up p sub stores = record { tables = tables; hashes = hashes; k
         by false false = empty_at k
 
     hashes : (n : ℕ) → AreBytes (fin.entries (stores (number_of p (HashChangelog n)))) → (b k : Key) → IsKey b → IsKey k → fin.get ((store_from p sub stores).hashes n b) k
-        ≡ cond (is_own p sub (HashChangelog n)) (fin.get (stores (number_of p (HashChangelog n))) (subscription_key b k) >>= hash_from) None
+        ≡ cond (is_own p sub (HashChangelog n)) (fin.get (stores (number_of p (HashChangelog n))) (subscription_key b k) >>= subscriber_from) None
     hashes n bytes b k vb vk = by (is_own p sub (HashChangelog n))
       where
         again : left_at b (subscription_key_from (subscription_key b k)) ≡ Some k
         again = ap (left_at b) (subscription_key_codec.again (b, k) (vb, vk)) ∙ ap (λ t. cond t (Some k) None) (bytes_itself b)
 
-        by : (o : Bool) → fin.get (map_from by_bytes (λ c. left_at b (subscription_key_from c)) hash_from (cond o (fin.entries (stores (number_of p (HashChangelog n)))) [])) k
-            ≡ cond o (fin.get (stores (number_of p (HashChangelog n))) (subscription_key b k) >>= hash_from) None
-        by true = at_key (λ c. left_at b (subscription_key_from c)) hash_from k (subscription_key b k) (stores (number_of p (HashChangelog n))) again (hashes_alone b k (fin.entries (stores (number_of p (HashChangelog n)))) bytes)
+        by : (o : Bool) → fin.get (map_from by_bytes (λ c. left_at b (subscription_key_from c)) subscriber_from (cond o (fin.entries (stores (number_of p (HashChangelog n)))) [])) k
+            ≡ cond o (fin.get (stores (number_of p (HashChangelog n))) (subscription_key b k) >>= subscriber_from) None
+        by true = at_key (λ c. left_at b (subscription_key_from c)) subscriber_from k (subscription_key b k) (stores (number_of p (HashChangelog n))) again (hashes_alone b k (fin.entries (stores (number_of p (HashChangelog n)))) bytes)
         by false = empty_at k
 
     kept : (n : ℕ) → AreBytes (fin.entries (stores (number_of p (HashChangelog n)))) → (b : Key) → IsKey b → fin.entries ((store_from p sub stores).hashes n b)
@@ -114,4 +114,4 @@ stores_are_looked_up p sub stores = record { tables = tables; hashes = hashes; k
       where
         by : (o : Bool) → is_own p sub (HashChangelog n) ≡ o → fin.entries (hashes_from p sub stores n b) ≡ cond o (kept_under b (stores (number_of p (HashChangelog n)))) []
         by true e = sym (kept_is_decoded p sub stores n e bytes b vb)
-        by false e = ap (λ o. fin.entries (map_from by_bytes (λ c. left_at b (subscription_key_from c)) hash_from (cond o (fin.entries (stores (number_of p (HashChangelog n)))) []))) e ∙ no_entries
+        by false e = ap (λ o. fin.entries (map_from by_bytes (λ c. left_at b (subscription_key_from c)) subscriber_from (cond o (fin.entries (stores (number_of p (HashChangelog n)))) []))) e ∙ no_entries

@@ -24,7 +24,7 @@ use Rattle.ks_query.specs.Streams.{Key, StreamItem}
 use Rattle.ks_def_tasks.specs.Messages.{Place, Stored, Message, Item, Store, Rules, same_option, same_stored}
 use Rattle.ks_def_tasks.specs.Messages.Message.{Kept}
 use Rattle.ks_def_tasks.specs.Step.{Arrival, Values, counted_at, value_changes, step_key, items_from, olds_at, news_at, tables_after, sends_at, changes_at, over_nodes}
-use Rattle.ks_def_tasks.specs.Tasks.{step, sent_item, written_item, is_changelog}
+use Rattle.ks_def_tasks.specs.Tasks.{arrival, step, sent_item, written_item, is_changelog}
 use Rattle.ks_def_tasks.specs.Bytes.{ByteStores, byte_step, step_at, step_read, outcome_of, nothing_made, is_own, is_own_number, is_sent, spelled, rec_of, records_at, message_in, store_from, table_from, pairs_of, map_from, stored_from, stored_bytes, keep_all}
 use Rattle.ks_def_tasks.specs.Laws.{IsTakenBy, IsReadAgain}
 use Rattle.ks_def_tasks.proofs.Numbers.{place-is, kept_at}
@@ -73,7 +73,7 @@ module _ (rules : Rules) (p : Plan) (t : TaskId) (stores : ByteStores) (q : Part
   st = store_from p t.sub stores
 
   abbrev pub a : Arrival
-  a = record { topic = topic; item = record { message = message; time = r.ts } }
+  a = arrival p (record { topic = topic; part = q.part }) (record { message = message; time = r.ts })
 
   abbrev pub decoded : Outcome Place Store Item
   decoded = step rules p t st (record { topic = topic; part = q.part }) (record { message = message; time = r.ts })

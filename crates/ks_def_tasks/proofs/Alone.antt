@@ -9,7 +9,8 @@ use Rattle.ks_row.specs.declared.record.TaskId.{TaskId}
 use Rattle.ks_row.specs.Parts.{same_task, same_part}
 use Rattle.ks_plan.specs.Plan.{Plan}
 use Rattle.ks_plan.specs.declared.node.Topic.{Topic}
-use Rattle.ks_plan.specs.Layout.{topic_at, topics_of, number_of, reads}
+use Rattle.std.specs.Prelude.{nat_lt}
+use Rattle.ks_plan.specs.Layout.{topic_at, topics_of, number_of, parts_of_topic, reads}
 use Rattle.ks_def_tasks.specs.Messages.{Place, Item, Message, Rules}
 use Rattle.ks_def_tasks.specs.Tasks.{step, is_changelog}
 use Rattle.ks_def_tasks.specs.Bytes.{ByteStores, byte_step, step_at, step_read, nothing_made, is_own, is_own_number, is_sent, spelled, part_id, records_at, message_in, store_from}
@@ -32,7 +33,7 @@ module _ (p : Plan) (t u : TaskId) (n : ℕ) (apart : same_task u t ≡ false) (
           let at : topic_at p (number_of p x.0.topic) ≡ Some k.topic = ap (topic_at p) (sym e ∙ k.is) ∙ k.holds.0.0 in
           let same : k.topic ≡ x.0.topic = place-is (topics_of p) x.0.topic k.topic at in
           let log : is_changelog x.0.topic ≡ true = ap is_changelog (sym same) ∙ k.holds.0.1 in
-          let mine = and_parts (is_own p t.sub x.0.topic) (x.0.part == t.part) (sym (ap (λ b. cond b (is_own p t.sub x.0.topic && (x.0.part == t.part)) true) log) ∙ sent) in
+          let mine = and_parts (is_own p t.sub x.0.topic) (x.0.part == t.part) (sym (ap (λ b. cond b (is_own p t.sub x.0.topic && (x.0.part == t.part)) (nat_lt x.0.part (parts_of_topic p x.0.topic))) log) ∙ sent) in
           let kept = and_parts (is_changelog x.0.topic) (nat_eq (reads p x.0.topic) t.sub) mine.0 in
           let sub : u.sub ≡ t.sub = sym ((Decides-eqb (reads p k.topic) u.sub).0 k.holds.1) ∙ ap (reads p) same ∙ (Decides-eqb (reads p x.0.topic) t.sub).0 kept.1 in
           let part : u.part ≡ t.part = f ∙ (Decides-eqb x.0.part t.part).0 mine.1 in

@@ -1,5 +1,5 @@
 -- Worked examples, computed: what the query gives, and what the machine leaves in three orders of choices, with nothing waiting.
-use Rattle.std.proofs.Common.{◌≡◌, ℕ, ◌++◌, ◌+◌, ◌*◌, List, [], ◌∷◌, Option, Some, None, refl, fold, map}
+use Rattle.std.proofs.Common.{◌≡◌, ℕ, ◌++◌, ◌+◌, ◌*◌, ◌%◌, List, [], ◌∷◌, Option, Some, None, refl, fold, map}
 use Rattle.std.specs.Prelude.{ℤ, pos, negsuc, codes, unsigned_abs}
 use Rattle.ks_row.specs.declared.row.Field.{Field}
 use Rattle.ks_row.specs.declared.row.Field.TheVariants.{Int, Text}
@@ -9,6 +9,10 @@ use Rattle.ks_expr.specs.declared.terms.JoinKind.TheVariants.{Inner, Left as Lef
 use Rattle.ks_expr.specs.Terms.Term.{LeftOf, RightOf, FieldOf, Number}
 use Rattle.ks_expr.specs.Terms.Test.{IsLess}
 use Rattle.ks_expr.specs.Eval.{Row}
+use Rattle.ks_expr.specs.Keys.{spread_part}
+use Rattle.ks_expr.specs.declared.terms.Fk.TheVariants as fk
+use Rattle.ks_wire.specs.declared.values.Subscriber.{Subscriber}
+use Rattle.ks_plan.specs.declared.draft.TopicDraft.{TopicDraft}
 use Rattle.ks_plan.specs.Drafts.{DraftView, NodeView, StreamOf, TableOf, FilterOf, KeyOf, CountOf, SumOf, WindowedOf, JoinOf, FkJoinOf}
 use Rattle.ks_plan.specs.Plan.{plan_of}
 use Rattle.ks_plan.specs.Layout.{sub_count}
@@ -17,7 +21,7 @@ use Rattle.ks_def_runs.specs.Run.{RunState}
 use Rattle.ks_query.specs.Streams.{Key, Input}
 use Rattle.ks_query.specs.Windows.{WindowKey}
 use Rattle.ks_query.specs.Query.{query}
-use Rattle.ks_def_tasks.specs.Messages.{Place, Item, Store, Rules}
+use Rattle.ks_def_tasks.specs.Messages.{Place, shown, Item, Store, Rules}
 use Rattle.ks_def_tasks.proofs.Drain.{by_lists, by_rounds, by_rounds_back, run_by, waiting_in, rows_of, window_rows_of}
 
 -- ---- small rules for small runs: all keys in one partition, and rows' hashes by a polynomial
@@ -35,10 +39,13 @@ abbrev pub delete : ℕ → Key → Input
 delete t k = record { topic = t; key = Some k; value = None; time = 0 }
 
 -- the states after three orders
-abbrev pub ends : DraftView → List Input → ℕ → List (RunState TaskId Place Store Item)
-ends d records n =
+abbrev pub ends_by : Rules → DraftView → List Input → ℕ → List (RunState TaskId Place Store Item)
+ends_by rules d records n =
     let p = plan_of d in
-    run_by one_part p records (by_lists p n) ∷ run_by one_part p records (by_rounds p n) ∷ run_by one_part p records (by_rounds_back p n) ∷ []
+    run_by rules p records (by_lists p n) ∷ run_by rules p records (by_rounds p n) ∷ run_by rules p records (by_rounds_back p n) ∷ []
+
+abbrev pub ends : DraftView → List Input → ℕ → List (RunState TaskId Place Store Item)
+ends d records n = ends_by one_part d records n
 
 abbrev pub three : {A : Type 0} → A → List A
 three x = x ∷ x ∷ x ∷ []
@@ -58,8 +65,11 @@ Gives d records n node rows = (asked d records node ≡ rows) × (ran d records 
 abbrev n_is : ℕ → Row
 n_is n = (codes "n", Int (pos n)) ∷ []
 
+abbrev plain : ℤ → TopicDraft
+plain n = record { parts = n; before = None }
+
 abbrev one_topic : List NodeView → DraftView
-one_topic nodes = record { app = codes "a"; topics = (codes "t", pos 1) ∷ []; nodes = nodes; print = [] }
+one_topic nodes = record { app = codes "a"; topics = (codes "t", plain (pos 1)) ∷ []; nodes = nodes; print = [] }
 
 abbrev one_table : DraftView
 one_table = one_topic (record { name = codes "x"; op = TableOf (codes "t") } ∷ [])
@@ -73,9 +83,9 @@ table_rows = (refl, refl)
 abbrev orders : JoinKind → DraftView
 orders kind = record {
   app = codes "s";
-  topics = (codes "customers", pos 1) ∷ (codes "orders", pos 1) ∷ [];
+  topics = (codes "customers", plain (pos 1)) ∷ (codes "orders", plain (pos 1)) ∷ [];
   nodes = record { name = codes "o"; op = TableOf (codes "orders") } ∷ record { name = codes "c"; op = TableOf (codes "customers") }
-      ∷ record { name = codes "e"; op = FkJoinOf (codes "o") (codes "c") (codes "cust") kind ((codes "amt", LeftOf (codes "amt")) ∷ (codes "region", RightOf (codes "region")) ∷ []) } ∷ [];
+      ∷ record { name = codes "e"; op = FkJoinOf (codes "o") (codes "c") (fk.Field (codes "cust")) kind ((codes "amt", LeftOf (codes "amt")) ∷ (codes "region", RightOf (codes "region")) ∷ []) } ∷ [];
   print = codes "e" ∷ [];
 }
 
@@ -105,13 +115,35 @@ unfolding fin.entries fin.empty fin.get fin.insert fin.retain_keys fin.remove fi
 moved_order = (refl, refl)
 
 -- and of the subscription store, the order under its new customer alone is left
-abbrev hashes_at : RunState TaskId Place Store Item → Key → List (Key × ℕ)
+abbrev hashes_at : RunState TaskId Place Store Item → Key → List (Key × Subscriber)
 hashes_at st b = fin.entries ((st.stores (record { sub = 1; part = 0 })).hashes 2 b)
 
-moved_hashes : map {B = List (Key × ℕ) × List (Key × ℕ)} (λ st. (hashes_at st (codes "c1"), hashes_at st (codes "c2"))) (ends (orders Inner) moving 8)
-    ≡ three ([], (codes "o1", one_part.hash (order_row 5 (codes "c2"))) ∷ [])
+abbrev subscriber : Row → Option ℕ → Subscriber
+subscriber row part = record { hash = one_part.hash row; part = part }
+
+moved_hashes : map {B = List (Key × Subscriber) × List (Key × Subscriber)} (λ st. (hashes_at st (codes "c1"), hashes_at st (codes "c2"))) (ends (orders Inner) moving 8)
+    ≡ three ([], (codes "o1", subscriber (order_row 5 (codes "c2")) None) ∷ [])
 unfolding fin.entries fin.empty fin.get fin.insert fin.retain_keys fin.remove fin.checked
 moved_hashes = refl
+
+-- orders that are spread by what stands before "/" in their keys: a subscription names the partition of its order's task, the store keeps it, and the
+-- answer goes there, though the whole key of the first order has the other partition
+abbrev by_sum : Rules
+by_sum = record { part = λ k s. fold (λ h b. h + b) 0 (spread_part s.before k) % s.parts; hash = one_part.hash }
+
+abbrev by_front : DraftView
+by_front = record (orders Inner) { topics = (codes "customers", plain (pos 1)) ∷ (codes "orders", record { parts = pos 2; before = Some (codes "/") }) ∷ [] }
+
+abbrev two_orders : List Input
+two_orders = order (codes "a/b") (codes "c1") 5 ∷ customer (codes "c1") (codes "eu") ∷ order (codes "d") (codes "c1") 6 ∷ []
+
+abbrev results_in : RunState TaskId Place Store Item → ℕ → List (Key × Row)
+results_in st part = map (λ e. (e.0, shown e.1)) (fin.entries ((st.stores (record { sub = 0; part = part })).tables 2))
+
+named_parts : map {B = List (Key × Row) × List (Key × Row) × List (Key × Subscriber)} (λ st. (results_in st 0, results_in st 1, hashes_at st (codes "c1"))) (ends_by by_sum by_front two_orders 6)
+    ≡ three ((codes "d", result 6 (codes "eu")) ∷ [], (codes "a/b", result 5 (codes "eu")) ∷ [], (codes "a/b", subscriber (order_row 5 (codes "c1")) (Some 1)) ∷ (codes "d", subscriber (order_row 6 (codes "c1")) (Some 0)) ∷ [])
+unfolding fin.entries fin.empty fin.get fin.insert fin.retain_keys fin.remove fin.checked
+named_parts = refl
 
 -- the customer goes: of an inner join the result too, of a left one its left part stays
 abbrev going : List Input
@@ -199,7 +231,7 @@ late_window = record { asked = refl; ran = refl }
 -- ---- a table joined with itself: s 0, m 1
 abbrev bosses : DraftView
 bosses = one_topic (record { name = codes "s"; op = TableOf (codes "t") }
-    ∷ record { name = codes "m"; op = FkJoinOf (codes "s") (codes "s") (codes "boss") LeftJoin ((codes "boss", RightOf (codes "name")) ∷ (codes "name", LeftOf (codes "name")) ∷ []) } ∷ [])
+    ∷ record { name = codes "m"; op = FkJoinOf (codes "s") (codes "s") (fk.Field (codes "boss")) LeftJoin ((codes "boss", RightOf (codes "name")) ∷ (codes "name", LeftOf (codes "name")) ∷ []) } ∷ [])
 
 abbrev staff : Key → Key → Row
 staff boss name = (codes "boss", Text boss) ∷ (codes "name", Text name) ∷ []
@@ -216,7 +248,7 @@ one_sub = refl
 abbrev joined_tables : DraftView
 joined_tables = record {
   app = codes "a";
-  topics = (codes "x", pos 1) ∷ (codes "y", pos 1) ∷ [];
+  topics = (codes "x", plain (pos 1)) ∷ (codes "y", plain (pos 1)) ∷ [];
   nodes = record { name = codes "x"; op = TableOf (codes "x") } ∷ record { name = codes "y"; op = TableOf (codes "y") }
       ∷ record { name = codes "j"; op = JoinOf (codes "x") (codes "y") Outer ((codes "a", LeftOf (codes "a")) ∷ (codes "b", RightOf (codes "b")) ∷ []) }
       ∷ record { name = codes "f"; op = FilterOf (codes "x") (IsLess (FieldOf (codes "a")) (Number (pos 3))) } ∷ [];
@@ -266,7 +298,7 @@ back_sub = refl
 abbrev totals : DraftView
 totals = record {
   app = codes "s";
-  topics = (codes "customers", pos 2) ∷ (codes "orders", pos 4) ∷ [];
+  topics = (codes "customers", plain (pos 2)) ∷ (codes "orders", plain (pos 4)) ∷ [];
   nodes = (orders Inner).nodes ++ record { name = codes "totals"; op = SumOf (codes "e") (Some (codes "region")) (codes "amt") } ∷ [];
   print = codes "e" ∷ codes "totals" ∷ [];
 }

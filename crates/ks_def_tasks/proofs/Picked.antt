@@ -10,7 +10,6 @@ use Rattle.ks_row.specs.declared.record.PartId.{PartId}
 use Rattle.ks_row.specs.declared.record.TaskId.{TaskId}
 use Rattle.ks_row.specs.Parts.{same_part}
 use Rattle.ks_wire.specs.declared.values.Delta.{Delta}
-use Rattle.ks_wire.specs.declared.values.Response.{Response}
 use Rattle.ks_plan.specs.Plan.{Plan, Kind}
 use Rattle.ks_plan.specs.Plan.Kind.{StreamSource, TableSource, StreamFilter, TableFilter, StreamMap, TableMap, KeySelected, StreamAggregate, TableAggregate, Windowed, KeyJoin, ForeignKeyJoin}
 use Rattle.ks_plan.specs.declared.node.Topic.{Topic}
@@ -21,7 +20,8 @@ use Rattle.ks_query.specs.Aggregates.{table_parts}
 use Rattle.ks_expr.specs.Eval.{Row}
 use Rattle.ks_def_tasks.specs.Messages.{Place, shown, Subscription, Message, Item, Store, Rules}
 use Rattle.ks_def_tasks.specs.Messages.Message.{Given, Keyed, Moved, Asked, Answered, Kept, KeptCount, KeptTime, KeptHash}
-use Rattle.ks_def_tasks.specs.Foreign.{subscriptions, answer_to, answer_all}
+use Rattle.ks_expr.specs.declared.terms.Fk.{Fk}
+use Rattle.ks_def_tasks.specs.Foreign.{Sending, subscriptions, answer_to, answer_all}
 use Rattle.ks_def_tasks.specs.Step.{Arrival, Values, Sent, Written, keyed_to, regroup, send_deltas, send_subscriptions, send_responses, answer_of, answer_one, join_sends, sends_at, write_all, value_changes, hash_changes, counted_at, changes_at, over_nodes, arrived, step_key, row_in, changed}
 use Rattle.ks_def_tasks.specs.Tasks.{is_changelog, sent_item, written_item}
 use Rattle.ks_def_tasks.specs.Bytes.{is_own, is_sent, spelled, part_id, rec_of, records_at}
@@ -127,7 +127,7 @@ else_subscriptions : (m : ℕ) (k : Key) (ss : List (Key × Subscription)) → E
 else_subscriptions m k [] = tt
 else_subscriptions m k (s ∷ ss) = (refl, else_subscriptions m k ss)
 
-else_responses : (m : ℕ) (rs : List (Key × Response)) → Elsewhere (send_responses m rs)
+else_responses : (m : ℕ) (rs : List Sending) → Elsewhere (send_responses m rs)
 else_responses m [] = tt
 else_responses m (r ∷ rs) = (refl, else_responses m rs)
 
@@ -136,7 +136,7 @@ else_one m st r None = tt
 else_one m st r (Some (Given k v)) = tt
 else_one m st r (Some (Keyed g row)) = tt
 else_one m st r (Some (Moved g d)) = tt
-else_one m st r (Some (Asked b q s)) = else_responses m (answer_of q (answer_to s (option_map shown (fin.get (st.tables r) b))))
+else_one m st r (Some (Asked b q s)) = else_responses m (answer_of q s.part (answer_to s (option_map shown (fin.get (st.tables r) b))))
 else_one m st r (Some (Answered q x)) = tt
 else_one m st r (Some (Kept k w)) = tt
 else_one m st r (Some (KeptCount w a)) = tt
@@ -144,13 +144,13 @@ else_one m st r (Some (KeptTime x)) = tt
 else_one m st r (Some (KeptHash b q h)) = tt
 
 module _ (rules : Rules) (a : Arrival) (items : ℕ → Option StreamItem) (st : Store) (olds news : Values) where
-  else_join : (m l r : ℕ) (fk : List ℕ) (k : Option Key) → Elsewhere (join_sends rules fk m l r st olds news k)
-  else_join m l r fk None = tt
-  else_join m l r fk (Some k) =
-      let asked = send_subscriptions m k (subscriptions rules.hash fk (row_in olds l) (row_in news l)) in
+  else_join : (m l r : ℕ) (fk : Fk) (part : Option ℕ) (k : Option Key) → Elsewhere (join_sends rules fk part m l r st olds news k)
+  else_join m l r fk part None = tt
+  else_join m l r fk part (Some k) =
+      let asked = send_subscriptions m k (subscriptions rules.hash fk k part (row_in olds l) (row_in news l)) in
       let answered = send_responses m (answer_all (row_in news r) (fin.entries (st.hashes m k))) in
       else_append (cond (changed olds news l) asked []) (cond (changed olds news r) answered [])
-      (else_cond (changed olds news l) asked (else_subscriptions m k (subscriptions rules.hash fk (row_in olds l) (row_in news l))))
+      (else_cond (changed olds news l) asked (else_subscriptions m k (subscriptions rules.hash fk k part (row_in olds l) (row_in news l))))
       (else_cond (changed olds news r) answered (else_responses m (answer_all (row_in news r) (fin.entries (st.hashes m k)))))
 
   else_node : (m : ℕ) (k : Kind) → Elsewhere (sends_at rules a items st olds news m k)
@@ -165,7 +165,7 @@ module _ (rules : Rules) (a : Arrival) (items : ℕ → Option StreamItem) (st :
   else_node m (TableAggregate f by field) = else_deltas m (table_parts by field (row_in olds f) (row_in news f))
   else_node m (Windowed f by w through) = else_cond through (regroup by m (items f)) (else_regroup m by (items f))
   else_node m (KeyJoin l r kind s) = tt
-  else_node m (ForeignKeyJoin l r fk kind s) = else_append (join_sends rules fk m l r st olds news (step_key a.item.message)) (answer_one m st r (arrived a (Subscriptions m))) (else_join m l r fk (step_key a.item.message)) (else_one m st r (arrived a (Subscriptions m)))
+  else_node m (ForeignKeyJoin l r fk kind s) = else_append (join_sends rules fk (a.names m) m l r st olds news (step_key a.item.message)) (answer_one m st r (arrived a (Subscriptions m))) (else_join m l r fk (a.names m) (step_key a.item.message)) (else_one m st r (arrived a (Subscriptions m)))
 
   else_nodes : (m : ℕ) (ks : List Kind) → Elsewhere (over_nodes (sends_at rules a items st olds news) m ks)
   else_nodes m [] = tt

@@ -2,7 +2,7 @@
 -- bytes are, and spells what that step makes; its stores become what its own changelog records make of them.
 -- Kafka Streams developer guide, "Memory management" and "State stores": a store is what its changelog says (also KIP-98 on why
 -- both are written in one transaction).
-use Rattle.std.specs.Prelude.{ℕ, List, [], ◌∷◌, map, fold, Option, Some, None, Bool, true, false, ◌||◌, ◌==◌, ◌&&◌, cond, nat_eq, option_map, is_none}
+use Rattle.std.specs.Prelude.{ℕ, List, [], ◌∷◌, map, fold, Option, Some, None, Bool, false, ◌||◌, ◌==◌, ◌&&◌, cond, nat_eq, nat_lt, option_map, is_none}
 use Rattle.std.specs.List.{filter}
 use Rattle.std.specs.declared.cmp.Ordering.{Ordering}
 use Rattle.ks_row.specs.Texts.{key_from}
@@ -16,16 +16,17 @@ use Rattle.ks_def_runs.specs.FinMap as fin
 use Rattle.ks_def_runs.specs.FinMap.{FinMap}
 use Rattle.ks_def_runs.specs.Bytes.{by_bytes, Store as ByteStore, empty_store as no_bytes}
 use Rattle.ks_def_runs.specs.Table.{write}
-use Rattle.ks_wire.specs.Spelling.{subscription_bytes, response_bytes, delta_bytes, agg_bytes, hash_bytes, subscription_key, window_key, time_key, time_bytes}
-use Rattle.ks_wire.specs.Reading.{subscription_from, response_from, delta_from, agg_from, hash_from, time_from, subscription_key_from, window_key_from}
+use Rattle.ks_wire.specs.Spelling.{subscription_bytes, response_bytes, delta_bytes, agg_bytes, subscriber_bytes, subscription_key, window_key, time_key, time_bytes}
+use Rattle.ks_wire.specs.Reading.{subscription_from, response_from, delta_from, agg_from, subscriber_from, time_from, subscription_key_from, window_key_from}
 use Rattle.ks_wire.specs.declared.values.Agg.{Agg}
+use Rattle.ks_wire.specs.declared.values.Subscriber.{Subscriber}
 use Rattle.ks_expr.specs.Eval.{same_bytes}
 use Rattle.ks_plan.specs.Plan.{Plan, Kind, is_windowed}
 use Rattle.ks_plan.specs.Plan.Kind.{StreamAggregate, TableAggregate, Windowed}
 use Rattle.ks_plan.specs.declared.node.Topic.{Topic}
 use Rattle.ks_plan.specs.declared.node.Topic.TheVariants.{Input, Repartition, Subscriptions, Responses, Changelog, HashChangelog}
 use Rattle.ks_plan.specs.Infos.{changelog_numbers}
-use Rattle.ks_plan.specs.Layout.{number_of, topic_at, kind_at, reads, sub_count}
+use Rattle.ks_plan.specs.Layout.{number_of, topic_at, kind_at, parts_of_topic, reads, sub_count}
 use Rattle.ks_def_runs.specs.Run.{Outcome}
 use Rattle.ks_query.specs.Streams.{Key}
 use Rattle.ks_query.specs.Windows.{by_window}
@@ -59,7 +60,7 @@ value_bytes (Answered p r) = Some (response_bytes r)
 value_bytes (Kept k w) = option_map stored_bytes w
 value_bytes (KeptCount w a) = Some (agg_bytes a)
 value_bytes (KeptTime t) = Some (time_bytes t)
-value_bytes (KeptHash b p h) = option_map hash_bytes h
+value_bytes (KeptHash b p s) = option_map subscriber_bytes s
 
 abbrev pub rec_of : Item → Rec
 rec_of x = record { key = key_bytes x.message; value = value_bytes x.message; ts = x.time }
@@ -147,8 +148,8 @@ own_bytes p sub stores t = cond (is_own p sub t) (stores (number_of p t)) no_byt
 abbrev pub time_of : Plan → ℕ → ByteStores → ℕ → Option ℕ
 time_of p sub stores n = cond (is_windowed (kind_at p n)) (fin.get (own_bytes p sub stores (Changelog n)) time_key >>= time_from) None
 
-abbrev pub hashes_from : Plan → ℕ → ByteStores → ℕ → Key → FinMap by_bytes ℕ
-hashes_from p sub stores n b = map_from by_bytes (λ k. left_at b (subscription_key_from k)) hash_from (pairs_of p sub stores (HashChangelog n))
+abbrev pub hashes_from : Plan → ℕ → ByteStores → ℕ → Key → FinMap by_bytes Subscriber
+hashes_from p sub stores n b = map_from by_bytes (λ k. left_at b (subscription_key_from k)) subscriber_from (pairs_of p sub stores (HashChangelog n))
 
 abbrev pub store_from : Plan → ℕ → ByteStores → Store
 store_from p sub stores = record {
@@ -185,9 +186,9 @@ is_own_number p sub n = has_number n (changelog_numbers p sub)
 abbrev pub stores_after : Plan → TaskId → ByteStores → List (PartId × Rec) → ByteStores
 stores_after p t stores made n = cond (is_own_number p t.sub n) (keep_all (stores n) (records_at (record { topic = n; part = t.part }) made)) (stores n)
 
--- a record for a changelog's partition is made by the task that keeps it alone
+-- a record for a changelog's partition is made by the task that keeps it alone; none goes to a partition that its topic hasn't
 abbrev pub is_sent : Plan → TaskId → Place × Item → Bool
-is_sent p t x = cond (is_changelog x.0.topic) (is_own p t.sub x.0.topic && (x.0.part == t.part)) true
+is_sent p t x = cond (is_changelog x.0.topic) (is_own p t.sub x.0.topic && (x.0.part == t.part)) (nat_lt x.0.part (parts_of_topic p x.0.topic))
 
 abbrev pub nothing_made : ByteStores → Outcome PartId ByteStores Rec
 nothing_made stores = record { store = stores; made = []; late = 0 }

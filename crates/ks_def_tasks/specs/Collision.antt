@@ -2,9 +2,9 @@
 use Rattle.std.specs.Prelude.{◌≡◌, ◌≢◌, ℕ, ◌⊎◌, List, [], ◌∷◌, Some, cond, slice_get}
 use Rattle.ks_row.specs.declared.record.TaskId.{TaskId}
 use Rattle.ks_expr.specs.declared.terms.JoinKind.{JoinKind}
+use Rattle.ks_expr.specs.declared.terms.Fk.{Fk}
 use Rattle.ks_expr.specs.Terms.{Set}
 use Rattle.ks_expr.specs.Eval.{Row, same_bytes}
-use Rattle.ks_plan.specs.Drafts.{Name}
 use Rattle.ks_plan.specs.Plan.{Plan, Kind}
 use Rattle.ks_plan.specs.Plan.Kind.{ForeignKeyJoin}
 use Rattle.ks_plan.specs.declared.node.Topic.TheVariants.{Changelog}
@@ -52,7 +52,7 @@ pub record Collides (rules : Rules) (p : Plan) (st : RunState TaskId Place Store
   pub node : ℕ
   pub left : ℕ
   pub right : ℕ
-  pub fk : Name
+  pub fk : Fk
   pub kind : JoinKind
   pub set : Set
   pub is_join : IsNode p node (ForeignKeyJoin left right fk kind set)
@@ -63,5 +63,5 @@ pub record Collides (rules : Rules) (p : Plan) (st : RunState TaskId Place Store
   pub pair : IsPair rules.hash (rows_had key (past p st left part)) one other
 
 abbrev pub NoCollision : Rules → Plan → RunState TaskId Place Store Item → Type 0
-NoCollision rules p st = (n l r : ℕ) (fk : Name) (kind : JoinKind) (s : Set) → IsNode p n (ForeignKeyJoin l r fk kind s) →
+NoCollision rules p st = (n l r : ℕ) (fk : Fk) (kind : JoinKind) (s : Set) → IsNode p n (ForeignKeyJoin l r fk kind s) →
     (part : ℕ) (k : Key) → NoneCollides rules.hash (rows_had k (past p st l part))

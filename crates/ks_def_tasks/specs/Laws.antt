@@ -3,6 +3,7 @@ use Rattle.std.specs.Prelude.{◌≡◌, ℕ, ◌≤◌, length, List, [], Optio
 use Rattle.std.specs.List.{filter}
 use Rattle.ks_row.specs.Spelling.{IsBytes}
 use Rattle.ks_wire.specs.Spelling.{FitsKeys}
+use Rattle.ks_wire.specs.Values.{IsPart}
 use Rattle.ks_def_tasks.specs.Messages.Message.{Asked}
 use Rattle.ks_row.specs.declared.record.Rec.{Rec}
 use Rattle.ks_row.specs.declared.record.PartId.{PartId}
@@ -24,7 +25,7 @@ use Rattle.ks_def_tasks.specs.Windowed.{greater}
 use Rattle.ks_def_tasks.specs.Step.{Arrival, step_key, item_into, items_from}
 use Rattle.ks_def_runs.specs.Run.{Outcome, HasNames, Follows, run, local, sent_to}
 use Rattle.ks_def_tasks.specs.Messages.{Place, Stored, Message, Item, Store, Rules}
-use Rattle.ks_def_tasks.specs.Tasks.{machine, empty_store, step}
+use Rattle.ks_def_tasks.specs.Tasks.{arrival, machine, empty_store, step}
 use Rattle.ks_def_tasks.specs.Collision.{past}
 
 abbrev pub NamesAreDecided : Type 0
@@ -100,7 +101,7 @@ AreBytes (e ∷ es) = IsBytes e.0 × AreBytes es
 
 -- keys and hash of a subscription are within their bounds
 abbrev pub FitsAsked : Message → Type 0
-FitsAsked (Asked b p s) = FitsKeys (b, p) × IfSome s.hash (λ h. h < 2 ^ 128)
+FitsAsked (Asked b p s) = FitsKeys (b, p) × IfSome s.hash (λ h. h < 2 ^ 128) × IsPart s.part
 FitsAsked _ = Unit {0}
 
 -- and so with subscription stores
@@ -133,7 +134,7 @@ abbrev pub WindowsAgree : Type 0
 WindowsAgree = (rules : Rules) (p : Plan) (t : TaskId) (stores : ByteStores) (q : PartId) (r : Rec) (topic : Topic) (message : Message) → IsTakenBy p t q r topic message →
     (n f : ℕ) (by : Option Name) (w : Window) (through : Bool) → slice_get p.kinds n ≡ Some (Windowed f by w through) → is_own_number p t.sub (number_of p (Changelog n)) ≡ true →
     AreBytes (fin.entries (stores (number_of p (Changelog n)))) →
-    let a : Arrival = record { topic = topic; item = record { message = message; time = r.ts } } in
+    let a : Arrival = arrival p (record { topic = topic; part = q.part }) (record { message = message; time = r.ts }) in
     ((x : StreamItem) → item_into a (items_from a (λ m. None) 0 p.kinds) n f through ≡ Some x → FitsCount w (time_of p t.sub stores n) x) →
     WindowsAgreeAt rules p t stores q r topic message n
 

@@ -6,11 +6,13 @@ use Rattle.ks_def_runs.specs.Bytes.{by_bytes}
 use Rattle.ks_expr.specs.Eval.{Row, same_bytes, same_field}
 use Rattle.ks_query.specs.Streams.{Key}
 use Rattle.ks_plan.specs.declared.node.Topic.{Topic}
+use Rattle.ks_plan.specs.declared.node.Spread.{Spread}
 use Rattle.ks_plan.specs.Layout.{same_topic}
 use Rattle.ks_query.specs.Windows.{WindowKey, by_window}
 use Rattle.ks_wire.specs.Values.{SubscriptionValue}
 use Rattle.ks_wire.specs.declared.values.Agg.{Agg}
 use Rattle.ks_wire.specs.declared.values.Delta.{Delta}
+use Rattle.ks_wire.specs.declared.values.Subscriber.{Subscriber}
 use Rattle.ks_wire.specs.declared.values.Response.{Response}
 use Rattle.ks_query.specs.Aggregates.{agg_row}
 
@@ -44,10 +46,11 @@ pub data Instruction : Type 0 where
   Answer : Instruction
   AnswerIfThere : Instruction
 
--- of a left row, by its hash
+-- of a left row, by its hash; with the partition to answer to, where the left key doesn't tell it
 pub record Subscription : Type 0 where
   pub hash : Option ℕ
   pub instruction : Instruction
+  pub part : Option ℕ
 
 -- as it is written, with the left key
 abbrev pub number_of : Instruction → ℕ
@@ -63,10 +66,10 @@ instruction_of (suc (suc zero)) = Answer
 instruction_of (suc (suc (suc n))) = AnswerIfThere
 
 abbrev pub value_of : Key → Subscription → SubscriptionValue
-value_of left s = record { hash = s.hash; instruction = number_of s.instruction; left = left }
+value_of left s = record { hash = s.hash; instruction = number_of s.instruction; left = left; part = s.part }
 
 abbrev pub subscription_of : SubscriptionValue → Subscription
-subscription_of v = record { hash = v.hash; instruction = instruction_of v.instruction }
+subscription_of v = record { hash = v.hash; instruction = instruction_of v.instruction; part = v.part }
 
 pub data Message : Type 0 where
   -- of an input topic
@@ -77,11 +80,11 @@ pub data Message : Type 0 where
   -- of a subscription topic: foreign key and left key; of a response topic: left key
   Asked : Key → Key → Subscription → Message
   Answered : Key → Response → Message
-  -- of changelogs: a table's value at a key, a window's count, the greatest time, a hash by foreign key and left key
+  -- of changelogs: a table's value at a key, a window's count, the greatest time, a subscriber by foreign key and left key
   Kept : Key → Option Stored → Message
   KeptCount : WindowKey → Agg → Message
   KeptTime : ℕ → Message
-  KeptHash : Key → Key → Option ℕ → Message
+  KeptHash : Key → Key → Option Subscriber → Message
 
 pub record Item : Type 0 where
   pub message : Message
@@ -94,11 +97,11 @@ pub record Store : Type 0 where
   -- the greatest time that a windowed count has seen
   pub times : ℕ → Option ℕ
   -- the subscription store: by foreign key, then by left key
-  pub hashes : ℕ → Key → FinMap by_bytes ℕ
+  pub hashes : ℕ → Key → FinMap by_bytes Subscriber
 
 -- how keys are spread over partitions, and rows hashed
 pub record Rules : Type 0 where
-  pub part : Key → ℕ → ℕ
+  pub part : Key → Spread → ℕ
   pub hash : Row → ℕ
 
 -- ---- equal values
@@ -121,6 +124,9 @@ same_bool false false = true
 
 abbrev pub same_agg : Agg → Agg → Bool
 same_agg a b = eq_by_cmp int_cmp a.members b.members && eq_by_cmp int_cmp a.total b.total
+
+abbrev pub same_subscriber : Subscriber → Subscriber → Bool
+same_subscriber a b = nat_eq a.hash b.hash && same_option nat_eq a.part b.part
 
 abbrev pub same_stored : Stored → Stored → Bool
 same_stored (OfRow a) (OfRow b) = same_row a b

@@ -1,8 +1,8 @@
 -- Runs that have come to rest, and what their tables are compared with.
-use Rattle.std.specs.Prelude.{◌≡◌, ℕ, ◌<◌, ◌^◌, [], length, Option, false}
+use Rattle.std.specs.Prelude.{◌≡◌, ℕ, ◌<◌, ◌^◌, [], length, Option, option_map, false}
 use Rattle.ks_row.specs.declared.record.TaskId.{TaskId}
 use Rattle.ks_plan.specs.Plan.{Plan}
-use Rattle.ks_plan.specs.Layout.{sub_of, parts_of}
+use Rattle.ks_plan.specs.Layout.{sub_of, before_of, spread_of}
 use Rattle.ks_def_runs.specs.Run.{RunState}
 use Rattle.ks_query.specs.Streams.{Key}
 use Rattle.ks_def_tasks.specs.Messages.{Place, Item, Store, Rules}
@@ -21,7 +21,12 @@ pub record IsAtRest (rules : Rules) (p : Plan) (st : RunState TaskId Place Store
 
 -- the task that keeps a node's key, by its partition
 abbrev pub home : Rules → Plan → ℕ → Key → ℕ
-home rules p n k = rules.part k (parts_of p n)
+home rules p n k = rules.part k (spread_of p n)
+
+-- the partition that a join's subscriptions for a left key name, where they name one: that of the key's task, where the join's keys, which
+-- are its left side's, are spread by their front parts
+abbrev pub named : Rules → Plan → ℕ → Key → Option ℕ
+named rules p n k = option_map (λ s. home rules p n k) (before_of p n)
 
 -- the stores of a node's task
 abbrev pub store_at : Plan → RunState TaskId Place Store Item → ℕ → ℕ → Store

@@ -3,8 +3,9 @@
 -- is a stream; what it sends and what it writes into its changelogs are functions of these. The nodes act in list order, each
 -- once: a node's new value is made of the new values of the nodes before it.
 -- Kafka Streams developer guide, "Stream partitions and tasks": a task takes one record at a time through its whole subtopology.
-use Rattle.std.specs.Prelude.{ℕ, suc, ◌+◌, List, [], ◌∷◌, ◌++◌, map, Option, Some, None, Bool, ◌||◌, not, cond, nat_eq, option_map, option_and_then, is_none}
+use Rattle.std.specs.Prelude.{ℕ, suc, ◌+◌, List, [], ◌∷◌, ◌++◌, map, Option, Some, None, Bool, ◌||◌, not, cond, option_map, option_and_then, is_none}
 use Rattle.ks_expr.specs.declared.terms.JoinKind.{JoinKind}
+use Rattle.ks_expr.specs.declared.terms.Fk.{Fk}
 use Rattle.ks_expr.specs.Terms.{Set}
 use Rattle.ks_expr.specs.Eval.{Row, same_bytes, holds, project, joined}
 use Rattle.ks_query.specs.Streams.{Key}
@@ -21,17 +22,19 @@ use Rattle.ks_query.specs.Streams.{StreamItem, filter_item, map_item, rekey_item
 use Rattle.ks_query.specs.Query.{with_number}
 use Rattle.ks_wire.specs.declared.values.Delta.{Delta}
 use Rattle.ks_wire.specs.declared.values.Response.{Response}
+use Rattle.ks_wire.specs.declared.values.Subscriber.{Subscriber}
 use Rattle.ks_query.specs.Aggregates.{stream_add, table_apply, table_parts}
-use Rattle.ks_def_tasks.specs.Messages.{Stored, shown, agg_of, Subscription, Message, Item, Store, Rules, same_row, same_option, same_stored}
+use Rattle.ks_def_tasks.specs.Messages.{Stored, shown, agg_of, Subscription, Message, Item, Store, Rules, same_row, same_option, same_stored, same_subscriber}
 use Rattle.ks_def_tasks.specs.Messages.Stored.{OfRow, OfAgg}
 use Rattle.ks_def_tasks.specs.Messages.Message.{Given, Keyed, Moved, Asked, Answered, Kept, KeptHash}
 use Rattle.ks_def_tasks.specs.Windowed.{Counted, not_counted, count_item}
-use Rattle.ks_def_tasks.specs.Foreign.{subscriptions, is_direct, direct_row, subscribed, answer_to, answer_all, respond}
+use Rattle.ks_def_tasks.specs.Foreign.{Sending, subscriptions, is_direct, direct_row, subscribed, answer_to, answer_all, respond}
 
--- what arrives: a record of a topic
+-- what arrives: a record of a topic; and the partition that a subscription of each join names, where it names one
 pub record Arrival : Type 0 where
   pub topic : Topic
   pub item : Item
+  pub names : ℕ → Option ℕ
 
 -- the key at which the step's tables change
 abbrev pub step_key : Message → Option Key
@@ -101,9 +104,10 @@ abbrev pub applied : Option (List ℕ) → Option Stored → Option Message → 
 applied field old (Some (Moved g d)) = option_map (OfAgg (is_none field)) (table_apply (agg_of old) d)
 applied field old _ = old
 
--- the result after a change of the left row: set at once, or as it was
-abbrev pub direct : List ℕ → JoinKind → Set → Option Row → Option Row → Option Stored → Option Stored
-direct fk kind set old new result = cond (is_direct fk old new) (of_row (direct_row kind set new)) result
+-- the result after a change of the left row at a key: set at once, or as it was
+abbrev pub direct : Fk → Option Key → JoinKind → Set → Option Row → Option Row → Option Stored → Option Stored
+direct fk None kind set old new result = result
+direct fk (Some k) kind set old new result = cond (is_direct fk k old new) (of_row (direct_row kind set new)) result
 
 abbrev pub set_result : Option (Option Row) → Option Stored → Option Stored
 set_result None result = result
@@ -123,7 +127,7 @@ value_at rules a items olds news n (StreamAggregate f by field through) = added 
 value_at rules a items olds news n (TableAggregate f by field) = applied field (olds n) (arrived a (Repartition n))
 value_at rules a items olds news n (KeyJoin l r kind s) = cond (changed olds news l || changed olds news r) (of_row (joined kind s (row_in news l) (row_in news r))) (olds n)
 value_at rules a items olds news n (ForeignKeyJoin l r fk kind s) =
-    cond (changed olds news l) (direct fk kind s (row_in olds l) (row_in news l) (olds n)) (responded rules kind s (row_in news l) (arrived a (Responses n)) (olds n))
+    cond (changed olds news l) (direct fk (step_key a.item.message) kind s (row_in olds l) (row_in news l) (olds n)) (responded rules kind s (row_in news l) (arrived a (Responses n)) (olds n))
 value_at rules a items olds news n _ = olds n
 
 -- the nodes act in list order, each once
@@ -137,26 +141,31 @@ counted_at a items st n (Windowed f by w through) = count_item w (st.times n) (s
 counted_at a items st n _ = not_counted (st.times n) (st.counts n)
 
 -- ---- subscription stores
-abbrev pub subscribe_at : Option Message → (Key → FinMap by_bytes ℕ) → Key → FinMap by_bytes ℕ
+abbrev pub subscribe_at : Option Message → (Key → FinMap by_bytes Subscriber) → Key → FinMap by_bytes Subscriber
 subscribe_at (Some (Asked c p s)) old b = cond (same_bytes b c) (write by_bytes (old b) p (subscribed s)) (old b)
 subscribe_at _ old b = old b
 
-abbrev pub hashes_after : Arrival → Store → ℕ → Key → FinMap by_bytes ℕ
+abbrev pub hashes_after : Arrival → Store → ℕ → Key → FinMap by_bytes Subscriber
 hashes_after a st n b = subscribe_at (arrived a (Subscriptions n)) (st.hashes n) b
 
 abbrev pub hash_changes : Store → ℕ → Option Message → List Message
-hash_changes st n (Some (Asked b p s)) = cond (same_option nat_eq (map.get (st.hashes n b) p) (subscribed s)) [] (KeptHash b p (subscribed s) ∷ [])
+hash_changes st n (Some (Asked b p s)) = cond (same_option same_subscriber (map.get (st.hashes n b) p) (subscribed s)) [] (KeptHash b p (subscribed s) ∷ [])
 hash_changes st n _ = []
 
--- ---- what a node sends: topics with keys and messages
+-- ---- what a node sends: topics with keys and messages; by the key, or to a partition that was named, if one was
+pub data To : Type 0 where
+  ByKey : To
+  Named : Option ℕ → To
+
 pub record Sent : Type 0 where
   pub topic : Topic
   pub key : Key
+  pub to : To
   pub message : Message
 
 abbrev pub keyed_to : ℕ → Row → Option Key → List Sent
 keyed_to n row None = []
-keyed_to n row (Some g) = record { topic = Repartition n; key = g; message = Keyed g row } ∷ []
+keyed_to n row (Some g) = record { topic = Repartition n; key = g; to = ByKey; message = Keyed g row } ∷ []
 
 -- the sending part of an aggregate over a stream
 abbrev pub regroup : Option (List ℕ) → ℕ → Option StreamItem → List Sent
@@ -164,32 +173,32 @@ regroup by n None = []
 regroup by n (Some x) = keyed_to n x.row (group_key by x)
 
 abbrev pub send_deltas : ℕ → List (Key × Delta) → List Sent
-send_deltas n ds = map (λ d. record { topic = Repartition n; key = d.0; message = Moved d.0 d.1 }) ds
+send_deltas n ds = map (λ d. record { topic = Repartition n; key = d.0; to = ByKey; message = Moved d.0 d.1 }) ds
 
 -- the sending part of an aggregate over a table; of a row that stays it sends nothing
 abbrev pub regroup_rows : List ℕ → Option (List ℕ) → ℕ → Option Row → Option Row → List Sent
 regroup_rows by field n old new = send_deltas n (table_parts by field old new)
 
 abbrev pub send_subscriptions : ℕ → Key → List (Key × Subscription) → List Sent
-send_subscriptions n p ss = map (λ s. record { topic = Subscriptions n; key = s.0; message = Asked s.0 p s.1 }) ss
+send_subscriptions n p ss = map (λ s. record { topic = Subscriptions n; key = s.0; to = ByKey; message = Asked s.0 p s.1 }) ss
 
-abbrev pub send_responses : ℕ → List (Key × Response) → List Sent
-send_responses n rs = map (λ r. record { topic = Responses n; key = r.0; message = Answered r.0 r.1 }) rs
+abbrev pub send_responses : ℕ → List Sending → List Sent
+send_responses n rs = map (λ r. record { topic = Responses n; key = r.0; to = Named r.2; message = Answered r.0 r.1 }) rs
 
-abbrev pub answer_of : Key → Option Response → List (Key × Response)
-answer_of p None = []
-answer_of p (Some r) = (p, r) ∷ []
+abbrev pub answer_of : Key → Option ℕ → Option Response → List Sending
+answer_of p part None = []
+answer_of p part (Some r) = (p, r, part) ∷ []
 
 -- the answer to a subscription, with the right row of the moment
 abbrev pub answer_one : ℕ → Store → ℕ → Option Message → List Sent
-answer_one n st r (Some (Asked b p s)) = send_responses n (answer_of p (answer_to s (option_map shown (map.get (st.tables r) b))))
+answer_one n st r (Some (Asked b p s)) = send_responses n (answer_of p s.part (answer_to s (option_map shown (map.get (st.tables r) b))))
 answer_one n st r _ = []
 
 -- the parts of a join on a foreign key at a key: the left part, then the right one
-abbrev pub join_sends : Rules → List ℕ → ℕ → ℕ → ℕ → Store → Values → Values → Option Key → List Sent
-join_sends rules fk n l r st olds news None = []
-join_sends rules fk n l r st olds news (Some k) =
-    cond (changed olds news l) (send_subscriptions n k (subscriptions rules.hash fk (row_in olds l) (row_in news l))) []
+abbrev pub join_sends : Rules → Fk → Option ℕ → ℕ → ℕ → ℕ → Store → Values → Values → Option Key → List Sent
+join_sends rules fk part n l r st olds news None = []
+join_sends rules fk part n l r st olds news (Some k) =
+    cond (changed olds news l) (send_subscriptions n k (subscriptions rules.hash fk k part (row_in olds l) (row_in news l))) []
     ++ cond (changed olds news r) (send_responses n (answer_all (row_in news r) (map.entries (st.hashes n k)))) []
 
 abbrev pub sends_at : Rules → Arrival → (ℕ → Option StreamItem) → Store → Values → Values → ℕ → Kind → List Sent
@@ -197,7 +206,7 @@ sends_at rules a items st olds news n (StreamAggregate f by field through) = con
 sends_at rules a items st olds news n (Windowed f by w through) = cond through (regroup by n (items f)) []
 sends_at rules a items st olds news n (TableAggregate f by field) = regroup_rows by field n (row_in olds f) (row_in news f)
 sends_at rules a items st olds news n (ForeignKeyJoin l r fk kind s) =
-    join_sends rules fk n l r st olds news (step_key a.item.message) ++ answer_one n st r (arrived a (Subscriptions n))
+    join_sends rules fk (a.names n) n l r st olds news (step_key a.item.message) ++ answer_one n st r (arrived a (Subscriptions n))
 sends_at rules a items st olds news n _ = []
 
 -- ---- what a node writes into its changelogs: a record where its stored value changes

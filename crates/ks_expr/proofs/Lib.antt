@@ -1,1 +1,2 @@
 pub mod Projecting
+pub mod Fronts

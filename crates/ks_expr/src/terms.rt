@@ -40,6 +40,17 @@ pub enum Pred {
     Or(Box<Pred>, Box<Pred>),
 }
 
+/// What gives the foreign key of a left row of a join.
+#[derive(Drop, Debug)]
+pub enum Fk {
+    /// The key that this field of the row gives.
+    Field(Name),
+    /// The row's own key.
+    Whole,
+    /// The front part of the row's own key, before the first place of this text.
+    Before(Name),
+}
+
 /// The fields of a new row, each with its expression, in any order.
 #[derive(Drop)]
 pub struct Proj {

@@ -51,6 +51,7 @@ impl<'a> Value<'a> {
         Some(Value::Int(self.number()?.wrapping_add(other.number()?)))
     }
 
+    /// The difference, wrapping round; none where one is a text.
     pub fn minus(self, other: Value<'a>) -> Option<Value<'a>>
         ensures { found result ≡ of_numbers (int_wrapping_sub w64) (Some (field_seen self.entry))
             (Some (field_seen other.entry)) }
@@ -58,6 +59,7 @@ impl<'a> Value<'a> {
         Some(Value::Int(self.number()?.wrapping_sub(other.number()?)))
     }
 
+    /// The product, wrapping round; none where one is a text.
     pub fn times(self, other: Value<'a>) -> Option<Value<'a>>
         ensures { found result ≡ of_numbers (int_wrapping_mul w64) (Some (field_seen self.entry))
             (Some (field_seen other.entry)) }

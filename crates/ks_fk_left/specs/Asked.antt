@@ -17,9 +17,9 @@ abbrev pub told : Key → List (Key × Subscription) → List (Key × Subscripti
 told left ss = map (λ s. (s.0, value_of left s.1)) ss
 
 -- one subscription to a foreign key, where there is one
-abbrev pub asked : Option Key → Option ℕ → ℕ → Key → List (Key × SubscriptionValue)
-asked None hash instruction left = []
-asked (Some key) hash instruction left = (key, record { hash = hash; instruction = instruction; left = left }) ∷ []
+abbrev pub asked : Option Key → Option ℕ → ℕ → Key → Option ℕ → List (Key × SubscriptionValue)
+asked None hash instruction left part = []
+asked (Some key) hash instruction left part = (key, record { hash = hash; instruction = instruction; left = left; part = part }) ∷ []
 
 -- what an answer sets: nothing where it is stale
 abbrev pub set_by : Answer → Option (Option Row)

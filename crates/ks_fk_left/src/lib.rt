@@ -3,16 +3,16 @@
 
 ghost use Rattle.std.specs.Prelude.{◌≡◌, ◌≤◌, ◌++◌, Some, None, IfOk, OnOk, option_copied, option_map, is_none, nat_eq};
 ghost use Rattle.ks_row.specs.Spelling.{spelling};
-ghost use Rattle.ks_row.specs.FieldKeys.{field_key};
 ghost use Rattle.ks_expr.specs.Terms.{set_of};
 ghost use Rattle.ks_expr.specs.Eval.{same_bytes, joined};
+ghost use Rattle.ks_wire.specs.Values.{IsPart};
 ghost use Rattle.ks_def_tasks.specs.Messages.{same_option};
 ghost use Rattle.ks_def_tasks.specs.Foreign.{subscriptions, is_direct, key_of_row, respond as responded, hash_of};
 ghost use Rattle.ks_fk_left.specs.Asked.{row_hash, told, asked, set_by};
 
-use ks_expr::{JoinKind, Proj};
+use ks_expr::{Fk, JoinKind, Proj, fk_of};
 use ks_hash::Hash128;
-use ks_row::{Change, Key, Name, Row, encode, equal_bytes, key_of_field};
+use ks_row::{Change, Key, Row, encode, equal_bytes};
 use ks_table_ops::join_rows;
 use ks_wire::{Response, Subscription};
 use std::alloc::{AllocError, Global};
@@ -41,11 +41,16 @@ pub fn hash_row<H: Hash128>(alloc: Global, row: &Row) -> Result<u128, AllocError
     Ok(H::hash(bytes.as_slice()))
 }
 
-fn foreign_key(alloc: Global, fk: &Name, row: Option<&Row>) -> Result<Option<Key>, AllocError>
-    ensures { IfOk result (λ k. k ≡ key_of_row fk.now (option_copied row.entry)) }
+fn foreign_key(
+    alloc: Global,
+    fk: &Fk,
+    left: &Key,
+    row: Option<&Row>,
+) -> Result<Option<Key>, AllocError>
+    ensures { IfOk result (λ k. k ≡ key_of_row fk.now left.now (option_copied row.entry)) }
 {
     match row {
-        Some(row) => key_of_field(alloc, row, fk.as_str().as_bytes()),
+        Some(row) => fk_of(alloc, fk, left, row),
         None => Ok(None),
     }
 }
@@ -68,12 +73,18 @@ fn push_asked(
     hash: Option<u128>,
     instruction: u8,
     left: &Key,
+    part: Option<u8>,
 ) -> Result<(), AllocError>
-    requires { instruction ≤ 3 }
-    ensures { OnOk result (out.new.items ≡ out.old.items ++ asked to hash instruction left.now) }
+    requires instruction { instruction ≤ 3 }
+    requires part { IsPart part }
+    ensures { OnOk result (out.new.items ≡ out.old.items
+        ++ asked to hash instruction left.now part) }
 {
     if let Some(key) = to {
-        out.push((key, Subscription::new(hash, instruction, left.clone()?)))?;
+        out.push((
+            key,
+            Subscription::new(hash, instruction, left.clone()?, part),
+        ))?;
     }
     Ok(())
 }
@@ -89,47 +100,55 @@ fn hash_of_row<H: Hash128>(alloc: Global, row: Option<&Row>) -> Result<Option<u1
 }
 
 /// What a changed left row asks of the right side, by foreign key, the old one first; and whether the result is set at once,
-/// since no answer will come: where the new row has no foreign key, or the deleted one had none.
+/// since no answer will come: where the new row has no foreign key, or the deleted one had none. Each subscription names this partition,
+/// at most 63, if any.
 pub fn subscriptions<H: Hash128>(
     alloc: Global,
-    fk: &Name,
+    fk: &Fk,
+    part: Option<u8>,
     change: &Change,
 ) -> Result<(Vec<(Key, Subscription)>, bool), AllocError>
+    requires part { IsPart part }
     ensures asked { IfOk result (λ r. r.0.items
-        ≡ told change.now.key (subscriptions (row_hash H.hash_of) fk.now change.now.old
-        change.now.new)) }
-    ensures direct { IfOk result (λ r. r.1 ≡ is_direct fk.now change.now.old change.now.new) }
+        ≡ told change.now.key (subscriptions (row_hash H.hash_of) fk.now change.now.key part
+        change.now.old change.now.new)) }
+    ensures direct { IfOk result (λ r. r.1
+        ≡ is_direct fk.now change.now.key change.now.old change.now.new) }
 {
     let hash = hash_of_row::<H>(alloc, change.new.as_ref())?;
-    subscriptions_by::<H>(alloc, fk, change, hash)
+    subscriptions_by::<H>(alloc, fk, part, change, hash)
 }
 
-/// The same, by the hash of the new row, where there is one.
+/// What a changed left row asks, by the hash of the new row, none where there is no new row. Each subscription names this partition, at
+/// most 63, if any.
 pub fn subscriptions_by<H: Hash128>(
     alloc: Global,
-    fk: &Name,
+    fk: &Fk,
+    part: Option<u8>,
     change: &Change,
     hash: Option<u128>,
 ) -> Result<(Vec<(Key, Subscription)>, bool), AllocError>
-    requires { hash ≡ hash_of (row_hash H.hash_of) change.now.new }
+    requires part { IsPart part }
+    requires hash { hash ≡ hash_of (row_hash H.hash_of) change.now.new }
     ensures asked { IfOk result (λ r. r.0.items
-        ≡ told change.now.key (subscriptions (row_hash H.hash_of) fk.now change.now.old
-        change.now.new)) }
-    ensures direct { IfOk result (λ r. r.1 ≡ is_direct fk.now change.now.old change.now.new) }
+        ≡ told change.now.key (subscriptions (row_hash H.hash_of) fk.now change.now.key part
+        change.now.old change.now.new)) }
+    ensures direct { IfOk result (λ r. r.1
+        ≡ is_direct fk.now change.now.key change.now.old change.now.new) }
 {
-    let before = foreign_key(alloc, fk, change.old.as_ref())?;
+    let before = foreign_key(alloc, fk, &change.key, change.old.as_ref())?;
     let mut out = Vec::new(alloc);
     let Some(row) = &change.new else {
         let direct = before.is_none();
-        push_asked(&mut out, before, None, DELETE_AND_ANSWER, &change.key)?;
+        push_asked(&mut out, before, None, DELETE_AND_ANSWER, &change.key, part)?;
         return Ok((out, direct));
     };
-    let now = foreign_key(alloc, fk, Some(row))?;
+    let now = foreign_key(alloc, fk, &change.key, Some(row))?;
     let direct = now.is_none();
     if !is_same_key(&before, &now) {
-        push_asked(&mut out, before, hash, DELETE, &change.key)?;
+        push_asked(&mut out, before, hash, DELETE, &change.key, part)?;
     }
-    push_asked(&mut out, now, hash, ANSWER, &change.key)?;
+    push_asked(&mut out, now, hash, ANSWER, &change.key, part)?;
     Ok((out, direct))
 }
 

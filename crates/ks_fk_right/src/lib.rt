@@ -4,7 +4,7 @@
 ghost use Rattle.std.specs.Prelude.{◌≡◌, ◌++◌, Some, None, IfOk, OnOk, OnErr, option_copied, option_map};
 ghost use Rattle.ks_def_runs.specs.Bytes.{by_bytes};
 ghost use Rattle.ks_def_runs.specs.Table.{write};
-ghost use Rattle.ks_wire.specs.Spelling.{subscription_key, hash_bytes, long_key};
+ghost use Rattle.ks_wire.specs.Spelling.{subscription_key, subscriber_bytes, long_key};
 ghost use Rattle.ks_query.specs.Streams.{some_of};
 ghost use Rattle.ks_def_tasks.specs.Messages.{subscription_of, instruction_of};
 ghost use Rattle.ks_def_tasks.specs.Foreign.{subscribed, answer_to, answer_all};
@@ -13,7 +13,8 @@ ghost use Rattle.ks_def_lookups.specs.Kept.{kept_in, kept_under};
 use ks_row::{Blob, Change, Key, Row};
 use ks_store::KvStore;
 use ks_wire::{
-    Response, Subscription, read_hash, read_subscription_key, write_hash, write_subscription_key,
+    Response, Subscriber, Subscription, read_subscriber, read_subscription_key, write_subscriber,
+    write_subscription_key,
 };
 use std::alloc::{AllocError, Global};
 
@@ -26,14 +27,19 @@ fn copy_row(row: Option<&Row>) -> Result<Option<Row>, AllocError>
     }
 }
 
-/// The hash that is kept of a subscription: the instructions 2 and 3 put it, the others delete.
-#[tactic(auto)]
-fn kept_hash(subscription: &Subscription) -> Option<u128>
+/// What is kept of a subscription: the instructions 2 and 3 put its hash, with the partition that it names, the others delete.
+pub fn kept_of(subscription: &Subscription) -> Option<Subscriber>
     ensures { result ≡ subscribed (subscription_of subscription.now) }
 {
     match subscription.instruction() {
         0 | 1 => None,
-        _ => subscription.hash(),
+        _ => match subscription.hash() {
+            Some(hash) => Some(Subscriber {
+                hash,
+                part: subscription.part(),
+            }),
+            None => None,
+        },
     }
 }
 
@@ -66,34 +72,35 @@ pub fn answer(
     }
 }
 
-// Keeps a hash at a place of the store.
-fn put_hash<S: KvStore>(
+// Keeps a subscriber at a place of the store.
+fn put_kept<S: KvStore>(
     alloc: Global,
     store: &mut S,
     place: &[u8],
-    hash: u128,
+    subscriber: Subscriber,
 ) -> Result<(), AllocError>
     ensures kept { OnOk result (S.contents store.new
-        ≡ write by_bytes (S.contents store.old) place.now (Some (hash_bytes hash))) }
+        ≡ write by_bytes (S.contents store.old) place.now (Some (subscriber_bytes subscriber))) }
     ensures err { OnErr result (S.contents store.new ≡ S.contents store.old) }
 {
-    let value = write_hash(alloc, hash)?;
+    let value = write_subscriber(alloc, subscriber)?;
     store.put(place, value.as_slice())
 }
 
-// Keeps a hash at a place of the store; without one, deletes what is there.
-fn set_hash<S: KvStore>(
+// Keeps a subscriber at a place of the store; without one, deletes what is there.
+fn set_kept<S: KvStore>(
     alloc: Global,
     store: &mut S,
     place: &[u8],
-    hash: Option<u128>,
+    subscriber: Option<Subscriber>,
 ) -> Result<(), AllocError>
     ensures kept { OnOk result (S.contents store.new
-        ≡ write by_bytes (S.contents store.old) place.now (option_map hash_bytes hash)) }
+        ≡ write by_bytes (S.contents store.old) place.now
+        (option_map subscriber_bytes subscriber)) }
     ensures err { OnErr result (S.contents store.new ≡ S.contents store.old) }
 {
-    match hash {
-        Some(hash) => put_hash(alloc, store, place, hash),
+    match subscriber {
+        Some(subscriber) => put_kept(alloc, store, place, subscriber),
         None => {
             store.delete(place);
             Ok(())
@@ -101,26 +108,30 @@ fn set_hash<S: KvStore>(
     }
 }
 
-/// Takes a subscription to a foreign key: keeps its hash or deletes it, and answers with the right row of the moment; none where
-/// the instruction is 0, or 3 and there is no right row. After want of memory the store is as before.
+/// Takes a subscription to a foreign key: keeps its hash with the partition that it names, or deletes what is there, and answers with the
+/// right row of the moment, to that partition; none where the instruction is 0, or 3 and there is no right row. Where it names no
+/// partition, the answer goes to that of the left key. After want of memory the store is as before.
 pub fn on_subscription<S: KvStore>(
     alloc: Global,
     store: &mut S,
     foreign: &Key,
     subscription: &Subscription,
     right: Option<&Row>,
-) -> Result<Option<Response>, AllocError>
+) -> Result<Option<(Response, Option<u8>)>, AllocError>
     ensures kept { OnOk result (S.contents store.new
         ≡ write by_bytes (S.contents store.old) (subscription_key foreign.now subscription.now.left)
-        (option_map hash_bytes (subscribed (subscription_of subscription.now)))) }
-    ensures answer { IfOk result (λ r. r ≡ answer_to (subscription_of subscription.now)
-        (option_copied right.entry)) }
+        (option_map subscriber_bytes (subscribed (subscription_of subscription.now)))) }
+    ensures answer { IfOk result (λ r. r ≡ option_map (λ y. (y, subscription.now.part))
+        (answer_to (subscription_of subscription.now) (option_copied right.entry))) }
     ensures err { OnErr result (S.contents store.new ≡ S.contents store.old) }
 {
     let response = answer(subscription, right)?;
     let key = write_subscription_key(alloc, foreign, subscription.left())?;
-    set_hash(alloc, store, key.as_slice(), kept_hash(subscription))?;
-    Ok(response)
+    set_kept(alloc, store, key.as_slice(), kept_of(subscription))?;
+    match response {
+        Some(response) => Ok(Some((response, subscription.part()))),
+        None => Ok(None),
+    }
 }
 
 /// The front of all keys of the store that stand under a foreign key.
@@ -134,27 +145,31 @@ fn front_of(alloc: Global, foreign: &Key) -> Result<Vec<u8>, AllocError>
     Ok(front)
 }
 
-/// The left key and the hash of a pair of the store; none where the pair is spelled otherwise.
+/// The left key and the subscriber of a pair of the store; none where the pair is spelled otherwise.
 #[tactic(auto, unfolding(ks_def_lookups::specs::Kept::kept_in))]
-fn read_kept(alloc: Global, key: &Blob, value: &Blob) -> Result<Option<(Key, u128)>, AllocError>
+fn read_kept(
+    alloc: Global,
+    key: &Blob,
+    value: &Blob,
+) -> Result<Option<(Key, Subscriber)>, AllocError>
     ensures { IfOk result (λ o. o ≡ kept_in (key.now, value.now)) }
 {
     let Some((_, left)) = read_subscription_key(alloc, key.as_slice())? else {
         return Ok(None);
     };
-    let Some(hash) = read_hash(value.as_slice()) else {
+    let Some(subscriber) = read_subscriber(value.as_slice()) else {
         return Ok(None);
     };
-    Ok(Some((left, hash)))
+    Ok(Some((left, subscriber)))
 }
 
 /// What a changed right row answers: to each left key that the store keeps under it, in order, the hash that is kept and the new
-/// right row or none.
+/// right row or none, and the partition that the subscription named, if it named one.
 pub fn on_right<S: KvStore>(
     alloc: Global,
     store: &S,
     change: &Change,
-) -> Result<Vec<(Key, Response)>, AllocError>
+) -> Result<Vec<(Key, Response, Option<u8>)>, AllocError>
     ensures { IfOk result (λ v. v.items ≡ answer_all change.now.new
         (kept_under change.now.key (S.contents store.now))) }
 {
@@ -162,14 +177,14 @@ pub fn on_right<S: KvStore>(
     let pairs = store.prefix(&front)?;
     let mut answers = Vec::new(alloc);
     for (key, value) in &pairs {
-        let Some((left, hash)) = read_kept(alloc, key, value)? else {
+        let Some((left, subscriber)) = read_kept(alloc, key, value)? else {
             continue;
         };
         let response = Response {
-            hash: Some(hash),
+            hash: Some(subscriber.hash),
             right: copy_row(change.new.as_ref())?,
         };
-        answers.push((left, response))?;
+        answers.push((left, response, subscriber.part))?;
     }
     Ok(answers)
 }

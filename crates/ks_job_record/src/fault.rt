@@ -41,6 +41,7 @@ impl<T: Drop> From<AllocFailed<T>> for LineError {
     }
 }
 
+/// The bytes of a text.
 pub fn blob_of(alloc: Global, text: &str) -> Result<Blob, AllocError>
     ensures { IfOk result (λ b. b ≡ text.now) }
 {

@@ -97,6 +97,7 @@ pub fn read_object(alloc: Global, name: &str, form: Form, value: &Value) -> Resu
     }
 }
 
+/// The member of this name; the fault where the value is no object, or has no such member, or there is no memory.
 #[tactic(auto, unfolding(crate::specs::Members::member_of))]
 pub fn read_member<'a>(alloc: Global, name: &str, value: &'a Value) -> Result<&'a Value, LineError>
     ensures { Gives (λ v. view v.now) result (member_of name.now (view value.now)) }
@@ -107,6 +108,7 @@ pub fn read_member<'a>(alloc: Global, name: &str, value: &'a Value) -> Result<&'
     }
 }
 
+/// The text of the member of this name; the fault where there is no such member, or it is no text, or there is no memory.
 #[tactic(auto, unfolding(crate::specs::Members::text_of))]
 pub fn read_text<'a>(alloc: Global, name: &str, value: &'a Value) -> Result<&'a str, LineError>
     ensures { Gives (λ s. s.now) result (text_of name.now (view value.now)) }

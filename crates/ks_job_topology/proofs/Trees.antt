@@ -10,12 +10,19 @@ use Rattle.ks_job_record.specs.Members.{same}
 use Rattle.ks_job_topology.specs.Tests.{compared, connected, comparison_from, is_connective, simple_from, test_from, pair_test}
 use Rattle.ks_job_topology.specs.declared.expr.Judged.{Judged}
 use Rattle.ks_job_topology.specs.declared.expr.Judged.TheVariants.{Wrong}
+use Rattle.ks_job_topology.specs.Stated.{two_members}
 use Rattle.ks_job_topology.specs.Exprs.{seen_by, joined, one_member, only_member_of, two_items, only_pair_of, is_arithmetic, expr_from, pair_from, leaf_from, both_of}
 
 pub one_member_none : (ms : List (String Global × Value)) → (length ms ≡ 1 → ⊥) → one_member (members_view ms) ≡ None
 one_member_none [] n = refl
 one_member_none (m ∷ []) n = absurd (n refl)
 one_member_none (m ∷ k ∷ ms) n = refl
+
+pub two_members_none : (ms : List (String Global × Value)) → (length ms ≡ 2 → ⊥) → two_members (members_view ms) ≡ None
+two_members_none [] n = refl
+two_members_none (m ∷ []) n = refl
+two_members_none (m ∷ k ∷ []) n = absurd (n refl)
+two_members_none (m ∷ k ∷ j ∷ ms) n = refl
 
 abbrev pub by_member : Bool → Option (List ℕ × Data) → Judged Term
 by_member sides None = Wrong

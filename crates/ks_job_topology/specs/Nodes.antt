@@ -18,6 +18,7 @@ use Rattle.ks_job_record.specs.declared.members.Kind.TheVariants.{Stream, Table,
 use Rattle.ks_job_record.specs.Gives.{◌>>=◌, some_or}
 use Rattle.ks_job_record.specs.Members.{same, object_of, member_of, text_of, integer_of, integer_from}
 use Rattle.ks_job_topology.specs.Exprs.{limited}
+use Rattle.ks_job_topology.specs.Foreign.{fk_from}
 use Rattle.ks_job_topology.specs.Tests.{where_of}
 use Rattle.ks_job_topology.specs.Labels.{is_word_byte}
 
@@ -167,7 +168,7 @@ unfoldable pub fk_join_from : Data → Result OpView JobKind
 fk_join_from d = do
   left ← blob_from (codes "left") d
   right ← blob_from (codes "right") d
-  fk ← name_from (codes "fk") d
+  fk ← fk_from d
   kind ← join_kind_from true d
   set ← set_of true d
   Ok (FkJoinOf left right fk kind set)

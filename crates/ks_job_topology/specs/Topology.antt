@@ -1,5 +1,5 @@
 -- The topology line.
-use Rattle.std.specs.Prelude.{ℕ, ◌==◌, ◌&&◌, ◌||◌, ℤ, pos, List, [], ◌∷◌, ◌++◌, length, map, Bool, true, false, Option, Some, None, Result, Ok, Err, codes, nat_le, int_lt, if◌then◌else◌}
+use Rattle.std.specs.Prelude.{ℕ, ◌==◌, ◌&&◌, ◌||◌, List, [], ◌∷◌, ◌++◌, length, map, Bool, true, false, Option, Some, None, Result, Ok, Err, codes, nat_le, if◌then◌else◌}
 use Rattle.std.specs.List.{list_all}
 use Rattle.serde_json.specs.Data.{Data, Members, no_members, member, Items, no_items, item}
 use Rattle.serde_json.specs.Find.{as_str, as_array, as_object}
@@ -7,11 +7,13 @@ use Rattle.ks_row.specs.Texts.{name_of}
 use Rattle.ks_job_record.specs.declared.fault.JobKind.{JobKind}
 use Rattle.ks_job_record.specs.declared.fault.JobKind.TheVariants.{BadShape}
 use Rattle.ks_job_record.specs.declared.members.Form.TheVariants as form
-use Rattle.ks_plan.specs.Drafts.{DraftView}
+use Rattle.ks_plan.specs.declared.draft.TopicDraft.{TopicDraft}
+use Rattle.ks_plan.specs.Drafts.{Topics, DraftView}
+use Rattle.ks_job_topology.specs.Stated.{spread_from}
 use Rattle.ks_job_record.specs.Gives.{◌>>=◌, some_or}
 use Rattle.ks_job_topology.specs.Labels.{is_label_byte}
 use Rattle.ks_job_topology.specs.Nodes.{nodes_of}
-use Rattle.ks_job_record.specs.Members.{object_of, member_of, text_of, integer_from}
+use Rattle.ks_job_record.specs.Members.{object_of, member_of, text_of}
 
 -- 1 to 64 letters, digits, underscores, dots and dashes
 unfoldable pub label_from : List ℕ → List ℕ → Result (List ℕ) JobKind
@@ -22,23 +24,18 @@ app_from d = do
   text ← text_of (codes "app") d
   label_from (codes "app") text
 
-unfoldable pub parts_from : List ℕ → Data → Result ℤ JobKind
-parts_from name d = do
-  n ← integer_from name d
-  if int_lt n (pos 1) then Err (BadShape name) else Ok n
-
--- a topic's name is judged before its partition count
-unfoldable pub topic_from : List ℕ → Data → Result (List ℕ × ℤ) JobKind
+-- a topic's name is judged before its value
+unfoldable pub topic_from : List ℕ → Data → Result (List ℕ × TopicDraft) JobKind
 topic_from name d = do
   label ← label_from name name
-  parts ← parts_from name d
-  Ok (label, parts)
+  spread ← spread_from name d
+  Ok (label, spread)
 
-abbrev pub topics_from : List (List ℕ × ℤ) → Members → Result (List (List ℕ × ℤ)) JobKind
+abbrev pub topics_from : Topics → Members → Result Topics JobKind
 topics_from found no_members = Ok found
 topics_from found (member k d ms) = topic_from k d >>= λ t. topics_from (found ++ t ∷ []) ms
 
-unfoldable pub topics_of : Data → Result (List (List ℕ × ℤ)) JobKind
+unfoldable pub topics_of : Data → Result Topics JobKind
 topics_of d = do
   inner ← member_of (codes "topics") d
   ms ← some_or (BadShape (codes "topics")) (as_object inner)
@@ -63,5 +60,5 @@ topology_from d = do
   print ← print_of d
   Ok record { app = app; topics = topics; nodes = nodes; print = print }
 
-abbrev pub names_of : List (List ℕ × ℤ) → List (List ℕ)
+abbrev pub names_of : Topics → List (List ℕ)
 names_of ts = map (λ t. t.0) ts

@@ -19,6 +19,7 @@ pub enum Judged<T> {
     Read(T),
 }
 
+/// The one member of an object, with its name; none where the value is no object or hasn't exactly one.
 #[tactic(auto, using(crate::proofs::Trees::one_member_none))]
 pub fn only_member(value: &Value) -> Option<(&str, &Value)>
     ensures { option_map (λ p. (p.0.now, view p.1.now)) result ≡ only_member_of (view value.now) }
@@ -31,6 +32,7 @@ pub fn only_member(value: &Value) -> Option<(&str, &Value)>
     Some((name.as_str(), member))
 }
 
+/// The two items of a list; none where the value is no list or hasn't exactly two.
 #[tactic(auto, using(crate::proofs::Trees::two_items_none, crate::proofs::Trees::two_items_some))]
 pub fn only_pair(value: &Value) -> Option<(&Value, &Value)>
     ensures { option_map (λ p. (view p.0.now, view p.1.now)) result

@@ -9,6 +9,7 @@ fn is_word(byte: u8) -> bool
     byte.is_ascii_alphanumeric() || byte == b'_'
 }
 
+/// Whether each byte is a letter or a digit of ASCII, or an underscore.
 pub fn all_words(bytes: &[u8]) -> bool
     ensures { result ≡ list_all is_word_byte bytes.now }
 {
@@ -21,6 +22,7 @@ fn is_label_part(byte: u8) -> bool
     is_word(byte) || byte == b'.' || byte == b'-'
 }
 
+/// Whether each byte is a letter or a digit of ASCII, an underscore, a dot or a hyphen.
 pub fn all_labels(bytes: &[u8]) -> bool
     ensures { result ≡ list_all is_label_byte bytes.now }
 {

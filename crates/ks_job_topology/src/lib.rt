@@ -3,10 +3,12 @@
 
 mod expr;
 mod field;
+mod foreign;
 mod labels;
 mod node;
 mod pred;
 mod set;
+mod stated;
 mod topology;
 
 pub use topology::{copy_names, read_topology};

@@ -8,6 +8,7 @@ ghost use Rattle.ks_job_record.specs.Gives.{Gives};
 ghost use Rattle.ks_job_topology.specs.Nodes.{kind_of, op_from, node_name_from, filter_from, map_from, key_op_from, count_from, sum_from, windowed_from, join_from, fk_join_from, body_from, node_from, nodes_from, nodes_of};
 
 use crate::field::{read_blob, read_by, read_integer_if, read_join_kind, read_name_of};
+use crate::foreign::read_fk;
 use crate::labels::all_words;
 use crate::pred::read_where;
 use crate::set::read_set;
@@ -159,7 +160,7 @@ fn read_fk_join(alloc: Global, value: &Value) -> Result<Op, LineError>
 {
     let left = read_blob(alloc, "left", value)?;
     let right = read_blob(alloc, "right", value)?;
-    let fk = read_name_of(alloc, "fk", value)?;
+    let fk = read_fk(alloc, value)?;
     let kind = read_join_kind(alloc, true, value)?;
     let set = read_set(alloc, true, value)?;
     Ok(Op::FkJoin {

@@ -2,15 +2,14 @@
 ghost use Rattle.std.specs.Prelude.{◌≡◌, [], IfOk};
 ghost use Rattle.serde_json.specs.View.{view, members_view, items_view};
 ghost use Rattle.ks_job_record.specs.Gives.{Gives};
-ghost use Rattle.ks_job_topology.specs.Topology.{label_from, app_from, parts_from, topic_from, topics_from, topics_of, print_from, print_of, topology_from, names_of};
+ghost use Rattle.ks_job_topology.specs.Topology.{label_from, app_from, topic_from, topics_from, topics_of, print_from, print_of, topology_from, names_of};
 ghost use Rattle.ks_plan.specs.Drafts.{draft_view};
 
 use crate::labels::all_labels;
 use crate::node::read_nodes;
-use ks_job_record::{
-    Form, LineError, bad_shape, blob_of, read_integer, read_member, read_object, read_text,
-};
-use ks_plan::Draft;
+use crate::stated::read_spread;
+use ks_job_record::{Form, LineError, bad_shape, blob_of, read_member, read_object, read_text};
+use ks_plan::{Draft, TopicDraft};
 use ks_row::{Blob, Name, Seq};
 use serde_json::Value;
 use serde_json::value::Map;
@@ -37,28 +36,19 @@ fn read_app(alloc: Global, value: &Value) -> Result<Name, LineError>
     read_label(alloc, "app", text)
 }
 
-#[tactic(auto, unfolding(crate::specs::Topology::parts_from))]
-fn read_parts(alloc: Global, name: &str, value: &Value) -> Result<i64, LineError>
-    ensures { Gives (λ n. n) result (parts_from name.now (view value.now)) }
-{
-    let parts = read_integer(alloc, name, value)?;
-    if parts < 1 {
-        Err(LineError::Fault(bad_shape(alloc, name)?))
-    } else {
-        Ok(parts)
-    }
-}
-
 #[tactic(auto, unfolding(crate::specs::Topology::topic_from))]
-fn read_topic(alloc: Global, name: &str, value: &Value) -> Result<(Name, i64), LineError>
+fn read_topic(alloc: Global, name: &str, value: &Value) -> Result<(Name, TopicDraft), LineError>
     ensures { Gives (λ t. t) result (topic_from name.now (view value.now)) }
 {
     let label = read_label(alloc, name, name)?;
-    let parts = read_parts(alloc, name, value)?;
-    Ok((label, parts))
+    let spread = read_spread(alloc, name, value)?;
+    Ok((label, spread))
 }
 
-fn read_topic_list(alloc: Global, map: &Map<String, Value>) -> Result<Vec<(Name, i64)>, LineError>
+fn read_topic_list(
+    alloc: Global,
+    map: &Map<String, Value>,
+) -> Result<Vec<(Name, TopicDraft)>, LineError>
     ensures { Gives (λ v. v.items) result (topics_from [] (members_view map.now.entries)) }
 {
     let mut topics = Vec::new(alloc);
@@ -69,7 +59,7 @@ fn read_topic_list(alloc: Global, map: &Map<String, Value>) -> Result<Vec<(Name,
 }
 
 #[tactic(auto, unfolding(crate::specs::Topology::topics_of))]
-fn read_topics(alloc: Global, value: &Value) -> Result<Vec<(Name, i64)>, LineError>
+fn read_topics(alloc: Global, value: &Value) -> Result<Vec<(Name, TopicDraft)>, LineError>
     ensures { Gives (λ v. v.items) result (topics_of (view value.now)) }
 {
     let inner = read_member(alloc, "topics", value)?;
@@ -124,7 +114,7 @@ pub fn read_topology(alloc: Global, value: &Value) -> Result<Draft, LineError>
 }
 
 /// The names of the topics.
-pub fn copy_names(alloc: Global, topics: &[(Name, i64)]) -> Result<Vec<Name>, AllocError>
+pub fn copy_names(alloc: Global, topics: &[(Name, TopicDraft)]) -> Result<Vec<Name>, AllocError>
     ensures { IfOk result (λ v. v.items ≡ names_of topics.now) }
 {
     let mut names = Vec::new(alloc);

@@ -3,7 +3,6 @@ use Rattle.std.proofs.Common.{◌≡◌, ℕ, Bool, true, false, cond, ◌&&◌,
 use Rattle.std.specs.Prelude.{option_map, is_none}
 use Rattle.std.proofs.lemmas.Bool.Decides.{Decides-eqb}
 use Rattle.ks_row.specs.Parts.{same_task}
-use Rattle.ks_row.specs.FieldKeys.{field_key}
 use Rattle.ks_expr.specs.declared.terms.JoinKind.{JoinKind}
 use Rattle.ks_expr.specs.declared.terms.JoinKind.TheVariants.{Inner, Left as LeftJoin, Outer}
 use Rattle.ks_expr.specs.Terms.{Set}
@@ -20,6 +19,7 @@ use Rattle.ks_law_quiescence.specs.ForeignJoin.Event.{LeftChanges, RightChanges,
 use Rattle.ks_law_quiescence.proofs.Derived.{shown_row}
 use Rattle.ks_law_fk_quiescence.specs.KeyJoins.{JoinAt, protocol_of, asking, answers, key_task, right_task, key_part, KeyJoin}
 use Rattle.ks_law_fk_quiescence.specs.Joins.{IsAsking, IsAnswer}
+use Rattle.ks_expr.specs.Keys.{fk_of}
 
 pub appended_at : {A : Type 0} (f : ℕ → List A) (i : ℕ) (xs : List A) (j : ℕ) → f j ++ cond (nat_eq j i) xs [] ≡ with_at nat_eq f i (f i ++ xs) j
 appended_at f i xs j = elim (nat_eq j i) as (λ b. nat_eq j i ≡ b → f j ++ cond b xs [] ≡ cond b (f i ++ xs) (f j)) [
@@ -35,19 +35,19 @@ nothing_joined Inner set = refl
 nothing_joined LeftJoin set = refl
 nothing_joined Outer set = refl
 
-module _ (at : JoinAt) where
+module _ (at : JoinAt) (own : Key) where
   abbrev pub happen : KeyJoin → Event Key Row Row → KeyJoin
-  happen j e = happens (protocol_of at) j e
+  happen j e = happens (protocol_of at own) j e
 
   -- a step that changes rows: the left one, then the right one
   abbrev pub both_events : Bool → Bool → Option Row → Key → Option Row → List (Event Key Row Row)
   both_events left right w c y = cond left (LeftChanges w ∷ []) [] ++ cond right (RightChanges c y ∷ []) []
 
   abbrev pub left_sent : Option Row → Option Row → Key → List Subscription
-  left_sent old w b = sent_to_key (protocol_of at) old w b
+  left_sent old w b = sent_to_key (protocol_of at own) old w b
 
   abbrev pub left_result : Option Row → Option Row → Option Row → Option Row
-  left_result old w result = direct (protocol_of at) old w result
+  left_result old w result = direct (protocol_of at own) old w result
 
   pub rows_change : (left right : Bool) (j k : KeyJoin) (w : Option Row) (c : Key) (y : Option Row) →
       k.row ≡ cond left w j.row → k.result ≡ cond left (left_result j.row w j.result) j.result → k.had ≡ cond left (now_had w j.had) j.had →
@@ -107,11 +107,11 @@ module _ (at : JoinAt) where
 
   -- a response comes
   pub response_happens : (j k : KeyJoin) (n : ℕ) (y : Response Row) (rest : List (Response Row)) → j.responses n ≡ y ∷ rest →
-      k.row ≡ j.row → k.result ≡ accept (protocol_of at) j.row j.result y → k.had ≡ j.had →
+      k.row ≡ j.row → k.result ≡ accept (protocol_of at own) j.row j.result y → k.had ≡ j.had →
       ((b : Key) → k.right b ≡ j.right b) → ((b : Key) → k.stored b ≡ j.stored b) → ((b : Key) → k.subscriptions b ≡ j.subscriptions b) →
       ((i : ℕ) → k.responses i ≡ with_at nat_eq j.responses n rest i) → k ≡ happen j (ResponseComes n)
   response_happens j k n y rest e row result had rights stored asked answered =
-      let first : k ≡ response_comes (protocol_of at) j n (y ∷ rest) = λ i. record {
+      let first : k ≡ response_comes (protocol_of at own) j n (y ∷ rest) = λ i. record {
         row = row i;
         result = result i;
         had = had i;
@@ -120,7 +120,7 @@ module _ (at : JoinAt) where
         subscriptions = λ b. asked b i;
         responses = λ n. answered n i;
       } in
-      first ∙ ap (response_comes (protocol_of at) j n) (sym e)
+      first ∙ ap (response_comes (protocol_of at own) j n) (sym e)
 
   -- a subscription comes
   pub subscription_happens : (j k : KeyJoin) (c : Key) (y : Subscription) (rest : List Subscription) → j.subscriptions c ≡ y ∷ rest →
@@ -130,7 +130,7 @@ module _ (at : JoinAt) where
       k ≡ happen j (SubscriptionComes c)
   subscription_happens j k c y rest e row result had rights stored asked answered =
       let sent = answer_to y (j.right c) in
-      let first : k ≡ subscription_comes (protocol_of at) j c (y ∷ rest) = λ i. record {
+      let first : k ≡ subscription_comes (protocol_of at own) j c (y ∷ rest) = λ i. record {
         row = row i;
         result = result i;
         had = had i;
@@ -139,26 +139,26 @@ module _ (at : JoinAt) where
         subscriptions = λ b. asked b i;
         responses = λ n. (answered n ∙ appended_at j.responses (key_part at c) sent n) i;
       } in
-      first ∙ ap (subscription_comes (protocol_of at) j c) (sym e)
+      first ∙ ap (subscription_comes (protocol_of at own) j c) (sym e)
 
   -- ---- results
   at_once : (k : Option Key) (w : Option Row) (result : Option Stored) → option_map shown (cond (is_none k) (of_row w) result) ≡ cond (same_key same_bytes k None) w (option_map shown result)
   at_once None w result = shown_row w
   at_once (Some b) w result = refl
 
-  pub direct_shown : (old new : Option Row) (result : Option Stored) → option_map shown (direct_value at.fk at.kind at.set old new result) ≡ left_result old new (option_map shown result)
+  pub direct_shown : (old new : Option Row) (result : Option Stored) → option_map shown (direct_value at.fk (Some own) at.kind at.set old new result) ≡ left_result old new (option_map shown result)
   direct_shown None None result = refl
-  direct_shown (Some u) None result = at_once (field_key at.fk u) None result
-  direct_shown None (Some v) result = at_once (field_key at.fk v) (joined at.kind at.set (Some v) None) result
-  direct_shown (Some u) (Some v) result = at_once (field_key at.fk v) (joined at.kind at.set (Some v) None) result
+  direct_shown (Some u) None result = at_once (fk_of at.fk own u) None result
+  direct_shown None (Some v) result = at_once (fk_of at.fk own v) (joined at.kind at.set (Some v) None) result
+  direct_shown (Some u) (Some v) result = at_once (fk_of at.fk own v) (joined at.kind at.set (Some v) None) result
 
   pub respond_shown : (left : Option Row) (y : Answer) (result : Option Stored) → IsAnswer y.hash y.right →
-      option_map shown (set_result (respond at.rules.hash at.kind at.set left y) result) ≡ accept (protocol_of at) left (option_map shown result) (answers y)
+      option_map shown (set_result (respond at.rules.hash at.kind at.set left y) result) ≡ accept (protocol_of at own) left (option_map shown result) (answers y)
   respond_shown left y result is = by_hash left y.hash y.right is
     where
       by_hash : (left : Option Row) (h : Option ℕ) (right : Option Row) → IsAnswer h right →
           option_map shown (set_result (cond (same_option nat_eq (option_map at.rules.hash left) h) (Some (joined at.kind at.set left right)) None) result)
-          ≡ accept (protocol_of at) left (option_map shown result) (record { hash = h; row = right })
+          ≡ accept (protocol_of at own) left (option_map shown result) (record { hash = h; row = right })
       by_hash None None None is = shown_row (joined at.kind at.set None None) ∙ nothing_joined at.kind at.set
       by_hash None None (Some y) is = absurd is
       by_hash None (Some h) right is = refl

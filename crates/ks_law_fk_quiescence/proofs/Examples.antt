@@ -3,6 +3,7 @@ use Rattle.std.proofs.Common.{◌≡◌, ℕ, List, [], ◌∷◌, Option, Some,
 use Rattle.std.specs.Prelude.{pos, codes, take}
 use Rattle.ks_row.specs.declared.row.Field.TheVariants.{Int, Text}
 use Rattle.ks_row.specs.declared.record.TaskId.{TaskId}
+use Rattle.ks_expr.specs.declared.terms.Fk.TheVariants as fk
 use Rattle.ks_expr.specs.declared.terms.JoinKind.TheVariants.{Inner}
 use Rattle.ks_expr.specs.Terms.{Set}
 use Rattle.ks_expr.specs.Terms.Term.{LeftOf, RightOf}
@@ -27,9 +28,9 @@ fields = (codes "amt", LeftOf (codes "amt")) ∷ (codes "region", RightOf (codes
 abbrev orders : DraftView
 orders = record {
   app = codes "s";
-  topics = (codes "customers", pos 1) ∷ (codes "orders", pos 1) ∷ [];
+  topics = (codes "customers", record { parts = pos 1; before = None }) ∷ (codes "orders", record { parts = pos 1; before = None }) ∷ [];
   nodes = record { name = codes "o"; op = TableOf (codes "orders") } ∷ record { name = codes "c"; op = TableOf (codes "customers") }
-      ∷ record { name = codes "e"; op = FkJoinOf (codes "o") (codes "c") (codes "cust") Inner fields } ∷ [];
+      ∷ record { name = codes "e"; op = FkJoinOf (codes "o") (codes "c") (fk.Field (codes "cust")) Inner fields } ∷ [];
   print = codes "e" ∷ [];
 }
 
@@ -51,7 +52,7 @@ choices = (None, record { topic = InputTopic 1; part = 0 }) ∷ (Some (record { 
     ∷ (Some (record { sub = 1; part = 0 }), record { topic = Responses 2; part = 0 }) ∷ (Some (record { sub = 1; part = 0 }), record { topic = Responses 2; part = 0 }) ∷ []
 
 abbrev joined_orders : JoinAt
-joined_orders = join_at one_part (plan_of orders) 2 0 1 (codes "cust") Inner fields
+joined_orders = join_at one_part (plan_of orders) 2 0 1 (fk.Field (codes "cust")) Inner fields
 
 abbrev after : ℕ → KeyJoin
 after n = key_join_in joined_orders (codes "o1") (state_of one_part (plan_of orders) (put_row 1 (codes "o1") order ∷ put_row 0 (codes "c1") customer ∷ []) (take n choices))

@@ -1,14 +1,14 @@
 -- Joins on a foreign key at rest.
 use Rattle.std.proofs.Common.{◌≡◌, ℕ, true, false, cond, List, [], slice_get, Option, Some, None, refl, sym, ap, ap₂, ◌∙◌, arith}
-use Rattle.std.specs.Prelude.{option_and_then}
+use Rattle.std.specs.Prelude.{option_and_then, option_map}
 use Rattle.std.specs.Cmp.Lexicographic.{nat_list_cmp_total}
 use Rattle.std.specs.FinMap.{slice_cmp-IsAntisymmetric, nat_cmp-IsAntisymmetric}
 use Rattle.ks_row.specs.declared.record.TaskId.{TaskId}
 use Rattle.ks_row.specs.Parts.{same_task}
-use Rattle.ks_row.specs.FieldKeys.{field_key}
 use Rattle.ks_expr.specs.declared.terms.JoinKind.{JoinKind}
 use Rattle.ks_expr.specs.Terms.{Set}
 use Rattle.ks_expr.specs.Eval.{Row, same_bytes, joined}
+use Rattle.ks_expr.specs.declared.terms.Fk.{Fk}
 use Rattle.ks_plan.specs.Plan.{Plan}
 use Rattle.ks_plan.specs.Plan.Kind.{ForeignKeyJoin}
 use Rattle.ks_def_runs.specs.FinMap as fin
@@ -16,7 +16,7 @@ use Rattle.ks_query.specs.Streams.{Key, Input}
 use Rattle.ks_query.specs.Query.{Table, right_row, query}
 use Rattle.ks_def_tasks.specs.Messages.{Place, Rules, same_option}
 use Rattle.ks_def_tasks.specs.Collision.{NoneCollides, NoCollision}
-use Rattle.ks_def_tasks.specs.Rest.{IsDrained, home}
+use Rattle.ks_def_tasks.specs.Rest.{IsDrained, home, named}
 use Rattle.ks_def_tasks.proofs.Names.{same_task-is}
 use Rattle.ks_law_quiescence.specs.AtRest.{IsQuery}
 use Rattle.ks_law_quiescence.specs.States.{State, state_of, row_at, home_task}
@@ -26,16 +26,19 @@ use Rattle.ks_law_quiescence.proofs.AtRest.{everywhere, at_home}
 use Rattle.ks_law_quiescence.proofs.Fits.{Fits, each_at}
 use Rattle.ks_law_quiescence.proofs.Mixed.{Stands_at}
 use Rattle.ks_law_quiescence.proofs.OneKey.{keys_decided, stored_at_rest, result_at_rest}
-use Rattle.ks_query.proofs.Pointwise.{get-map_values}
+use Rattle.ks_query.proofs.Pointwise.{get-map_rows}
 use Rattle.ks_law_quiescence.proofs.Queries.{query_at, given_here}
 use Rattle.ks_law_fk_quiescence.specs.KeyJoins.{JoinAt, join_at, protocol_of, KeyJoin, asked_by, answered_to, asking_place, answers_place, right_task}
-use Rattle.ks_law_fk_quiescence.specs.AtRest.{hash_for}
+use Rattle.ks_law_fk_quiescence.specs.AtRest.{hash_for, subscriber_for}
 use Rattle.ks_law_fk_quiescence.proofs.Waits.{beside, left_home}
 use Rattle.ks_law_fk_quiescence.proofs.Simulated.{see, left_past}
 use Rattle.ks_law_fk_quiescence.proofs.Seeing.{Sees, sees_run, sees_sound, node_is}
 use Rattle.ks_law_fk_quiescence.proofs.HashesPlaced.{hashes_run}
+use Rattle.ks_expr.specs.Keys.{fk_of}
+use Rattle.ks_wire.specs.declared.values.Subscriber.{Subscriber}
+use Rattle.ks_law_quiescence.proofs.Placed.{Placed, placed_run}
 
-module _ (rules : Rules) (p : Plan) (fits : Fits p) (a l r : ℕ) (fk : List ℕ) (kind : JoinKind) (set : Set) (stands : Stands_at a (ForeignKeyJoin l r fk kind set) 0 p.kinds) (records : List Input) (schedule : List (Option TaskId × Place)) where
+module _ (rules : Rules) (p : Plan) (fits : Fits p) (a l r : ℕ) (fk : Fk) (kind : JoinKind) (set : Set) (stands : Stands_at a (ForeignKeyJoin l r fk kind set) 0 p.kinds) (records : List Input) (schedule : List (Option TaskId × Place)) where
   abbrev site : JoinAt
   site = join_at rules p a l r fk kind set
 
@@ -62,33 +65,48 @@ module _ (rules : Rules) (p : Plan) (fits : Fits p) (a l r : ℕ) (fk : List ℕ
     no_answers j = ap (λ xs. answered_to k (messages xs)) (drained (Some (right_task site j)) (answers_place site k) refl)
 
     abbrev wanted : Key → Option ℕ
-    wanted b = join.wanted (protocol_of site) mine.row b
+    wanted b = join.wanted (protocol_of site k) mine.row b
 
     pub stored_rests : (b : Key) → mine.stored b ≡ wanted b
-    stored_rests b = stored_at_rest (protocol_of site) keys_decided mine (sees_sound rules p fits a l r fk kind set stands k st sees (none_here none k)) no_asking b
+    stored_rests b = stored_at_rest (protocol_of site k) keys_decided mine (sees_sound rules p fits a l r fk kind set stands k st sees (none_here none k)) no_asking b
 
-    pub result_rests : mine.result ≡ join.query (protocol_of site) mine.row mine.right
-    result_rests = result_at_rest (protocol_of site) keys_decided mine (sees_sound rules p fits a l r fk kind set stands k st sees (none_here none k)) no_asking no_answers
+    pub result_rests : mine.result ≡ join.query (protocol_of site k) mine.row mine.right
+    result_rests = result_at_rest (protocol_of site k) keys_decided mine (sees_sound rules p fits a l r fk kind set stands k st sees (none_here none k)) no_asking no_answers
 
-  pub wanted_is : (row : Option Row) (b : Key) → join.wanted (protocol_of site) row b ≡ option_and_then (hash_for rules fk b) row
-  wanted_is None b = refl
-  wanted_is (Some v) b = by_key (field_key fk v)
+  pub wanted_is : (k : Key) (row : Option Row) (b : Key) → join.wanted (protocol_of site k) row b ≡ option_and_then (hash_for rules fk b k) row
+  wanted_is k None b = refl
+  wanted_is k (Some v) b = by_key (fk_of fk k v)
     where
       by_key : (c : Option Key) → cond (join.same_key same_bytes c (Some b)) (Some (rules.hash v)) None ≡ cond (same_option same_bytes c (Some b)) (Some (rules.hash v)) None
       by_key None = refl
       by_key (Some c) = refl
 
-  -- each hash store
+  -- what is kept is the hash with the partition that it names
+  with_named : (k : Key) (o : Option Subscriber) → ((x : Subscriber) → o ≡ Some x → x.part ≡ named rules p a k) → o ≡ option_map (λ h. record { hash = h; part = named rules p a k }) (option_map (λ (x : Subscriber). x.hash) o)
+  with_named k None names = refl
+  with_named k (Some x) names = ap (λ part. Some (record { hash = x.hash; part = part })) (names x refl)
+
+  subscriber_is : (b k : Key) (row : Option Row) → option_map (λ h. record { hash = h; part = named rules p a k }) (option_and_then (hash_for rules fk b k) row) ≡ option_and_then (subscriber_for rules p a fk b k) row
+  subscriber_is b k None = refl
+  subscriber_is b k (Some v) = refl
+
+  -- each subscription store
   pub hashes_rest : IsDrained st → NoCollision rules p st → (u : TaskId) (b k : Key) →
-      fin.get ((st.stores u).hashes a b) k ≡ cond (same_task u (home_task rules p r b)) (option_and_then (hash_for rules fk b) (row_at st (home_task rules p l k) l k)) None
+      fin.get ((st.stores u).hashes a b) k ≡ cond (same_task u (home_task rules p r b)) (option_and_then (subscriber_for rules p a fk b k) (row_at st (home_task rules p l k) l k)) None
   hashes_rest drained none u b k =
-      elim (same_task u (home_task rules p r b)) as (λ t. same_task u (home_task rules p r b) ≡ t → fin.get ((st.stores u).hashes a b) k ≡ cond t (option_and_then (hash_for rules fk b) (row_at st (home_task rules p l k) l k)) None) [
-        | true ↦ λ t. ap (λ v. fin.get ((st.stores v).hashes a b) k) ((same_task-is u (home_task rules p r b)).0 t) ∙ stored_rests drained none k b
-            ∙ wanted_is (row_at st (home_task rules p a k) l k) b ∙ ap (λ v. option_and_then (hash_for rules fk b) (row_at st v l k)) (sym (left_home rules p fits a l r fk kind set stands k))
+      elim (same_task u (home_task rules p r b)) as (λ t. same_task u (home_task rules p r b) ≡ t → fin.get ((st.stores u).hashes a b) k ≡ cond t (option_and_then (subscriber_for rules p a fk b k) (row_at st (home_task rules p l k) l k)) None) [
+        | true ↦ λ t. ap (λ v. fin.get ((st.stores v).hashes a b) k) ((same_task-is u (home_task rules p r b)).0 t)
+            ∙ with_named k (fin.get ((st.stores (home_task rules p r b)).hashes a b) k) (λ x e. placed.stored (home_task rules p r b) a b k x e)
+            ∙ ap (option_map (λ h. record { hash = h; part = named rules p a k }))
+            (stored_rests drained none k b ∙ wanted_is k (row_at st (home_task rules p a k) l k) b ∙ ap (λ v. option_and_then (hash_for rules fk b k) (row_at st v l k)) (sym (left_home rules p fits a l r fk kind set stands k)))
+            ∙ subscriber_is b k (row_at st (home_task rules p l k) l k)
         | false ↦ λ t. absent t (fin.get ((st.stores u).hashes a b) k) refl
       ] refl
     where
-      absent : same_task u (home_task rules p r b) ≡ false → (w : Option ℕ) → fin.get ((st.stores u).hashes a b) k ≡ w → w ≡ None
+      placed : Placed rules p st
+      placed = placed_run rules p fits records schedule
+
+      absent : same_task u (home_task rules p r b) ≡ false → (w : Option Subscriber) → fin.get ((st.stores u).hashes a b) k ≡ w → w ≡ None
       absent t None e = refl
       absent t (Some h) e =
           let is : u ≡ home_task rules p r b = (hashes_run rules p fits a l r fk kind set stands records schedule).placed u b k h e in
@@ -96,10 +114,10 @@ module _ (rules : Rules) (p : Plan) (fits : Fits p) (a l r : ℕ) (fk : List ℕ
           cc
 
   -- ---- the table
-  joined_rows : (row : Option Row) (right : Key → Option Row) (t : Table) → ((b : Key) → right b ≡ fin.get t b) →
-      join.query (protocol_of site) row right ≡ option_and_then (λ v. joined kind set (Some v) (right_row t (field_key fk v))) row
-  joined_rows None right t same = refl
-  joined_rows (Some v) right t same = ap (joined kind set (Some v)) (by_key (field_key fk v))
+  joined_rows : (k : Key) (row : Option Row) (right : Key → Option Row) (t : Table) → ((b : Key) → right b ≡ fin.get t b) →
+      join.query (protocol_of site k) row right ≡ option_and_then (λ v. joined kind set (Some v) (right_row t (fk_of fk k v))) row
+  joined_rows k None right t same = refl
+  joined_rows k (Some v) right t same = ap (joined kind set (Some v)) (by_key (fk_of fk k v))
     where
       by_key : (c : Option Key) → join.right_of right c ≡ right_row t c
       by_key None = refl
@@ -109,10 +127,10 @@ module _ (rules : Rules) (p : Plan) (fits : Fits p) (a l r : ℕ) (fk : List ℕ
   join_rests drained none hl hr = everywhere rules p fits records schedule a (λ k.
       let answer = query_at records p a (ForeignKeyJoin l r fk kind set) stands in
       let before = beside rules p fits a l r fk kind set stands in
-      let f : Row → Option Row = λ v. joined kind set (Some v) (right_row ((query p records).tables r) (field_key fk v)) in
+      let f : Row → Option Row = λ v. joined kind set (Some v) (right_row ((query p records).tables r) (fk_of fk k v)) in
       result_rests drained none k
-      ∙ joined_rows (row_at st (home_task rules p a k) l k) (λ b. row_at st (home_task rules p r b) r b) ((query p records).tables r) (λ b. at_home rules p fits records schedule r hr b)
+      ∙ joined_rows k (row_at st (home_task rules p a k) l k) (λ b. row_at st (home_task rules p r b) r b) ((query p records).tables r) (λ b. at_home rules p fits records schedule r hr b)
       ∙ ap (option_and_then f) (ap (λ u. row_at st u l k) (sym (left_home rules p fits a l r fk kind set stands k)) ∙ at_home rules p fits records schedule l hl k)
       ∙ sym (ap (λ t. fin.get t k) (answer.table ∙ given_here records answer.then.tables a _)
-      ∙ get-map_values nat_list_cmp_total (slice_cmp-IsAntisymmetric nat_cmp-IsAntisymmetric) (λ v. joined kind set (Some v) (right_row (answer.then.tables r) (field_key fk v))) (answer.then.tables l) k
-      ∙ ap₂ (λ t u. option_and_then (λ v. joined kind set (Some v) (right_row u (field_key fk v))) (fin.get t k)) (answer.before.tables l before.before) (answer.before.tables r (each_at p 0 p.kinds a (ForeignKeyJoin l r fk kind set) fits stands).1)))
+      ∙ get-map_rows nat_list_cmp_total (slice_cmp-IsAntisymmetric nat_cmp-IsAntisymmetric) (λ k v. joined kind set (Some v) (right_row (answer.then.tables r) (fk_of fk k v))) (answer.then.tables l) k
+      ∙ ap₂ (λ t u. option_and_then (λ v. joined kind set (Some v) (right_row u (fk_of fk k v))) (fin.get t k)) (answer.before.tables l before.before) (answer.before.tables r (each_at p 0 p.kinds a (ForeignKeyJoin l r fk kind set) fits stands).1)))

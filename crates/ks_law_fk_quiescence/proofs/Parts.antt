@@ -4,11 +4,9 @@ use Rattle.std.proofs.lemmas.Bool.Decides.{Decides-eqb}
 use Rattle.std.specs.Cmp.{eq_by_cmp_equiv}
 use Rattle.std.specs.Cmp.Lexicographic.{nat_list_cmp_total}
 use Rattle.std.specs.FinMap.Entries.{find, is_sorted}
-use Rattle.ks_row.specs.FieldKeys.{field_key}
 use Rattle.ks_expr.specs.Eval.{Row, same_bytes}
-use Rattle.ks_wire.specs.declared.values.Response.{Response as Answer}
 use Rattle.ks_plan.specs.declared.node.Topic.TheVariants.{Subscriptions, Responses}
-use Rattle.ks_plan.specs.Layout.{parts_of, parts_of_topic}
+use Rattle.ks_plan.specs.Layout.{parts_of, before_of, spread_of, spread_of_topic}
 use Rattle.ks_def_runs.specs.FinMap as fin
 use Rattle.ks_def_runs.specs.FinMap.{FinMap}
 use Rattle.ks_def_runs.specs.Bytes.{by_bytes}
@@ -17,14 +15,21 @@ use Rattle.ks_query.specs.Streams.{Key}
 use Rattle.ks_def_tasks.specs.Messages.{Place, same_place, same_option, Instruction, Message, Subscription as Asking}
 use Rattle.ks_def_tasks.specs.Messages.Instruction.{Delete, DeleteAndAnswer, Answer as AnswerAlways, AnswerIfThere}
 use Rattle.ks_def_tasks.specs.Messages.Message.{Given, Keyed, Moved, Asked, Answered, Kept, KeptCount, KeptTime, KeptHash}
-use Rattle.ks_def_tasks.specs.Foreign.{key_of_row, subscribe, subscriptions, answer_all, answer_by}
+use Rattle.ks_def_tasks.specs.Foreign.{key_of_row, subscribe, subscriptions, answer_all, answer_by, Sending}
 use Rattle.ks_def_tasks.specs.Step.{send_subscriptions, send_responses, answer_of}
 use Rattle.ks_law_quiescence.specs.ForeignJoin.{Subscription, Response, same_key, sent_to_key, answer, answer_to}
 use Rattle.ks_law_quiescence.specs.ForeignJoin.Subscription.{Forget, ForgetAndAnswer, Ask}
 use Rattle.ks_law_quiescence.proofs.Mixed.{picked}
 use Rattle.ks_law_quiescence.proofs.OneKey.{same_key-is, keys_decided}
-use Rattle.ks_law_fk_quiescence.specs.KeyJoins.{asking, asks, answers, asked_by, answered_to, asking_place, answers_place, JoinAt, protocol_of}
+use Rattle.ks_law_fk_quiescence.specs.KeyJoins.{asking, asks, answers, asked_by, answered_to, asking_place, answers_place, JoinAt, protocol_of, left_part, named_at}
 use Rattle.ks_law_fk_quiescence.specs.Joins.{IsAsking}
+use Rattle.ks_expr.specs.Keys.{fk_of}
+use Rattle.ks_wire.specs.declared.values.Subscriber.{Subscriber}
+use Rattle.std.specs.Prelude.{option_map}
+use Rattle.ks_plan.specs.Drafts.{Name}
+use Rattle.ks_def_tasks.specs.Tasks.{to_part}
+use Rattle.ks_def_tasks.specs.Step.To.{Named}
+use Rattle.ks_law_quiescence.proofs.Each.{Each, each_parts}
 
 pub same_turned : (a b : Key) → same_bytes a b ≡ same_bytes b a
 same_turned a b = (eq_by_cmp_equiv nat_list_cmp_total).symm a b
@@ -101,16 +106,16 @@ both_keys old new b h = by_tests (same_option same_bytes old new) (same_key same
     by_tests false true false x y z = refl
     by_tests false false t x y z = append-nil _
 
-module _ (at : JoinAt) (parts : parts_of_topic at.plan (Subscriptions at.node) ≡ parts_of at.plan at.right) where
+module _ (at : JoinAt) (spread : spread_of_topic at.plan (Subscriptions at.node) ≡ spread_of at.plan at.right) where
   pub asked_sent : (b k c : Key) (ss : List (Key × Asking)) → asked_by b k (picked at.rules at.plan (asking_place at b) (send_subscriptions at.node c ss)) ≡ for_key b (same_bytes k c) ss
   asked_sent b k c [] = refl
   asked_sent b k c (s ∷ ss) =
       let more = picked at.rules at.plan (asking_place at b) (send_subscriptions at.node c ss) in
-      let to : Place = record { topic = Subscriptions at.node; part = at.rules.part s.0 (parts_of_topic at.plan (Subscriptions at.node)) } in
+      let to : Place = record { topic = Subscriptions at.node; part = at.rules.part s.0 (spread_of_topic at.plan (Subscriptions at.node)) } in
       elim (same_bytes s.0 b) as (λ t. same_bytes s.0 b ≡ t → asked_by b k (cond (same_place (asking_place at b) to) (Asked s.0 c s.1 ∷ more) more) ≡ cond (t && same_bytes k c) (asks s.1 ∷ for_key b (same_bytes k c) ss) (for_key b (same_bytes k c) ss)) [
         | true ↦ λ e.
             let is : s.0 ≡ b = (keys_decided s.0 b).0 e in
-            let here : nat_eq (at.rules.part b (parts_of at.plan at.right)) (at.rules.part s.0 (parts_of_topic at.plan (Subscriptions at.node))) ≡ true = (Decides-eqb _ _).1 (ap₂ at.rules.part (sym is) (sym parts)) in
+            let here : nat_eq (at.rules.part b (spread_of at.plan at.right)) (at.rules.part s.0 (spread_of_topic at.plan (Subscriptions at.node))) ≡ true = (Decides-eqb _ _).1 (ap₂ at.rules.part (sym is) (sym spread)) in
             let place : same_place (asking_place at b) to ≡ true = ap₂ (λ x y. x && y) ((Decides-eqb at.node at.node).1 refl) here in
             ap (λ t. asked_by b k (cond t (Asked s.0 c s.1 ∷ more) more)) place
             ∙ ap (λ t. cond (t && same_bytes k c) (asks s.1 ∷ asked_by b k more) (asked_by b k more)) e
@@ -121,73 +126,92 @@ module _ (at : JoinAt) (parts : parts_of_topic at.plan (Subscriptions at.node) �
         ]
       ] refl
 
-  abbrev sent : Key → Option Key → Option Row → List Subscription
-  sent b k None = cond (same_key same_bytes k (Some b)) (ForgetAndAnswer ∷ []) []
-  sent b k (Some v) = cond (same_key same_bytes (field_key at.fk v) (Some b)) (Ask (at.rules.hash v) ∷ []) (cond (same_key same_bytes k (Some b)) (Forget ∷ []) [])
+  module _ (own : Key) (part : Option ℕ) where
+    abbrev sent : Key → Option Key → Option Row → List Subscription
+    sent b k None = cond (same_key same_bytes k (Some b)) (ForgetAndAnswer ∷ []) []
+    sent b k (Some v) = cond (same_key same_bytes (fk_of at.fk own v) (Some b)) (Ask (at.rules.hash v) ∷ []) (cond (same_key same_bytes k (Some b)) (Forget ∷ []) [])
 
-  pub for_own : (b : Key) (old new : Option Row) → for_key b true (subscriptions at.rules.hash at.fk old new) ≡ sent_to_key (protocol_of at) old new b
-  for_own b old new = by_new new ∙ by_old old new
-    where
-      by_new : (new : Option Row) → for_key b true (subscriptions at.rules.hash at.fk old new) ≡ sent b (key_of_row at.fk old) new
-      by_new None = one_key b (key_of_row at.fk old) (record { hash = None; instruction = DeleteAndAnswer })
-      by_new (Some v) =
-          let d = same_option same_bytes (key_of_row at.fk old) (field_key at.fk v) in
-          let first = subscribe (key_of_row at.fk old) (record { hash = Some (at.rules.hash v); instruction = Delete }) in
-          for_key-append b true (cond d [] first) (subscribe (field_key at.fk v) (record { hash = Some (at.rules.hash v); instruction = AnswerAlways }))
-          ∙ ap₂ (λ xs ys. xs ++ ys)
-          (elim d as (λ t. for_key b true (cond t [] first) ≡ cond t [] (cond (same_key same_bytes (key_of_row at.fk old) (Some b)) (Forget ∷ []) [])) [ true ↦ refl | false ↦ one_key b (key_of_row at.fk old) (record { hash = Some (at.rules.hash v); instruction = Delete }) ])
-          (one_key b (field_key at.fk v) (record { hash = Some (at.rules.hash v); instruction = AnswerAlways }))
-          ∙ both_keys (key_of_row at.fk old) (field_key at.fk v) b (at.rules.hash v)
+    pub for_own : (b : Key) (old new : Option Row) → for_key b true (subscriptions at.rules.hash at.fk own part old new) ≡ sent_to_key (protocol_of at own) old new b
+    for_own b old new = by_new new ∙ by_old old new
+      where
+        by_new : (new : Option Row) → for_key b true (subscriptions at.rules.hash at.fk own part old new) ≡ sent b (key_of_row at.fk own old) new
+        by_new None = one_key b (key_of_row at.fk own old) (record { hash = None; instruction = DeleteAndAnswer; part = part })
+        by_new (Some v) =
+            let d = same_option same_bytes (key_of_row at.fk own old) (fk_of at.fk own v) in
+            let gone : Asking = record { hash = Some (at.rules.hash v); instruction = Delete; part = part } in
+            let asks : Asking = record { hash = Some (at.rules.hash v); instruction = AnswerAlways; part = part } in
+            let first = subscribe (key_of_row at.fk own old) gone in
+            for_key-append b true (cond d [] first) (subscribe (fk_of at.fk own v) asks)
+            ∙ ap₂ (λ xs ys. xs ++ ys)
+            (elim d as (λ t. for_key b true (cond t [] first) ≡ cond t [] (cond (same_key same_bytes (key_of_row at.fk own old) (Some b)) (Forget ∷ []) [])) [ true ↦ refl | false ↦ one_key b (key_of_row at.fk own old) gone ])
+            (one_key b (fk_of at.fk own v) asks)
+            ∙ both_keys (key_of_row at.fk own old) (fk_of at.fk own v) b (at.rules.hash v)
 
-      by_old : (old new : Option Row) → sent b (key_of_row at.fk old) new ≡ sent_to_key (protocol_of at) old new b
-      by_old None None = refl
-      by_old None (Some v) = refl
-      by_old (Some u) None = refl
-      by_old (Some u) (Some v) = refl
+        by_old : (old new : Option Row) → sent b (key_of_row at.fk own old) new ≡ sent_to_key (protocol_of at own) old new b
+        by_old None None = refl
+        by_old None (Some v) = refl
+        by_old (Some u) None = refl
+        by_old (Some u) (Some v) = refl
 
 -- ---- responses, of those that go to the left key k
-abbrev pub to_left : Key → List (Key × Answer) → List (Response Row)
+abbrev pub to_left : Key → List Sending → List (Response Row)
 to_left k [] = []
 to_left k (e ∷ es) = cond (same_bytes k e.0) (answers e.1 ∷ to_left k es) (to_left k es)
 
 module _ (at : JoinAt) where
-  pub answered_sent : (k : Key) (es : List (Key × Answer)) → answered_to k (picked at.rules at.plan (answers_place at k) (send_responses at.node es)) ≡ to_left k es
-  answered_sent k [] = refl
-  answered_sent k (e ∷ es) =
+  -- a partition that is named is the left key's
+  named_home : (k : Key) (part : Option ℕ) → part ≡ named_at at k → to_part at.rules at.plan (Responses at.node) k (Named part) ≡ left_part at k
+  named_home k part e = by (before_of at.plan at.node) refl part e
+    where
+      by : (b : Option Name) → before_of at.plan at.node ≡ b → (part : Option ℕ) → part ≡ option_map (λ s. left_part at k) b → to_part at.rules at.plan (Responses at.node) k (Named part) ≡ left_part at k
+      by None plain part is = ap (λ o. to_part at.rules at.plan (Responses at.node) k (Named o)) is ∙ ap (λ b. at.rules.part k (record { parts = parts_of at.plan at.node; before = b })) (sym plain)
+      by (Some s) stated part is = ap (λ o. to_part at.rules at.plan (Responses at.node) k (Named o)) is
+
+  abbrev pub NamesLeft : Sending → Type 0
+  NamesLeft e = e.2 ≡ named_at at e.0
+
+  pub answered_sent : (k : Key) (es : List Sending) → Each NamesLeft es → answered_to k (picked at.rules at.plan (answers_place at k) (send_responses at.node es)) ≡ to_left k es
+  answered_sent k [] names = refl
+  answered_sent k (e ∷ es) names =
+      let both = each_parts NamesLeft e es names in
       let more = picked at.rules at.plan (answers_place at k) (send_responses at.node es) in
-      let to : Place = record { topic = Responses at.node; part = at.rules.part e.0 (parts_of at.plan at.node) } in
+      let to : Place = record { topic = Responses at.node; part = to_part at.rules at.plan (Responses at.node) e.0 (Named e.2) } in
       elim (same_bytes k e.0) as (λ t. same_bytes k e.0 ≡ t → answered_to k (cond (same_place (answers_place at k) to) (Answered e.0 e.1 ∷ more) more) ≡ cond t (answers e.1 ∷ to_left k es) (to_left k es)) [
         | true ↦ λ t.
             let is : k ≡ e.0 = (keys_decided k e.0).0 t in
-            let place : same_place (answers_place at k) to ≡ true = ap₂ (λ x y. x && y) ((Decides-eqb at.node at.node).1 refl) ((Decides-eqb (at.rules.part k (parts_of at.plan at.node)) (at.rules.part e.0 (parts_of at.plan at.node))).1 (ap (λ c. at.rules.part c (parts_of at.plan at.node)) is)) in
+            let home : left_part at k ≡ to.part = ap (left_part at) is ∙ sym (named_home e.0 e.2 both.0) in
+            let place : same_place (answers_place at k) to ≡ true = ap₂ (λ x y. x && y) ((Decides-eqb at.node at.node).1 refl) ((Decides-eqb (left_part at k) to.part).1 home) in
             ap (λ t. answered_to k (cond t (Answered e.0 e.1 ∷ more) more)) place
             ∙ ap (λ t. cond t (answers e.1 ∷ answered_to k more) (answered_to k more)) t
-            ∙ ap (λ l. answers e.1 ∷ l) (answered_sent k es)
+            ∙ ap (λ l. answers e.1 ∷ l) (answered_sent k es both.1)
         | false ↦ λ t. elim (same_place (answers_place at k) to) as (λ u. answered_to k (cond u (Answered e.0 e.1 ∷ more) more) ≡ to_left k es) [
-          | true ↦ ap (λ u. cond u (answers e.1 ∷ answered_to k more) (answered_to k more)) t ∙ answered_sent k es
-          | false ↦ answered_sent k es
+          | true ↦ ap (λ u. cond u (answers e.1 ∷ answered_to k more) (answered_to k more)) t ∙ answered_sent k es both.1
+          | false ↦ answered_sent k es both.1
         ]
       ] refl
 
-  found_answers : (k : Key) (y : Option Row) (es : List (Key × ℕ)) → T (is_sorted by_bytes es) → to_left k (answer_all y es) ≡ answer (find by_bytes k es) y
+  abbrev kept_hash : Option Subscriber → Option ℕ
+  kept_hash o = option_map (λ (s : Subscriber). s.hash) o
+
+  found_answers : (k : Key) (y : Option Row) (es : List (Key × Subscriber)) → T (is_sorted by_bytes es) → to_left k (answer_all y es) ≡ answer (kept_hash (find by_bytes k es)) y
   found_answers k y [] s = refl
   found_answers k y (e ∷ es) s =
-      elim (same_bytes k e.0) as (λ t. same_bytes k e.0 ≡ t → cond t (record { hash = Some e.1; row = y } ∷ to_left k (answer_all y es)) (to_left k (answer_all y es)) ≡ answer (cond t (Some e.1) (find by_bytes k es)) y) [
+      elim (same_bytes k e.0) as (λ t. same_bytes k e.0 ≡ t → cond t (record { hash = Some e.1.hash; row = y } ∷ to_left k (answer_all y es)) (to_left k (answer_all y es)) ≡ answer (kept_hash (cond t (Some e.1) (find by_bytes k es))) y) [
         | true ↦ λ t.
             let is : k ≡ e.0 = (keys_decided k e.0).0 t in
             let none : find by_bytes k es ≡ None = ap (λ q. find by_bytes q es) is ∙ find_below nat_list_cmp_total (λ x. 0) e.0 es (head_of _ _ s) in
-            ap (λ l. record { hash = Some e.1; row = y } ∷ l) (found_answers k y es (tail_of _ _ s) ∙ ap (λ w. answer w y) none)
+            ap (λ l. record { hash = Some e.1.hash; row = y } ∷ l) (found_answers k y es (tail_of _ _ s) ∙ ap (λ w. answer (kept_hash w) y) none)
         | false ↦ λ t. found_answers k y es (tail_of _ _ s)
       ] refl
 
-  pub all_answers : (k : Key) (y : Option Row) (m : FinMap by_bytes ℕ) → to_left k (answer_all y (fin.entries m)) ≡ answer (fin.get m k) y
-  all_answers k y m = found_answers k y (fin.entries m) (fin.entries_sorted m) ∙ ap (λ w. answer w y) (sym (fin.get-entries m k))
+  pub all_answers : (k : Key) (y : Option Row) (m : FinMap by_bytes Subscriber) → to_left k (answer_all y (fin.entries m)) ≡ answer (option_map (λ (s : Subscriber). s.hash) (fin.get m k)) y
+  all_answers k y m = found_answers k y (fin.entries m) (fin.entries_sorted m) ∙ ap (λ w. answer (kept_hash w) y) (sym (fin.get-entries m k))
 
   -- the answer to one subscription
-  pub one_answers : (k c : Key) (i : Instruction) (h : Option ℕ) (y : Option Row) → IsAsking i h →
-      to_left k (answer_of c (answer_by i h y)) ≡ cond (same_bytes k c) (answer_to (asking i h) y) []
-  one_answers k c Delete h y e = elim (same_bytes k c) as (λ t. [] ≡ cond {A = List (Response Row)} t [] []) [ true ↦ refl | false ↦ refl ]
-  one_answers k c DeleteAndAnswer h y e = refl
-  one_answers k c AnswerAlways None y e = absurd e
-  one_answers k c AnswerAlways (Some h) y e = refl
-  one_answers k c AnswerIfThere h y e = absurd e
+  pub one_answers : (k c : Key) (part : Option ℕ) (i : Instruction) (h : Option ℕ) (y : Option Row) → IsAsking i h →
+      to_left k (answer_of c part (answer_by i h y)) ≡ cond (same_bytes k c) (answer_to (asking i h) y) []
+  one_answers k c part Delete h y e = elim (same_bytes k c) as (λ t. [] ≡ cond {A = List (Response Row)} t [] []) [ true ↦ refl | false ↦ refl ]
+  one_answers k c part DeleteAndAnswer h y e = refl
+  one_answers k c part AnswerAlways None y e = absurd e
+  one_answers k c part AnswerAlways (Some h) y e = refl
+  one_answers k c part AnswerIfThere h y e = absurd e

@@ -14,7 +14,7 @@ use Rattle.ks_def_tasks.specs.Messages.{Place, Stored, shown, Message, Item, Sto
 use Rattle.ks_def_tasks.specs.Messages.Message.{Given, Keyed, Moved, Asked, Answered, Kept, KeptCount, KeptTime, KeptHash}
 use Rattle.ks_def_tasks.specs.Collision.{had_in, rows_had, In}
 use Rattle.ks_def_tasks.specs.Step.{Arrival, Values, row_in, changed, arrived, step_key, changes_at, counted_at, hash_changes, value_changes, write_all, Written, over_nodes, whole_step, items_from, olds_at, news_at, values_from}
-use Rattle.ks_def_tasks.specs.Tasks.{machine, step, sent_item, written_item}
+use Rattle.ks_def_tasks.specs.Tasks.{arrival, machine, step, sent_item, written_item}
 use Rattle.ks_def_tasks.proofs.Same.{stored-is, option-is}
 use Rattle.ks_law_fk_quiescence.proofs.Waits.{stays_unchanged}
 use Rattle.ks_law_fk_quiescence.proofs.Parts.{same_itself}
@@ -99,7 +99,7 @@ module _ (rules : Rules) (p : Plan) (l : ℕ) (c : Key) (v : Row) (part time : �
 
 module _ (rules : Rules) (p : Plan) (l : ℕ) (within : l < 0 + length p.kinds) (t : TaskId) (st : Store) (q : Place) (x : Item) (c : Key) (is : step_key x.message ≡ Some c) where
   abbrev arr : Arrival
-  arr = record { topic = q.topic; item = x }
+  arr = arrival p q x
 
   abbrev items : ℕ → Option StreamItem
   items = items_from arr (λ n. None) 0 p.kinds

@@ -11,7 +11,7 @@ use Rattle.ks_plan.specs.Layout.{same_topic}
 use Rattle.ks_query.specs.Streams.{StreamItem, filter_item, map_item, rekey_item}
 use Rattle.ks_query.specs.Query.{with_number}
 use Rattle.ks_def_tasks.specs.Messages.{Stored, Rules}
-use Rattle.ks_def_tasks.specs.Step.{Arrival, Values, row_in, changed, arrived, item_given, item_keyed, item_at, item_into, items_from, of_row, taken_row, added, applied, responded, direct, value_at, values_from}
+use Rattle.ks_def_tasks.specs.Step.{Arrival, Values, row_in, changed, arrived, item_given, item_keyed, item_at, item_into, items_from, of_row, taken_row, added, applied, responded, direct, value_at, values_from, step_key}
 use Rattle.ks_law_quiescence.proofs.Fits.{NodeFits, EachFits}
 use Rattle.ks_law_fk_quiescence.proofs.Waits.{stays_unchanged}
 
@@ -62,7 +62,7 @@ module _ (a : ℕ) (arr : Arrival) (at : arr.topic ≡ Responses a) where
     quiet_value news n (ForeignKeyJoin l r fk kind s) h lt f =
         let le : l < a = (let b = f.0.before in omega arith) in
         let ne : a ≢ n = λ e. omega arith in
-        ap (λ c. cond c (direct fk kind s (row_in olds l) (row_in news l) (olds n)) (responded rules kind s (row_in news l) (arrived arr (Responses n)) (olds n))) (stays_unchanged olds news l (h l le))
+        ap (λ c. cond c (direct fk (step_key arr.item.message) kind s (row_in olds l) (row_in news l) (olds n)) (responded rules kind s (row_in news l) (arrived arr (Responses n)) (olds n))) (stays_unchanged olds news l (h l le))
         ∙ ap (λ m. responded rules kind s (row_in news l) m (olds n)) (nothing_at (Responses n) (ne_eqb a n ne))
     quiet_value news n (StreamSource t) h lt f = refl
     quiet_value news n (StreamFilter g x) h lt f = refl

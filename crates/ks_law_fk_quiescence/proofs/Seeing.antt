@@ -6,6 +6,7 @@ use Rattle.ks_row.specs.declared.record.TaskId.{TaskId}
 use Rattle.ks_expr.specs.declared.terms.JoinKind.{JoinKind}
 use Rattle.ks_expr.specs.Terms.{Set}
 use Rattle.ks_expr.specs.Eval.{Row}
+use Rattle.ks_expr.specs.declared.terms.Fk.{Fk}
 use Rattle.ks_plan.specs.Plan.{Plan, Kind}
 use Rattle.ks_plan.specs.Plan.Kind.{ForeignKeyJoin}
 use Rattle.ks_def_runs.specs.FinMap as fin
@@ -27,6 +28,7 @@ use Rattle.ks_law_fk_quiescence.specs.KeyJoins.{JoinAt, join_at, protocol_of, Ke
 use Rattle.ks_law_fk_quiescence.proofs.Waits.{Waits, waits_step, waits_initial}
 use Rattle.ks_law_fk_quiescence.proofs.Assembled.{happen}
 use Rattle.ks_law_fk_quiescence.proofs.Simulated.{see, left_past, IsPast, step_is_events}
+use Rattle.ks_wire.specs.declared.values.Subscriber.{Subscriber}
 
 -- a node by its number
 pub node_is : (n : ℕ) (ks : List Kind) (a : ℕ) (k : Kind) → Stands_at a k n ks → (i : ℕ) × (a ≡ n + i) × (slice_get ks i ≡ Some k)
@@ -35,18 +37,18 @@ node_is n (y ∷ ys) a k s = ⊎_elim
     (λ (e : (n ≡ a) × (y ≡ k)). (0, (let is = e.0 in omega arith), ap (λ z. Some z) e.1))
     (λ (e : (n < a) × Stands_at a k (suc n) ys). let more = node_is (suc n) ys a k e.1 in let is = more.1 in (suc more.0, omega arith, more.2)) s
 
-module _ (rules : Rules) (p : Plan) (fits : Fits p) (a l r : ℕ) (fk : List ℕ) (kind : JoinKind) (set : Set) (stands : Stands_at a (ForeignKeyJoin l r fk kind set) 0 p.kinds) where
+module _ (rules : Rules) (p : Plan) (fits : Fits p) (a l r : ℕ) (fk : Fk) (kind : JoinKind) (set : Set) (stands : Stands_at a (ForeignKeyJoin l r fk kind set) 0 p.kinds) where
   abbrev site : JoinAt
   site = join_at rules p a l r fk kind set
 
-  abbrev pub protocol_run : List (Event Key Row Row) → KeyJoin
-  protocol_run events = run_of (protocol_of site) events
+  abbrev pub protocol_run : Key → List (Event Key Row Row) → KeyJoin
+  protocol_run k events = run_of (protocol_of site k) events
 
   pub record Sees (k : Key) (st : State) : Type 0 where
     pub waits : Waits rules p fits a l r fk kind set stands st
     pub events : List (Event Key Row Row)
     pub had : List Row
-    pub is : see rules p fits a l r fk kind set stands k had st ≡ protocol_run events
+    pub is : see rules p fits a l r fk kind set stands k had st ≡ protocol_run k events
     pub within : IsPast rules p fits a l r fk kind set stands k had st
 
   sees_step : (k : Key) (st : State) (s : Option TaskId) (q : Place) (xs : List Item) → st.waiting s q ≡ xs → Sees k st → Sees k (take_first (machine rules p) st s q xs)
@@ -57,8 +59,8 @@ module _ (rules : Rules) (p : Plan) (fits : Fits p) (a l r : ℕ) (fk : List ℕ
         waits = waits_step rules p fits a l r fk kind set stands st s q (x ∷ rest) e h.waits;
         events = h.events ++ more.events;
         had = more.then;
-        is = more.is ∙ ap (λ j. fold (happen site) j more.events) h.is
-            ∙ sym (fold-append (happen site) nothing_yet h.events more.events);
+        is = more.is ∙ ap (λ j. fold (happen site k) j more.events) h.is
+            ∙ sym (fold-append (happen site k) nothing_yet h.events more.events);
         within = more.within h.within;
       }
 
@@ -72,7 +74,7 @@ module _ (rules : Rules) (p : Plan) (fits : Fits p) (a l r : ℕ) (fk : List ℕ
       result = ap (option_map shown) (fin.get-empty by_bytes k) i;
       had = [];
       right = λ b. ap (option_map shown) (fin.get-empty by_bytes b) i;
-      stored = λ b. fin.get-empty by_bytes k i;
+      stored = λ b. ap (option_map (λ (s : Subscriber). s.hash)) (fin.get-empty by_bytes k) i;
       subscriptions = λ b. [];
       responses = λ n. [];
     };
@@ -86,10 +88,10 @@ module _ (rules : Rules) (p : Plan) (fits : Fits p) (a l r : ℕ) (fk : List ℕ
   pub had_apart : (k : Key) (st : State) (h : Sees k st) → NoneCollides rules.hash (left_past rules p fits a l r fk kind set stands k st) → join.NoCollision rules.hash h.had
   had_apart k st h none = λ v w i j e. none v w (h.within v i) (h.within w j) e
 
-  abbrev pub IsSound : KeyJoin → Type 0
-  IsSound j = Sound (protocol_of site) keys_decided j
+  abbrev pub IsSound : Key → KeyJoin → Type 0
+  IsSound k j = Sound (protocol_of site k) keys_decided j
 
-  pub sees_sound : (k : Key) (st : State) (h : Sees k st) → NoneCollides rules.hash (left_past rules p fits a l r fk kind set stands k st) → IsSound (see rules p fits a l r fk kind set stands k h.had st)
+  pub sees_sound : (k : Key) (st : State) (h : Sees k st) → NoneCollides rules.hash (left_past rules p fits a l r fk kind set stands k st) → IsSound k (see rules p fits a l r fk kind set stands k h.had st)
   sees_sound k st h none =
-      let had : h.had ≡ (protocol_run h.events).had = ap (λ (j : KeyJoin). j.had) h.is in
-      subst IsSound (sym h.is) (Sound-run (protocol_of site) keys_decided h.events (subst (join.NoCollision rules.hash) had (had_apart k st h none)))
+      let had : h.had ≡ (protocol_run k h.events).had = ap (λ (j : KeyJoin). j.had) h.is in
+      subst (IsSound k) (sym h.is) (Sound-run (protocol_of site k) keys_decided h.events (subst (join.NoCollision rules.hash) had (had_apart k st h none)))

@@ -16,7 +16,7 @@ use Rattle.ks_query.specs.Streams.{Key, StreamItem}
 use Rattle.ks_def_runs.specs.Run.{same_channel, sent_to, take_first}
 use Rattle.ks_def_tasks.specs.Messages.{Place, Stored, shown, Message, Item, Store, Rules, same_row}
 use Rattle.ks_def_tasks.specs.Step.{Arrival, Values, row_in, changed, step_key, items_from, olds_at, news_at, values_from, tables_after, whole_step, subscribe_at, hashes_after}
-use Rattle.ks_def_tasks.specs.Tasks.{machine, step, is_changelog}
+use Rattle.ks_def_tasks.specs.Tasks.{arrival, machine, step, is_changelog}
 use Rattle.ks_def_tasks.proofs.Names.{same_task-is, same_place-is, topic_itself}
 use Rattle.ks_def_tasks.proofs.Same.{row-is, option-is}
 use Rattle.ks_law_quiescence.specs.States.{State, row_at}
@@ -40,7 +40,7 @@ module _ (rules : Rules) (p : Plan) (st : State) (s : Option TaskId) (q : Place)
   taker_of = (machine rules p).reader q
 
   abbrev pub arr : Arrival
-  arr = record { topic = q.topic; item = x }
+  arr = arrival p q x
 
   abbrev pub items : ℕ → Option StreamItem
   items = items_from arr (λ n. None) 0 p.kinds

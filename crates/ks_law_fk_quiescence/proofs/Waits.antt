@@ -9,16 +9,15 @@ use Rattle.ks_row.specs.declared.row.Field.{Field}
 use Rattle.ks_row.specs.declared.row.Field.TheVariants.{Int, Text}
 use Rattle.ks_row.specs.declared.record.TaskId.{TaskId}
 use Rattle.ks_row.specs.Parts.{same_task}
-use Rattle.ks_row.specs.FieldKeys.{field_key}
 use Rattle.ks_expr.specs.declared.terms.JoinKind.{JoinKind}
 use Rattle.ks_expr.specs.Terms.{Set}
 use Rattle.ks_expr.specs.Eval.{Row, same_field, same_bytes}
-use Rattle.ks_wire.specs.declared.values.Response.{Response}
+use Rattle.ks_expr.specs.declared.terms.Fk.{Fk}
 use Rattle.ks_plan.specs.declared.node.Topic.{Topic}
 use Rattle.ks_plan.specs.declared.node.Topic.TheVariants.{Subscriptions, Responses}
 use Rattle.ks_plan.specs.Plan.{Plan, Kind}
 use Rattle.ks_plan.specs.Plan.Kind.{ForeignKeyJoin}
-use Rattle.ks_plan.specs.Layout.{same_topic, sub_of, parts_of, parts_of_topic, kind_at, no_kind, right_of}
+use Rattle.ks_plan.specs.Layout.{same_topic, sub_of, spread_of, spread_of_topic, kind_at, no_kind, right_of}
 use Rattle.ks_def_runs.specs.FinMap as fin
 use Rattle.ks_query.specs.Streams.{Key, Input, StreamItem}
 use Rattle.ks_def_runs.specs.Run.{Machine, RunState, is_from, same_channel, sent_to, take_first, initial, run}
@@ -26,9 +25,9 @@ use Rattle.ks_def_runs.proofs.Runs.{at_channel, kept_by_run}
 use Rattle.ks_def_tasks.specs.Messages.{Place, same_place, shown, Instruction, Subscription, Message, Item, Store, Rules, same_row, same_option}
 use Rattle.ks_def_tasks.specs.Messages.Instruction.{Delete, DeleteAndAnswer, Answer, AnswerIfThere}
 use Rattle.ks_def_tasks.specs.Messages.Message.{Given, Keyed, Moved, Asked, Answered, Kept, KeptCount, KeptTime, KeptHash}
-use Rattle.ks_def_tasks.specs.Foreign.{subscriptions, subscribe, key_of_row, answer_all, answer_by, answer_to}
+use Rattle.ks_def_tasks.specs.Foreign.{subscriptions, subscribe, key_of_row, answer_all, answer_by, answer_to, Sending}
 use Rattle.ks_def_tasks.specs.Step.{Arrival, Sent, Values, row_in, changed, arrived, step_key, join_sends, send_subscriptions, send_responses, answer_of, answer_one, whole_step, items_from, olds_at, news_at, values_from}
-use Rattle.ks_def_tasks.specs.Tasks.{machine, step, is_changelog, inputs_of}
+use Rattle.ks_def_tasks.specs.Tasks.{arrival, machine, step, is_changelog, inputs_of, to_part}
 use Rattle.ks_def_tasks.proofs.Names.{names, same_task-is, topic-is}
 use Rattle.ks_law_quiescence.specs.Taken.{messages}
 use Rattle.ks_law_quiescence.specs.States.{home_task}
@@ -38,6 +37,9 @@ use Rattle.ks_law_quiescence.proofs.Mixed.{messages-append, Stands_at, picked, p
 use Rattle.ks_law_quiescence.proofs.Placed.{FitsAt, Owned, Placed, values_owned, items_owned, fits_key, placed_step, placed_run}
 use Rattle.ks_law_fk_quiescence.specs.Joins.{IsAsking, IsAnswer}
 use Rattle.ks_law_fk_quiescence.specs.KeyJoins.{JoinAt, join_at, right_task}
+use Rattle.ks_expr.specs.Keys.{fk_of}
+use Rattle.ks_wire.specs.declared.values.Subscriber.{Subscriber}
+use Rattle.ks_plan.specs.declared.node.Spread.{Spread}
 
 -- ---- a row is the same as itself
 field_itself : (f : Field) → same_field f f ≡ true
@@ -71,7 +73,7 @@ pub picked_each : (rules : Rules) (p : Plan) (P : Message → Type 0) (q : Place
 picked_each rules p P q [] e = each_nothing P
 picked_each rules p P q (s ∷ xs) e =
     let parts = each_parts (λ (s : Sent). P s.message) s xs e in
-    Each-cond P (same_place q (record { topic = s.topic; part = rules.part s.key (parts_of_topic p s.topic) })) (s.message ∷ picked rules p q xs) (picked rules p q xs)
+    Each-cond P (same_place q (record { topic = s.topic; part = to_part rules p s.topic s.key s.to })) (s.message ∷ picked rules p q xs) (picked rules p q xs)
     (each_first P s.message (picked rules p q xs) parts.0 (picked_each rules p P q xs parts.1)) (picked_each rules p P q xs parts.1)
 
 -- ---- what a subscription and a response hold
@@ -82,22 +84,24 @@ subscribe-asks : (b : Option Key) (s : Subscription) → IsAsking s.instruction 
 subscribe-asks None s h = each_nothing IsAskingTo
 subscribe-asks (Some b) s h = each_first IsAskingTo (b, s) [] h (each_nothing IsAskingTo)
 
-subscriptions-ask : (hash : Row → ℕ) (fk : List ℕ) (old new : Option Row) → Each IsAskingTo (subscriptions hash fk old new)
-subscriptions-ask hash fk old None = subscribe-asks (key_of_row fk old) (record { hash = None; instruction = DeleteAndAnswer }) tt
-subscriptions-ask hash fk old (Some v) = Each-append IsAskingTo
-    (cond (same_option same_bytes (key_of_row fk old) (field_key fk v)) [] (subscribe (key_of_row fk old) (record { hash = Some (hash v); instruction = Delete }))) (subscribe (field_key fk v) (record { hash = Some (hash v); instruction = Answer }))
-    (Each-cond IsAskingTo (same_option same_bytes (key_of_row fk old) (field_key fk v)) [] (subscribe (key_of_row fk old) (record { hash = Some (hash v); instruction = Delete }))
-    (each_nothing IsAskingTo) (subscribe-asks (key_of_row fk old) (record { hash = Some (hash v); instruction = Delete }) tt))
-    (subscribe-asks (field_key fk v) (record { hash = Some (hash v); instruction = Answer }) tt)
+subscriptions-ask : (hash : Row → ℕ) (fk : Fk) (k : Key) (part : Option ℕ) (old new : Option Row) → Each IsAskingTo (subscriptions hash fk k part old new)
+subscriptions-ask hash fk k part old None = subscribe-asks (key_of_row fk k old) (record { hash = None; instruction = DeleteAndAnswer; part = part }) tt
+subscriptions-ask hash fk k part old (Some v) =
+    let gone : Subscription = record { hash = Some (hash v); instruction = Delete; part = part } in
+    let asks : Subscription = record { hash = Some (hash v); instruction = Answer; part = part } in
+    let same = same_option same_bytes (key_of_row fk k old) (fk_of fk k v) in
+    Each-append IsAskingTo (cond same [] (subscribe (key_of_row fk k old) gone)) (subscribe (fk_of fk k v) asks)
+    (Each-cond IsAskingTo same [] (subscribe (key_of_row fk k old) gone) (each_nothing IsAskingTo) (subscribe-asks (key_of_row fk k old) gone tt))
+    (subscribe-asks (fk_of fk k v) asks tt)
 
 module _ (rules : Rules) (p : Plan) (fits : Fits p) where
   -- where a row changes, the step is that of its key's task
   pub owner : (st : Store) (q : Place) (x : Item) (n : ℕ) (c : Key) → step_key x.message ≡ Some c → (is_changelog q.topic ≡ false → FitsAt rules p q x.message) →
-      let arr : Arrival = record { topic = q.topic; item = x } in
+      let arr : Arrival = arrival p q x in
       let olds = olds_at st (Some c) in
       changed olds (values_from rules arr (items_from arr (λ n. None) 0 p.kinds) olds olds 0 p.kinds) n ≡ true → (machine rules p).reader q ≡ home_task rules p n c
   owner st q x n c is at_key change =
-      let arr : Arrival = record { topic = q.topic; item = x } in
+      let arr : Arrival = arrival p q x in
       let olds = olds_at st (Some c) in
       let items = items_from arr (λ n. None) 0 p.kinds in
       let news = values_from rules arr items olds olds 0 p.kinds in
@@ -105,12 +109,12 @@ module _ (rules : Rules) (p : Plan) (fits : Fits p) where
       (λ (kept : news n ≡ olds n). let f : true ≡ false = sym change ∙ stays_unchanged olds news n kept in cc)
       (λ (o : Owned rules p q.topic n).
       let at = fits_key rules p q x.message c is (at_key o.list) in
-      ap₂ (λ (i j : ℕ). record { sub = i; part = j }) o.sub (at ∙ ap (rules.part c) o.parts))
+      ap₂ (λ (i j : ℕ). record { sub = i; part = j }) o.sub (at ∙ ap (rules.part c) o.spread))
       (values_owned rules p arr items (items_owned rules p arr (λ n. None) 0 p.kinds (λ c. inl refl) fits) olds olds 0 p.kinds (λ c. inl refl) fits n)
 
 -- ---- what a step sends to the two topics of a join
 module _ (rules : Rules) (p : Plan) (a : ℕ) where
-  no_responses : (j : ℕ) (rs : List (Key × Response)) → picked rules p (record { topic = Subscriptions a; part = j }) (send_responses a rs) ≡ []
+  no_responses : (j : ℕ) (rs : List Sending) → picked rules p (record { topic = Subscriptions a; part = j }) (send_responses a rs) ≡ []
   no_responses j [] = refl
   no_responses j (r ∷ rs) = no_responses j rs
 
@@ -120,7 +124,7 @@ module _ (rules : Rules) (p : Plan) (a : ℕ) where
 
   no_answer : (j : ℕ) (st : Store) (r : ℕ) (m : Option Message) → picked rules p (record { topic = Subscriptions a; part = j }) (answer_one a st r m) ≡ []
   no_answer j st r None = refl
-  no_answer j st r (Some (Asked b k s)) = no_responses j (answer_of k (answer_to s (option_map shown (fin.get (st.tables r) b))))
+  no_answer j st r (Some (Asked b k s)) = no_responses j (answer_of k s.part (answer_to s (option_map shown (fin.get (st.tables r) b))))
   no_answer j st r (Some (Given k v)) = refl
   no_answer j st r (Some (Keyed k v)) = refl
   no_answer j st r (Some (Moved k v)) = refl
@@ -138,18 +142,18 @@ module _ (rules : Rules) (p : Plan) (a : ℕ) where
   no_answers [] j = refl
   no_answers (y ∷ ys) j = no_answers ys j
 
-  module _ (l r : ℕ) (fk : List ℕ) (st : Store) (olds news : Values) where
+  module _ (l r : ℕ) (fk : Fk) (part : Option ℕ) (st : Store) (olds news : Values) where
     -- the left part's and the right part's
     abbrev pub asking_part : Option Key → List Sent
     asking_part None = []
-    asking_part (Some c) = cond (changed olds news l) (send_subscriptions a c (subscriptions rules.hash fk (row_in olds l) (row_in news l))) []
+    asking_part (Some c) = cond (changed olds news l) (send_subscriptions a c (subscriptions rules.hash fk c part (row_in olds l) (row_in news l))) []
 
     abbrev pub answering_part : Option Key → List Sent
     answering_part None = []
     answering_part (Some c) = cond (changed olds news r) (send_responses a (answer_all (row_in news r) (fin.entries (st.hashes a c)))) []
 
     pub asked_is : (j : ℕ) (key : Option Key) (m : Option Message) →
-        picked rules p (record { topic = Subscriptions a; part = j }) (join_sends rules fk a l r st olds news key ++ answer_one a st r m) ≡ picked rules p (record { topic = Subscriptions a; part = j }) (asking_part key)
+        picked rules p (record { topic = Subscriptions a; part = j }) (join_sends rules fk part a l r st olds news key ++ answer_one a st r m) ≡ picked rules p (record { topic = Subscriptions a; part = j }) (asking_part key)
     asked_is j None m = no_answer j st r m
     asked_is j (Some c) m =
         let q : Place = record { topic = Subscriptions a; part = j } in
@@ -159,17 +163,17 @@ module _ (rules : Rules) (p : Plan) (a : ℕ) where
         ∙ ap₂ (λ xs ys. xs ++ ys) (picked-append rules p q (asking_part (Some c)) (answering_part (Some c)) ∙ ap (λ ys. picked rules p q (asking_part (Some c)) ++ ys) none ∙ append-nil _) (no_answer j st r m) ∙ append-nil _
 
     pub answered_is : (j : ℕ) (key : Option Key) (m : Option Message) →
-        picked rules p (record { topic = Responses a; part = j }) (join_sends rules fk a l r st olds news key ++ answer_one a st r m)
+        picked rules p (record { topic = Responses a; part = j }) (join_sends rules fk part a l r st olds news key ++ answer_one a st r m)
         ≡ picked rules p (record { topic = Responses a; part = j }) (answering_part key) ++ picked rules p (record { topic = Responses a; part = j }) (answer_one a st r m)
     answered_is j None m = refl
     answered_is j (Some c) m =
         let q : Place = record { topic = Responses a; part = j } in
-        let ss = send_subscriptions a c (subscriptions rules.hash fk (row_in olds l) (row_in news l)) in
-        let none : picked rules p q (asking_part (Some c)) ≡ [] = elim (changed olds news l) as (λ b. picked rules p q (cond b ss []) ≡ []) [ true ↦ no_subscriptions j c (subscriptions rules.hash fk (row_in olds l) (row_in news l)) | false ↦ refl ] in
+        let ss = send_subscriptions a c (subscriptions rules.hash fk c part (row_in olds l) (row_in news l)) in
+        let none : picked rules p q (asking_part (Some c)) ≡ [] = elim (changed olds news l) as (λ b. picked rules p q (cond b ss []) ≡ []) [ true ↦ no_subscriptions j c (subscriptions rules.hash fk c part (row_in olds l) (row_in news l)) | false ↦ refl ] in
         picked-append rules p q (asking_part (Some c) ++ answering_part (Some c)) (answer_one a st r m)
         ∙ ap (λ xs. xs ++ picked rules p q (answer_one a st r m)) (picked-append rules p q (asking_part (Some c)) (answering_part (Some c)) ∙ ap (λ xs. xs ++ picked rules p q (answering_part (Some c))) none)
 
-module _ (rules : Rules) (p : Plan) (fits : Fits p) (a l r : ℕ) (fk : List ℕ) (kind : JoinKind) (set : Set) (stands : Stands_at a (ForeignKeyJoin l r fk kind set) 0 p.kinds) where
+module _ (rules : Rules) (p : Plan) (fits : Fits p) (a l r : ℕ) (fk : Fk) (kind : JoinKind) (set : Set) (stands : Stands_at a (ForeignKeyJoin l r fk kind set) 0 p.kinds) where
   abbrev site : JoinAt
   site = join_at rules p a l r fk kind set
 
@@ -177,7 +181,7 @@ module _ (rules : Rules) (p : Plan) (fits : Fits p) (a l r : ℕ) (fk : List ℕ
   beside = (each_at p 0 p.kinds a (ForeignKeyJoin l r fk kind set) fits stands).0
 
   pub left_home : (k : Key) → home_task rules p l k ≡ home_task rules p a k
-  left_home k = ap₂ (λ (s i : ℕ). record { sub = s; part = rules.part k i }) beside.sub beside.parts
+  left_home k = ap₂ (λ (s : ℕ) (i : Spread). record { sub = s; part = rules.part k i }) beside.sub beside.spread
 
   abbrev pub IsAsked : Option TaskId → Message → Type 0
   IsAsked s (Asked b k x) = (s ≡ Some (home_task rules p a k)) × IsAsking x.instruction x.hash
@@ -195,8 +199,8 @@ module _ (rules : Rules) (p : Plan) (fits : Fits p) (a l r : ℕ) (fk : List ℕ
   pub taken_by_right : (j : ℕ) → (machine rules p).reader (record { topic = Subscriptions a; part = j }) ≡ right_task site j
   taken_by_right j = ap (λ k. record { sub = sub_of p (right_of k); part = j }) (kind_is p a (ForeignKeyJoin l r fk kind set) stands)
 
-  pub asking_parts : parts_of_topic p (Subscriptions a) ≡ parts_of p r
-  asking_parts = ap (λ k. parts_of p (right_of k)) (kind_is p a (ForeignKeyJoin l r fk kind set) stands)
+  pub asking_spread : spread_of_topic p (Subscriptions a) ≡ spread_of p r
+  asking_spread = ap (λ k. spread_of p (right_of k)) (kind_is p a (ForeignKeyJoin l r fk kind set) stands)
 
   -- ---- what a step sends
   module _ (st : Store) (q : Place) (x : Item) (at_key : is_changelog q.topic ≡ false → FitsAt rules p q x.message) where
@@ -204,7 +208,7 @@ module _ (rules : Rules) (p : Plan) (fits : Fits p) (a l r : ℕ) (fk : List ℕ
     t = (machine rules p).reader q
 
     abbrev arr : Arrival
-    arr = record { topic = q.topic; item = x }
+    arr = arrival p q x
 
     abbrev items : ℕ → Option StreamItem
     items = items_from arr (λ n. None) 0 p.kinds
@@ -220,30 +224,30 @@ module _ (rules : Rules) (p : Plan) (fits : Fits p) (a l r : ℕ) (fk : List ℕ
     news = news_at rules p arr items olds (step_key x.message)
 
     asked_part : (key : Option Key) → step_key x.message ≡ key → (j : ℕ) →
-        Each (IsAsked (Some t)) (picked rules p (record { topic = Subscriptions a; part = j }) (asking_part rules p a l r fk st (olds_at st key) (news_at rules p arr items (olds_at st key) key) key))
+        Each (IsAsked (Some t)) (picked rules p (record { topic = Subscriptions a; part = j }) (asking_part rules p a l r fk (arr.names a) st (olds_at st key) (news_at rules p arr items (olds_at st key) key) key))
     asked_part None is j = each_nothing _
     asked_part (Some c) is j =
         let olds = olds_at st (Some c) in
         let news = values_from rules arr items olds olds 0 p.kinds in
-        let ss = subscriptions rules.hash fk (row_in olds l) (row_in news l) in
+        let ss = subscriptions rules.hash fk c (arr.names a) (row_in olds l) (row_in news l) in
         elim (changed olds news l) as (λ b. changed olds news l ≡ b → Each (IsAsked (Some t)) (picked rules p (record { topic = Subscriptions a; part = j }) (cond b (send_subscriptions a c ss) []))) [
           | true ↦ λ e. picked_each rules p (IsAsked (Some t)) (record { topic = Subscriptions a; part = j }) (send_subscriptions a c ss)
-              (asks_each c (owner rules p fits st q x l c is at_key e ∙ left_home c) ss (subscriptions-ask rules.hash fk (row_in olds l) (row_in news l)))
+              (asks_each c (owner rules p fits st q x l c is at_key e ∙ left_home c) ss (subscriptions-ask rules.hash fk c (arr.names a) (row_in olds l) (row_in news l)))
           | false ↦ λ e. each_nothing _
         ] refl
 
-    answers_each : (j : ℕ) → t ≡ right_task site j → (rs : List (Key × Response)) → Each (λ (e : Key × Response). IsAnswer e.1.hash e.1.right) rs → Each (λ (s : Sent). IsAnswered (Some t) s.message) (send_responses a rs)
+    answers_each : (j : ℕ) → t ≡ right_task site j → (rs : List Sending) → Each (λ (e : Sending). IsAnswer e.1.hash e.1.right) rs → Each (λ (s : Sent). IsAnswered (Some t) s.message) (send_responses a rs)
     answers_each j is [] e = each_nothing _
     answers_each j is (y ∷ ys) e =
-        let parts = each_parts (λ (e : Key × Response). IsAnswer e.1.hash e.1.right) y ys e in
+        let parts = each_parts (λ (e : Sending). IsAnswer e.1.hash e.1.right) y ys e in
         each_first (λ (s : Sent). IsAnswered (Some t) s.message) _ _ ((j, ap (λ u. Some u) is), parts.0) (answers_each j is ys parts.1)
 
-    all_answer : (row : Option Row) (es : List (Key × ℕ)) → Each (λ (e : Key × Response). IsAnswer e.1.hash e.1.right) (answer_all row es)
+    all_answer : (row : Option Row) (es : List (Key × Subscriber)) → Each (λ (e : Sending). IsAnswer e.1.hash e.1.right) (answer_all row es)
     all_answer row [] = each_nothing _
-    all_answer row (e ∷ es) = each_first (λ (e : Key × Response). IsAnswer e.1.hash e.1.right) _ _ tt (all_answer row es)
+    all_answer row (e ∷ es) = each_first (λ (e : Sending). IsAnswer e.1.hash e.1.right) _ _ tt (all_answer row es)
 
     answered_part : (key : Option Key) → step_key x.message ≡ key → (j : ℕ) →
-        Each (IsAnswered (Some t)) (picked rules p (record { topic = Responses a; part = j }) (answering_part rules p a l r fk st (olds_at st key) (news_at rules p arr items (olds_at st key) key) key))
+        Each (IsAnswered (Some t)) (picked rules p (record { topic = Responses a; part = j }) (answering_part rules p a l r fk (arr.names a) st (olds_at st key) (news_at rules p arr items (olds_at st key) key) key))
     answered_part None is j = each_nothing _
     answered_part (Some c) is j =
         let olds = olds_at st (Some c) in
@@ -255,12 +259,12 @@ module _ (rules : Rules) (p : Plan) (fits : Fits p) (a l r : ℕ) (fk : List ℕ
           | false ↦ λ e. each_nothing _
         ] refl
 
-    one_answer : (i : Instruction) (h : Option ℕ) → IsAsking i h → (k : Key) (row : Option Row) → Each (λ (e : Key × Response). IsAnswer e.1.hash e.1.right) (answer_of k (answer_by i h row))
-    one_answer Delete h e k row = each_nothing _
-    one_answer DeleteAndAnswer h e k row = each_first (λ (e : Key × Response). IsAnswer e.1.hash e.1.right) _ [] tt (each_nothing _)
-    one_answer Answer None e k row = absurd e
-    one_answer Answer (Some h) e k row = each_first (λ (e : Key × Response). IsAnswer e.1.hash e.1.right) _ [] tt (each_nothing _)
-    one_answer AnswerIfThere h e k row = absurd e
+    one_answer : (i : Instruction) (h : Option ℕ) → IsAsking i h → (k : Key) (part : Option ℕ) (row : Option Row) → Each (λ (e : Sending). IsAnswer e.1.hash e.1.right) (answer_of k part (answer_by i h row))
+    one_answer Delete h e k part row = each_nothing _
+    one_answer DeleteAndAnswer h e k part row = each_first (λ (e : Sending). IsAnswer e.1.hash e.1.right) _ [] tt (each_nothing _)
+    one_answer Answer None e k part row = absurd e
+    one_answer Answer (Some h) e k part row = each_first (λ (e : Sending). IsAnswer e.1.hash e.1.right) _ [] tt (each_nothing _)
+    one_answer AnswerIfThere h e k part row = absurd e
 
     answered_one : (m : Message) → (same_topic q.topic (Subscriptions a) ≡ true → (s : Option TaskId) × IsAsked s m) → (j : ℕ) →
         Each (IsAnswered (Some t)) (picked rules p (record { topic = Responses a; part = j }) (answer_one a st r (cond (same_topic q.topic (Subscriptions a)) (Some m) None)))
@@ -272,16 +276,16 @@ module _ (rules : Rules) (p : Plan) (fits : Fits p) (a l r : ℕ) (fk : List ℕ
         by_message : t ≡ right_task site q.part → (m : Message) (s : Option TaskId) → IsAsked s m → Each (IsAnswered (Some t)) (picked rules p (record { topic = Responses a; part = j }) (answer_one a st r (Some m)))
         by_message is (Asked b k y) s h =
             let row = option_map shown (fin.get (st.tables r) b) in
-            picked_each rules p (IsAnswered (Some t)) (record { topic = Responses a; part = j }) (send_responses a (answer_of k (answer_to y row))) (answers_each q.part is (answer_of k (answer_to y row)) (one_answer y.instruction y.hash h.1 k row))
+            picked_each rules p (IsAnswered (Some t)) (record { topic = Responses a; part = j }) (send_responses a (answer_of k y.part (answer_to y row))) (answers_each q.part is (answer_of k y.part (answer_to y row)) (one_answer y.instruction y.hash h.1 k y.part row))
         by_message is m s h = absurd h
 
     pub asks_made : (j : ℕ) → Each (IsAsked (Some t)) (picked rules p (record { topic = Subscriptions a; part = j }) (whole_step rules p st arr).sends)
     asks_made j = subst (Each (IsAsked (Some t))) (sym (step_sends_own rules p (Subscriptions a) a (apart_asked a) (ForeignKeyJoin l r fk kind set) stands st arr j
-        ∙ asked_is rules p a l r fk st olds news j (step_key x.message) (arrived arr (Subscriptions a)))) (asked_part (step_key x.message) refl j)
+        ∙ asked_is rules p a l r fk (arr.names a) st olds news j (step_key x.message) (arrived arr (Subscriptions a)))) (asked_part (step_key x.message) refl j)
 
     pub answers_made : (same_topic q.topic (Subscriptions a) ≡ true → (s : Option TaskId) × IsAsked s x.message) → (j : ℕ) → Each (IsAnswered (Some t)) (picked rules p (record { topic = Responses a; part = j }) (whole_step rules p st arr).sends)
     answers_made asked j = subst (Each (IsAnswered (Some t))) (sym (step_sends_own rules p (Responses a) a (apart_answered a) (ForeignKeyJoin l r fk kind set) stands st arr j
-        ∙ answered_is rules p a l r fk st olds news j (step_key x.message) (arrived arr (Subscriptions a))))
+        ∙ answered_is rules p a l r fk (arr.names a) st olds news j (step_key x.message) (arrived arr (Subscriptions a))))
         (Each-append (IsAnswered (Some t)) _ _ (answered_part (step_key x.message) refl j) (answered_one x.message asked j))
 
   -- ---- in each state
@@ -300,7 +304,7 @@ module _ (rules : Rules) (p : Plan) (fits : Fits p) (a l r : ℕ) (fk : List ℕ
 
       -- what waits at a topic, and what is sent there
       waits : (P : Option TaskId → Message → Type 0) (to : Topic) → is_changelog to ≡ false → ((r : Option TaskId) (j : ℕ) → Each (P r) (messages (st.waiting r (record { topic = to; part = j })))) →
-          ((j : ℕ) → Each (P (Some t)) (picked rules p (record { topic = to; part = j }) (whole_step rules p (st.stores t) (record { topic = q.topic; item = x })).sends)) →
+          ((j : ℕ) → Each (P (Some t)) (picked rules p (record { topic = to; part = j }) (whole_step rules p (st.stores t) (arrival p q x)).sends)) →
           (r : Option TaskId) (j : ℕ) → Each (P r) (messages (cond (same_channel m r (record { topic = to; part = j }) s q) rest (st.waiting r (record { topic = to; part = j })) ++ cond (is_from same_task r t) (sent_to m (record { topic = to; part = j }) (step rules p t (st.stores t) q x).made) []))
       waits P to list old new r j =
           let at : Place = record { topic = to; part = j } in
@@ -318,7 +322,7 @@ module _ (rules : Rules) (p : Plan) (fits : Fits p) (a l r : ℕ) (fk : List ℕ
           sends None = each_nothing _
           sends (Some u) = elim (same_task u t) as (λ b. same_task u t ≡ b → Each (P (Some u)) (messages (cond b (sent_to m (record { topic = to; part = j }) (step rules p t (st.stores t) q x).made) []))) [
             | true ↦ λ b. subst (Each (P (Some u))) (sym (made_is rules p t (st.stores t) q (record { topic = to; part = j }) x list))
-                (subst (λ v. Each (P (Some v)) (picked rules p (record { topic = to; part = j }) (whole_step rules p (st.stores t) (record { topic = q.topic; item = x })).sends)) (sym ((same_task-is u t).0 b)) (new j))
+                (subst (λ v. Each (P (Some v)) (picked rules p (record { topic = to; part = j }) (whole_step rules p (st.stores t) (arrival p q x)).sends)) (sym ((same_task-is u t).0 b)) (new j))
             | false ↦ λ b. each_nothing _
           ] refl
 

@@ -2,14 +2,17 @@
 use Rattle.std.specs.Prelude.{◌≡◌, ◌≢◌, ℕ, List, [], ◌∷◌, Option, Some, None, fold, cond, nat_eq, option_and_then, ◌⊎◌}
 use Rattle.std.specs.Option.{option_or}
 use Rattle.ks_row.specs.declared.record.TaskId.{TaskId}
-use Rattle.ks_row.specs.FieldKeys.{field_key}
 use Rattle.ks_expr.specs.declared.terms.JoinKind.{JoinKind}
+use Rattle.ks_expr.specs.declared.terms.Fk.{Fk}
+use Rattle.ks_expr.specs.Keys.{fk_of}
 use Rattle.ks_expr.specs.Terms.{Set}
 use Rattle.ks_expr.specs.Eval.{Row, joined}
 use Rattle.ks_plan.specs.declared.node.Topic.TheVariants.{Subscriptions, Responses}
-use Rattle.ks_plan.specs.Drafts.{DraftView, Name}
+use Rattle.ks_wire.specs.declared.values.Subscriber.{Subscriber}
+use Rattle.ks_plan.specs.Drafts.{DraftView}
 use Rattle.ks_plan.specs.Plan.{plan_of}
 use Rattle.ks_plan.specs.Plan.Kind.{ForeignKeyJoin}
+use Rattle.ks_def_runs.specs.FinMap as map
 use Rattle.ks_query.specs.Streams.{Key, Input}
 use Rattle.ks_def_tasks.specs.Messages.{Place, Instruction, Message, Rules}
 use Rattle.ks_def_tasks.specs.Messages.Instruction.{Delete, DeleteAndAnswer, Answer}
@@ -21,7 +24,7 @@ use Rattle.ks_law_quiescence.specs.ForeignJoin.Subscription.{Forget, ForgetAndAn
 use Rattle.ks_law_quiescence.specs.States.{State, state_of}
 use Rattle.ks_law_quiescence.specs.Taken.{messages}
 use Rattle.ks_law_quiescence.specs.WellFormed.{IsWellFormed}
-use Rattle.ks_law_fk_quiescence.specs.KeyJoins.{JoinAt, join_at, protocol_of, KeyJoin, key_join, left_task, left_part, right_task, key_part}
+use Rattle.ks_law_fk_quiescence.specs.KeyJoins.{JoinAt, join_at, named_at, protocol_of, KeyJoin, key_join, left_task, left_part, right_task, key_part}
 use Rattle.ks_law_fk_quiescence.specs.AtRest.{hash_for}
 
 -- ---- what waits
@@ -37,16 +40,18 @@ abbrev pub IsAnswer : Option ℕ → Option Row → Type 0
 IsAnswer None (Some y) = ⊥
 IsAnswer h y = Unit {0}
 
--- a subscription comes from the task of its left key, and stands at the partition of its foreign key
+-- a subscription comes from the task of its left key, stands at the place of its foreign key, and names the partition of that task exactly
+-- where the left side's keys are spread by their front parts
 abbrev pub IsAskedAt : JoinAt → Option TaskId → ℕ → Message → Type 0
 IsAskedAt at s i (Asked b k x) = record {
   sender : s ≡ Some (left_task at k);
   part : i ≡ key_part at b;
   asks : IsAsking x.instruction x.hash;
+  names : x.part ≡ named_at at k;
 }
 IsAskedAt at s i m = ⊥
 
--- a response comes from a task of the right side, and stands at the partition of its left key
+-- a response comes from a task of the right side, and stands at the place of its left key
 abbrev pub IsAnsweredAt : JoinAt → Option TaskId → ℕ → Message → Type 0
 IsAnsweredAt at s i (Answered k y) = record {
   sender : (j : ℕ) × (s ≡ Some (right_task at j));
@@ -59,12 +64,14 @@ abbrev pub MessagesStand : Type 0
 MessagesStand = (rules : Rules) (d : DraftView) (records : List Input) (schedule : List (Option TaskId × Place)) → IsWellFormed d →
     let p = plan_of d in
     let st = state_of rules p records schedule in
-    (n l r : ℕ) (fk : Name) (kind : JoinKind) (set : Set) → IsNode p n (ForeignKeyJoin l r fk kind set) →
+    (n l r : ℕ) (fk : Fk) (kind : JoinKind) (set : Set) → IsNode p n (ForeignKeyJoin l r fk kind set) →
     let at = join_at rules p n l r fk kind set in
     (s : Option TaskId) (i : ℕ) (m : Message) →
     record {
       asked : In m (messages (st.waiting s (record { topic = Subscriptions n; part = i }))) → IsAskedAt at s i m;
       answered : In m (messages (st.waiting s (record { topic = Responses n; part = i }))) → IsAnsweredAt at s i m;
+      -- so does what is kept of each subscription
+      kept : (u : TaskId) (b k : Key) (x : Subscriber) → map.get ((st.stores u).hashes n b) k ≡ Some x → x.part ≡ named_at at k;
     }
 
 -- ---- what a left key sees, with the rows that it has had
@@ -72,32 +79,32 @@ abbrev pub key_join_in : JoinAt → Key → State → KeyJoin
 key_join_in at k st = key_join at k (rows_had k (past at.plan st at.left (home at.rules at.plan at.left k))) st
 
 -- a law of each left key of each join
-abbrev pub OfEach : (JoinAt → KeyJoin → Type 0) → Type 0
+abbrev pub OfEach : (JoinAt → Key → KeyJoin → Type 0) → Type 0
 OfEach law = (rules : Rules) (d : DraftView) (records : List Input) (schedule : List (Option TaskId × Place)) → IsWellFormed d →
     let p = plan_of d in
     let st = state_of rules p records schedule in
     NoCollision rules p st →
-    (n l r : ℕ) (fk : Name) (kind : JoinKind) (set : Set) → IsNode p n (ForeignKeyJoin l r fk kind set) →
+    (n l r : ℕ) (fk : Fk) (kind : JoinKind) (set : Set) → IsNode p n (ForeignKeyJoin l r fk kind set) →
     let at = join_at rules p n l r fk kind set in
-    (k : Key) → law at (key_join_in at k st)
+    (k : Key) → law at k (key_join_in at k st)
 
--- it has had a row with this foreign key and this hash
-abbrev pub HasHad : JoinAt → KeyJoin → Key → ℕ → Type 0
-HasHad at j b h = (v : Row) × (In v j.had) × (at.rules.hash v ≡ h) × (field_key at.fk v ≡ Some b)
+-- the left key k has had a row with this foreign key and this hash
+abbrev pub HasHad : JoinAt → Key → KeyJoin → Key → ℕ → Type 0
+HasHad at k j b h = (v : Row) × (In v j.had) × (at.rules.hash v ≡ h) × (fk_of at.fk k v ≡ Some b)
 
 -- each hash that is stored, or waits in a subscription, is that of a row that the key has had whose foreign key is b; each waiting
 -- response with a hash comes from the task of the foreign key of a row that it has had with that hash
-abbrev pub HashesAreHad : JoinAt → KeyJoin → Type 0
-HashesAreHad at j = record {
-  stored : (b : Key) (h : ℕ) → j.stored b ≡ Some h → HasHad at j b h;
-  asked : (b : Key) (h : ℕ) → In (Ask h) (j.subscriptions b) → HasHad at j b h;
+abbrev pub HashesAreHad : JoinAt → Key → KeyJoin → Type 0
+HashesAreHad at k j = record {
+  stored : (b : Key) (h : ℕ) → j.stored b ≡ Some h → HasHad at k j b h;
+  asked : (b : Key) (h : ℕ) → In (Ask h) (j.subscriptions b) → HasHad at k j b h;
   answered : (i h : ℕ) (y : Option Row) → In (record { hash = Some h; row = y }) (j.responses i) →
-      (b : Key) × (key_part at b ≡ i) × HasHad at j b h;
+      (b : Key) × (key_part at b ≡ i) × HasHad at k j b h;
 }
 
 -- the stored hash after all waiting subscriptions is the present row's where b is its foreign key, and none elsewhere
-abbrev pub HashesFollow : JoinAt → KeyJoin → Type 0
-HashesFollow at j = (b : Key) → fold apply (j.stored b) (j.subscriptions b) ≡ option_and_then (hash_for at.rules at.fk b) j.row
+abbrev pub HashesFollow : JoinAt → Key → KeyJoin → Type 0
+HashesFollow at k j = (b : Key) → fold apply (j.stored b) (j.subscriptions b) ≡ option_and_then (hash_for at.rules at.fk b k) j.row
 
 abbrev pub last : {A : Type 0} → List A → Option A
 last [] = None
@@ -108,8 +115,8 @@ abbrev pub last_asked : KeyJoin → Key → Option Subscription
 last_asked j b = last (j.subscriptions b)
 
 -- where b isn't the foreign key of the present row: the last waiting subscription is 0 or 1, or none waits and nothing is stored
-abbrev pub OthersAreForgotten : JoinAt → KeyJoin → Type 0
-OthersAreForgotten at j = (b : Key) → option_and_then (field_key at.fk) j.row ≢ Some b →
+abbrev pub OthersAreForgotten : JoinAt → Key → KeyJoin → Type 0
+OthersAreForgotten at k j = (b : Key) → option_and_then (fk_of at.fk k) j.row ≢ Some b →
     ((last_asked j b ≡ Some Forget) ⊎ (last_asked j b ≡ Some ForgetAndAnswer)) ⊎ ((j.subscriptions b ≡ []) × (j.stored b ≡ None))
 
 -- the row of the last response with this hash
@@ -124,8 +131,8 @@ last_answer j i h = last_with h (j.responses i)
 -- where the present row v has the foreign key a: the last waiting subscription is 2 with v's hash, or none waits, v's hash is stored,
 -- and either the last waiting response with it carries the right row of the moment, or none with it waits and the result is that
 -- row's; responses with v's hash come from a's task alone
-abbrev pub PresentIsAnswered : JoinAt → KeyJoin → Type 0
-PresentIsAnswered at j = (v : Row) (a : Key) → j.row ≡ Some v → field_key at.fk v ≡ Some a →
+abbrev pub PresentIsAnswered : JoinAt → Key → KeyJoin → Type 0
+PresentIsAnswered at k j = (v : Row) (a : Key) → j.row ≡ Some v → fk_of at.fk k v ≡ Some a →
     let h = at.rules.hash v in
     let part = key_part at a in
     record {
@@ -139,15 +146,15 @@ PresentIsAnswered at j = (v : Row) (a : Key) → j.row ≡ Some v → field_key 
     }
 
 -- the result after all waiting responses of the foreign key's task is the right row's of the moment
-abbrev pub ResultsFollow : JoinAt → KeyJoin → Type 0
-ResultsFollow at j = (v : Row) (a : Key) → j.row ≡ Some v → field_key at.fk v ≡ Some a → j.subscriptions a ≡ [] →
-    fold (accept (protocol_of at) (Some v)) j.result (j.responses (key_part at a)) ≡ joined at.kind at.set (Some v) (j.right a)
+abbrev pub ResultsFollow : JoinAt → Key → KeyJoin → Type 0
+ResultsFollow at k j = (v : Row) (a : Key) → j.row ≡ Some v → fk_of at.fk k v ≡ Some a → j.subscriptions a ≡ [] →
+    fold (accept (protocol_of at k) (Some v)) j.result (j.responses (key_part at a)) ≡ joined at.kind at.set (Some v) (j.right a)
 
 -- without a left row: no result, or a subscription 1 or a response without a hash waits
-abbrev pub GoneIsTold : JoinAt → KeyJoin → Type 0
-GoneIsTold at j = j.row ≡ None → (j.result ≡ None)
+abbrev pub GoneIsTold : JoinAt → Key → KeyJoin → Type 0
+GoneIsTold at k j = j.row ≡ None → (j.result ≡ None)
     ⊎ (((b : Key) × In ForgetAndAnswer (j.subscriptions b)) ⊎ ((i : ℕ) × In (record { hash = None; row = None }) (j.responses i)))
 
 -- where the present row has no foreign key: the result is that of no right row
-abbrev pub AloneIsJoined : JoinAt → KeyJoin → Type 0
-AloneIsJoined at j = (v : Row) → j.row ≡ Some v → field_key at.fk v ≡ None → j.result ≡ joined at.kind at.set (Some v) None
+abbrev pub AloneIsJoined : JoinAt → Key → KeyJoin → Type 0
+AloneIsJoined at k j = (v : Row) → j.row ≡ Some v → fk_of at.fk k v ≡ None → j.result ≡ joined at.kind at.set (Some v) None

@@ -1,12 +1,13 @@
 -- A join on a foreign key where it stands in a plan, and a state of a run as one left key of it sees it (KIP-213).
-use Rattle.std.specs.Prelude.{ℕ, List, [], ◌∷◌, Option, Some, None, cond, ◌&&◌}
+use Rattle.std.specs.Prelude.{ℕ, List, [], ◌∷◌, Option, Some, None, option_map, cond, ◌&&◌}
 use Rattle.ks_row.specs.declared.record.TaskId.{TaskId}
-use Rattle.ks_row.specs.FieldKeys.{field_key}
 use Rattle.ks_expr.specs.declared.terms.JoinKind.{JoinKind}
+use Rattle.ks_expr.specs.declared.terms.Fk.{Fk}
+use Rattle.ks_expr.specs.Keys.{fk_of}
 use Rattle.ks_expr.specs.Terms.{Set}
 use Rattle.ks_expr.specs.Eval.{Row, same_bytes, joined}
 use Rattle.ks_wire.specs.declared.values.Response.{Response as Answer}
-use Rattle.ks_plan.specs.Drafts.{Name}
+use Rattle.ks_wire.specs.declared.values.Subscriber.{Subscriber}
 use Rattle.ks_plan.specs.Plan.{Plan}
 use Rattle.ks_plan.specs.Layout.{sub_of}
 use Rattle.ks_plan.specs.declared.node.Topic.TheVariants.{Subscriptions, Responses}
@@ -15,7 +16,7 @@ use Rattle.ks_query.specs.Streams.{Key}
 use Rattle.ks_def_tasks.specs.Messages.{Place, Instruction, Message, Rules, Subscription as Asking}
 use Rattle.ks_def_tasks.specs.Messages.Instruction.{Delete, DeleteAndAnswer, Answer as AnswerAlways, AnswerIfThere}
 use Rattle.ks_def_tasks.specs.Messages.Message.{Asked, Answered}
-use Rattle.ks_def_tasks.specs.Rest.{home}
+use Rattle.ks_def_tasks.specs.Rest.{home, named}
 use Rattle.ks_law_quiescence.specs.States.{State, row_at, home_task}
 use Rattle.ks_law_quiescence.specs.Taken.{messages}
 use Rattle.ks_law_quiescence.specs.ForeignJoin.{Protocol, Subscription, Response, Join}
@@ -30,13 +31,13 @@ pub record JoinAt : Type 0 where
   pub node : ℕ
   pub left : ℕ
   pub right : ℕ
-  -- the field of left rows that has the foreign key
-  pub fk : Name
+  -- what gives the foreign key, of a left key and its row
+  pub fk : Fk
   pub kind : JoinKind
   -- the fields of its own rows
   pub set : Set
 
-abbrev pub join_at : Rules → Plan → ℕ → ℕ → ℕ → Name → JoinKind → Set → JoinAt
+abbrev pub join_at : Rules → Plan → ℕ → ℕ → ℕ → Fk → JoinKind → Set → JoinAt
 join_at rules plan node left right fk kind set = record {
   rules = rules;
   plan = plan;
@@ -72,11 +73,15 @@ answers_place at k = record { topic = Responses at.node; part = left_part at k }
 abbrev pub asking_place : JoinAt → Key → Place
 asking_place at b = record { topic = Subscriptions at.node; part = key_part at b }
 
--- the protocol that it keeps to
-abbrev pub protocol_of : JoinAt → Protocol Key Row Row Row
-protocol_of at = record {
+-- the partition that the subscriptions for a left key name, where they name one
+abbrev pub named_at : JoinAt → Key → Option ℕ
+named_at at k = named at.rules at.plan at.node k
+
+-- the protocol that it keeps to for a left key
+abbrev pub protocol_of : JoinAt → Key → Protocol Key Row Row Row
+protocol_of at k = record {
   alike = same_bytes;
-  foreign_key = field_key at.fk;
+  foreign_key = fk_of at.fk k;
   hash = at.rules.hash;
   part = key_part at;
   joined = λ v y. joined at.kind at.set (Some v) y;
@@ -119,7 +124,7 @@ key_join at k had st = record {
   result = row_at st (left_task at k) at.node k;
   had = had;
   right = λ b. row_at st (key_task at b) at.right b;
-  stored = λ b. map.get ((st.stores (key_task at b)).hashes at.node b) k;
+  stored = λ b. option_map (λ (s : Subscriber). s.hash) (map.get ((st.stores (key_task at b)).hashes at.node b) k);
   subscriptions = λ b. asked_by b k (messages (st.waiting (Some (left_task at k)) (asking_place at b)));
   responses = λ j. answered_to k (messages (st.waiting (Some (right_task at j)) (answers_place at k)));
 }

@@ -21,7 +21,8 @@ use Rattle.ks_row.specs.Spelling.{spelling, FitsField, FitsMember, FitsRow}
 use Rattle.ks_row.specs.declared.row.Field.{Field}
 use Rattle.ks_row.specs.declared.row.Field.TheVariants.{Int, Text}
 use Rattle.ks_row.specs.declared.record.Rec.{Rec}
-use Rattle.ks_plan.specs.Drafts.{DraftView}
+use Rattle.ks_plan.specs.declared.draft.TopicDraft.{TopicDraft}
+use Rattle.ks_plan.specs.Drafts.{Topics, DraftView}
 use Rattle.ks_plan.specs.Plan.{natural}
 use Rattle.ks_job_record.specs.declared.fault.JobKind.{JobKind}
 use Rattle.ks_job_record.specs.declared.fault.JobKind.TheVariants.{TooMany, BadShape, BadNumber, UnknownTopic, NotJson, LineTooLong}
@@ -30,7 +31,8 @@ use Rattle.ks_job_record.specs.declared.members.Form.TheVariants as form
 use Rattle.ks_job_record.specs.Gives.{◌>>=◌, some_or}
 use Rattle.ks_job_record.specs.Members.{same, object_of, member_of, text_of, integer_from}
 use Rattle.ks_job_record.specs.Record.{place_of, number_of, topic_from, key_from, field_from, member_from, with_member, and_member, fields_from, row_from, value_from, time_within, time_from, input_from}
-use Rattle.ks_job_topology.specs.Topology.{label_from, app_from, parts_from, topic_from as topic_parts_from, topics_from, topics_of, print_of, topology_from, names_of}
+use Rattle.ks_job_topology.specs.Stated.{parts_from, only_two_of, stated_in, stated_from, plain_from, by_form, spread_from}
+use Rattle.ks_job_topology.specs.Topology.{label_from, app_from, topic_from as topic_spread_from, topics_from, topics_of, print_of, topology_from, names_of}
 use Rattle.ks_job_topology.specs.Nodes.{nodes_of}
 use Rattle.ks_job.specs.Items.{ItemView, TopologyAt, RecordTo}
 use Rattle.ks_job.specs.Lines.{Spot, is_blank, parsed, passes, is_too_long, too_long, next_line, topology_line, record_line, value_line, data_line, judged}
@@ -313,32 +315,56 @@ parts_fit name d z e =
     let k = refused (int_lt p.0 (pos 1)) p.0 (BadShape name) z p.2 in
     subst (λ y. 1 ≤ natural y) k.1 (not_below_one p.0 k.0)
 
-topic_fits : (name : List ℕ) (d : Data) (t : List ℕ × ℤ) → topic_parts_from name d ≡ Ok t → 1 ≤ natural t.1
-unfolding topic_parts_from
-topic_fits name d t e =
-    let p = bound (label_from name name) (λ label. parts_from name d >>= λ parts. Ok (label, parts)) t e in
-    let q = bound (parts_from name d) (λ parts. Ok (p.0, parts)) t p.2 in
-    let k : (p.0, q.0) ≡ t = cc (q.2) in
-    subst (λ x. 1 ≤ natural x.1) k (parts_fit name d q.0 q.1)
+-- ---- how a topic's keys are spread: both forms have a number of partitions
+plain_fits : (name : List ℕ) (d : Data) (t : TopicDraft) → plain_from name d ≡ Ok t → 1 ≤ natural t.parts
+unfolding plain_from
+plain_fits name d t e =
+    let q = bound (parts_from name d) (λ parts. Ok (record { parts = parts; before = None })) t e in
+    let k : record { parts = q.0; before = None } ≡ t = cc (q.2) in
+    subst (λ (x : TopicDraft). 1 ≤ natural x.parts) k (parts_fit name d q.0 q.1)
 
-have_push : (ts : List (List ℕ × ℤ)) (t : List ℕ × ℤ) → HavePartitions ts → 1 ≤ natural t.1 → HavePartitions (ts ++ t ∷ [])
+stated_fits : (name : List ℕ) (d : Data) (t : TopicDraft) → stated_from name d ≡ Ok t → 1 ≤ natural t.parts
+unfolding stated_from
+stated_fits name d t e =
+    let p = bound (some_or (BadShape name) (stated_in (only_two_of d))) (λ stated. parts_from name stated.1 >>= λ parts. Ok (record { parts = parts; before = Some stated.0 })) t e in
+    let q = bound (parts_from name p.0.1) (λ parts. Ok (record { parts = parts; before = Some p.0.0 })) t p.2 in
+    let k : record { parts = q.0; before = Some p.0.0 } ≡ t = cc (q.2) in
+    subst (λ (x : TopicDraft). 1 ≤ natural x.parts) k (parts_fit name p.0.1 q.0 q.1)
+
+spread_fits : (name : List ℕ) (d : Data) (t : TopicDraft) → spread_from name d ≡ Ok t → 1 ≤ natural t.parts
+unfolding spread_from
+spread_fits name d t e = by (as_object d) e
+  where
+    by : (o : Option Members) → by_form o name d ≡ Ok t → 1 ≤ natural t.parts
+    by None e = plain_fits name d t e
+    by (Some ms) e = stated_fits name d t e
+
+topic_fits : (name : List ℕ) (d : Data) (t : List ℕ × TopicDraft) → topic_spread_from name d ≡ Ok t → 1 ≤ natural t.1.parts
+unfolding topic_spread_from
+topic_fits name d t e =
+    let p = bound (label_from name name) (λ label. spread_from name d >>= λ spread. Ok (label, spread)) t e in
+    let q = bound (spread_from name d) (λ spread. Ok (p.0, spread)) t p.2 in
+    let k : (p.0, q.0) ≡ t = cc (q.2) in
+    subst (λ (x : List ℕ × TopicDraft). 1 ≤ natural x.1.parts) k (spread_fits name d q.0 q.1)
+
+have_push : (ts : Topics) (t : List ℕ × TopicDraft) → HavePartitions ts → 1 ≤ natural t.1.parts → HavePartitions (ts ++ t ∷ [])
 have_push [] t h f = (f, tt)
 have_push (s ∷ ts) t h f = (h.0, have_push ts t h.1 f)
 
-topics_fit_from : (found all : List (List ℕ × ℤ)) (ms : Members) → HavePartitions found → topics_from found ms ≡ Ok all → HavePartitions all
+topics_fit_from : (found all : Topics) (ms : Members) → HavePartitions found → topics_from found ms ≡ Ok all → HavePartitions all
 topics_fit_from found all no_members h e = let k : found ≡ all = cc in subst HavePartitions k h
 topics_fit_from found all (member n d ms) h e =
-    let p = bound (topic_parts_from n d) (λ t. topics_from (found ++ t ∷ []) ms) all e in
+    let p = bound (topic_spread_from n d) (λ t. topics_from (found ++ t ∷ []) ms) all e in
     topics_fit_from (found ++ p.0 ∷ []) all ms (have_push found p.0 h (topic_fits n d p.0 p.1)) p.2
 
-topics_fit : (d : Data) (ts : List (List ℕ × ℤ)) → topics_of d ≡ Ok ts → HavePartitions ts
+topics_fit : (d : Data) (ts : Topics) → topics_of d ≡ Ok ts → HavePartitions ts
 unfolding topics_of
 topics_fit d ts e =
     let p = bound (member_of (codes "topics") d) (λ inner. some_or (BadShape (codes "topics")) (as_object inner) >>= λ ms. topics_from [] ms) ts e in
     let q = bound (some_or (BadShape (codes "topics")) (as_object p.0)) (λ ms. topics_from [] ms) ts p.2 in
     topics_fit_from [] ts q.0 tt q.2
 
-abbrev draft_with : List ℕ → List (List ℕ × ℤ) → Data → Result DraftView JobKind
+abbrev draft_with : List ℕ → Topics → Data → Result DraftView JobKind
 draft_with app topics d = nodes_of d >>= λ nodes. print_of d >>= λ print. Ok record { app = app; topics = topics; nodes = nodes; print = print }
 
 abbrev draft_of_app : Data → List ℕ → Result DraftView JobKind
@@ -382,7 +408,7 @@ topology_stands s n d [] a =
     (λ draft e. ((draft_fits d draft e, tt), refl))
 topology_stands s n d (i ∷ is) a = absurd a
 
-count_names : (ts : List (List ℕ × ℤ)) → length (names_of ts) ≡ length ts
+count_names : (ts : Topics) → length (names_of ts) ≡ length ts
 count_names [] = refl
 count_names (t ∷ ts) = ap suc (count_names ts)
 

@@ -1,11 +1,11 @@
 -- The records of a job: what their keys and values are, and the same as inputs of its query.
-use Rattle.std.specs.Prelude.{◌≡◌, ℕ, ◌<◌, ◌≤◌, ◌^◌, ℤ, List, [], ◌∷◌, length, Option, Some, None, IfSome}
+use Rattle.std.specs.Prelude.{◌≡◌, ℕ, ◌<◌, ◌≤◌, ◌^◌, List, [], ◌∷◌, length, Option, Some, None, IfSome}
 use Rattle.ks_row.specs.Texts.{IsKey}
 use Rattle.ks_row.specs.Rows.{Member}
 use Rattle.ks_row.specs.Spelling.{spelling, FitsRow}
 use Rattle.ks_row.specs.Reading.{row_from}
 use Rattle.ks_row.specs.declared.record.Rec.{Rec}
-use Rattle.ks_plan.specs.Drafts.{Name}
+use Rattle.ks_plan.specs.Drafts.{Topics}
 use Rattle.ks_plan.specs.Plan.{natural}
 use Rattle.ks_query.specs.Streams.{Input, some_of}
 use Rattle.ks_job.specs.Items.{ItemView, TopologyAt, RecordTo}
@@ -46,9 +46,9 @@ AreRecords topics (TopologyAt line d ∷ is) = ⊥
 AreRecords topics (RecordTo topic r ∷ is) = IsRecord topics topic r × AreRecords topics is
 
 -- each topic has a partition
-abbrev pub HavePartitions : List (Name × ℤ) → Type 0
+abbrev pub HavePartitions : Topics → Type 0
 HavePartitions [] = Unit {0}
-HavePartitions (t ∷ ts) = (1 ≤ natural t.1) × HavePartitions ts
+HavePartitions (t ∷ ts) = (1 ≤ natural t.1.parts) × HavePartitions ts
 
 -- a topology and its records, or nothing yet
 abbrev pub IsJob : List ItemView → Type 0

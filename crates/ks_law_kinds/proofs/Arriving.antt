@@ -8,7 +8,7 @@ use Rattle.ks_row.specs.Spelling.{FitsRow}
 use Rattle.ks_row.specs.Reading.{◌>>=◌, row_from}
 use Rattle.ks_row.proofs.Fields.{bind_some, some_is}
 use Rattle.ks_row.proofs.Spelled.{key_takes, row_codec}
-use Rattle.ks_wire.specs.Values.{SubscriptionValue}
+use Rattle.ks_wire.specs.Values.{SubscriptionValue, IsPart}
 use Rattle.ks_wire.specs.Spelling.{FitsHash, FitsResponse}
 use Rattle.ks_wire.specs.Reading.{subscription_from, response_from, delta_from}
 use Rattle.ks_wire.proofs.Wired.{subscription_codec, response_codec}
@@ -30,7 +30,7 @@ abbrev pub MessageFits : Message → Type 0
 MessageFits (Given k v) = IfThere IsKey k × IfThere FitsRow v
 MessageFits (Keyed g row) = IsKey g × FitsRow row
 MessageFits (Moved g d) = IsKey g
-MessageFits (Asked b p s) = IsKey b × IsKey p × FitsHash s.hash
+MessageFits (Asked b p s) = IsKey b × IsKey p × FitsHash s.hash × IsPart s.part
 MessageFits (Answered p r) = IsKey p × FitsResponse r
 MessageFits _ = Unit {0}
 
@@ -107,7 +107,7 @@ asked_fits : (r : Rec) (m : Message) → has (spells subscription_from) r.value 
 asked_fits r m h e =
     let x = both_in key_from subscription_from (λ (b : Key) (v : SubscriptionValue). Asked b v.left (subscription_of v)) r m e in
     let f = (subscription_codec.back x.v x.b (bytes_in subscription_from x.v (value_spells subscription_from r.value x.v h x.has_value)) x.value_is).0 in
-    subst MessageFits x.is (a_key x.k x.a x.key_is, f.left, f.hash)
+    subst MessageFits x.is (a_key x.k x.a x.key_is, f.left, f.hash, f.part)
 
 answered_fits : (r : Rec) (m : Message) → has (spells response_from) r.value ≡ true → of_both key_from response_from Answered r ≡ Some m → MessageFits m
 answered_fits r m h e =

@@ -1,5 +1,4 @@
 pub mod Spells
-pub mod Every
 pub mod Stores
 pub mod Arriving
 pub mod Values

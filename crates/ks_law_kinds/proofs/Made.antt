@@ -20,9 +20,15 @@ use Rattle.ks_row.specs.declared.row.Field.TheVariants.{Int, Text}
 use Rattle.ks_wire.specs.declared.values.Agg.{Agg}
 use Rattle.ks_wire.specs.declared.values.Delta.{Delta}
 use Rattle.ks_wire.specs.declared.values.Response.{Response}
-use Rattle.ks_wire.specs.Spelling.{FitsHash, FitsResponse, FitsDelta, FitsAgg, subscription_bytes, response_bytes, delta_bytes, agg_bytes, hash_bytes, time_bytes, time_key, window_key, subscription_key}
-use Rattle.ks_wire.specs.Reading.{agg_from, delta_from, hash_from, time_from, window_key_from, subscription_from, response_from, subscription_key_from}
+use Rattle.ks_wire.specs.declared.values.Subscriber.{Subscriber}
+use Rattle.ks_wire.specs.Values.{IsPart}
+use Rattle.ks_wire.specs.Spelling.{FitsHash, FitsSubscriber, FitsResponse, FitsDelta, FitsAgg, subscription_bytes, subscriber_bytes, response_bytes, delta_bytes, agg_bytes, time_bytes, time_key, window_key, subscription_key}
+use Rattle.ks_wire.specs.Reading.{agg_from, delta_from, subscriber_from, time_from, window_key_from, subscription_from, response_from, subscription_key_from}
 use Rattle.ks_expr.specs.Eval.{Row, same_bytes}
+use Rattle.ks_expr.specs.declared.terms.Fk.{Fk}
+use Rattle.ks_expr.specs.declared.terms.Fk.TheVariants.{Field as OfField, Whole, Before}
+use Rattle.ks_expr.specs.Keys.{front_of, fk_of}
+use Rattle.ks_expr.proofs.Fronts.{front_is_key}
 use Rattle.ks_plan.specs.Plan.{Plan, Kind, Window, is_windowed}
 use Rattle.ks_plan.specs.Plan.Kind.{StreamSource, TableSource, StreamFilter, TableFilter, StreamMap, TableMap, KeySelected, StreamAggregate, TableAggregate, Windowed, KeyJoin, ForeignKeyJoin}
 use Rattle.ks_plan.specs.declared.node.Topic.{Topic}
@@ -34,10 +40,10 @@ use Rattle.ks_query.specs.Streams.{Key, StreamItem, group_key}
 use Rattle.ks_query.specs.Windows.{by_window, windows, multiples}
 use Rattle.ks_query.specs.Grace.{is_open}
 use Rattle.ks_query.specs.Aggregates.{stream_add, table_parts, share_under, with_amount, amount_in, int_of, deltas_of, same_share}
-use Rattle.ks_def_tasks.specs.Messages.{Stored, shown, Message, Subscription, Instruction, Store, Rules, value_of, number_of, same_option, same_stored}
+use Rattle.ks_def_tasks.specs.Messages.{Stored, shown, Message, Subscription, Instruction, Store, Rules, value_of, number_of, same_option, same_stored, same_subscriber}
 use Rattle.ks_def_tasks.specs.Messages.Instruction.{Delete, DeleteAndAnswer, Answer, AnswerIfThere}
 use Rattle.ks_def_tasks.specs.Messages.Message.{Given, Keyed, Moved, Asked, Answered, Kept, KeptCount, KeptTime, KeptHash}
-use Rattle.ks_def_tasks.specs.Foreign.{key_of_row, subscribe, subscriptions, subscribed, answer_to, answer_all}
+use Rattle.ks_def_tasks.specs.Foreign.{Sending, key_of_row, subscribe, subscriptions, subscribed, answer_to, answer_all}
 use Rattle.ks_def_tasks.specs.Windowed.{Counted, greater, count_window, time_changes, count_group, count_item}
 use Rattle.ks_def_tasks.specs.Step.{Arrival, Sent, Written, Values, arrived, step_key, item_into, row_in, changed, keyed_to, regroup, send_deltas, send_subscriptions, send_responses, answer_of, answer_one, join_sends, sends_at, write_all, value_changes, counted_at, hash_changes, changes_at, over_nodes}
 use Rattle.ks_def_tasks.specs.Bytes.{key_bytes, value_bytes, stored_bytes}
@@ -45,12 +51,13 @@ use Rattle.ks_law_topology.specs.Spelled.{IfThere}
 use Rattle.ks_law_topology.proofs.Rows.{field_key_fits, stream_fits}
 use Rattle.ks_law_topology.proofs.Placing.{AtPlace}
 use Rattle.ks_law_kinds.specs.OfKind.{spells, may_have, is_regrouped, is_stored, is_counted, is_of_topic}
-use Rattle.ks_law_kinds.specs.Fitting.{FitsRules}
-use Rattle.ks_law_kinds.proofs.Spells.{spells_key, spells_row, spells_subscription, spells_response, spells_delta, spells_agg, spells_hash, spells_time, spells_keys, spells_window}
-use Rattle.ks_law_kinds.proofs.Every.{Every}
+use Rattle.ks_law_topology.specs.Work.{FitsRules}
+use Rattle.ks_law_kinds.specs.Fitting.{FitsFk, FitsKind}
+use Rattle.ks_law_kinds.proofs.Spells.{spells_key, spells_row, spells_subscription, spells_response, spells_delta, spells_agg, spells_subscriber, spells_time, spells_keys, spells_window}
+use Rattle.ks_law_topology.proofs.Every.{Every}
 use Rattle.ks_law_kinds.proofs.Stores.{StoredFits, ValueFits, StoreFits}
 use Rattle.ks_law_kinds.proofs.Arriving.{MessageFits}
-use Rattle.ks_law_kinds.proofs.Values.{mapped_fits, then_fits, ItemFits, ItemsFit, ValuesFit, here, into_fits, row_fits}
+use Rattle.ks_law_kinds.proofs.Values.{if_some, mapped_fits, then_fits, ItemFits, ItemsFit, ValuesFit, here, into_fits, row_fits}
 
 -- ---- amounts
 zero_fits : FitsSigned w64 (pos 0)
@@ -180,45 +187,51 @@ module _ (p : Plan) where
 
   abbrev pub AllAsked : List (Key × Subscription) → Type 0
   AllAsked [] = Unit {0}
-  AllAsked (s ∷ ss) = (IsKey s.0 × FitsHash s.1.hash) × AllAsked ss
+  AllAsked (s ∷ ss) = (IsKey s.0 × FitsHash s.1.hash × IsPart s.1.part) × AllAsked ss
 
   asked-append : (xs ys : List (Key × Subscription)) → AllAsked xs → AllAsked ys → AllAsked (xs ++ ys)
   asked-append [] ys a b = b
   asked-append (x ∷ xs) ys a b = (a.0, asked-append xs ys a.1 b)
 
-  one_asked : (b : Option Key) (s : Subscription) → IfThere IsKey b → FitsHash s.hash → AllAsked (subscribe b s)
-  one_asked None s h f = tt
-  one_asked (Some b) s h f = ((h, f), tt)
+  one_asked : (b : Option Key) (s : Subscription) → IfThere IsKey b → FitsHash s.hash → IsPart s.part → AllAsked (subscribe b s)
+  one_asked None s h f g = tt
+  one_asked (Some b) s h f g = ((h, f, g), tt)
 
-  row_key : (fk : List ℕ) (row : Option Row) → IfThere FitsRow row → IfThere IsKey (key_of_row fk row)
-  row_key fk row h = then_fits FitsRow IsKey (field_key fk) (λ v g. field_key_fits fk v g) row h
+  -- a foreign key is a key
+  fk_fits : (fk : Fk) → FitsFk fk → (k : Key) → IsKey k → (row : Row) → FitsRow row → IfThere IsKey (fk_of fk k row)
+  fk_fits (OfField name) f k is row h = field_key_fits name row h
+  fk_fits Whole f k is row h = is
+  fk_fits (Before s) f k is row h = if_some IsKey (front_of s k) (front_is_key s k f is)
 
-  pub asked_fit : (rules : Rules) → FitsRules rules → (fk : List ℕ) (old new : Option Row) → IfThere FitsRow old → IfThere FitsRow new → AllAsked (subscriptions rules.hash fk old new)
-  asked_fit rules f fk old None h g = one_asked (key_of_row fk old) (record { hash = None; instruction = DeleteAndAnswer }) (row_key fk old h) tt
-  asked_fit rules f fk old (Some v) h g = asked-append
-      (cond (same_option same_bytes (key_of_row fk old) (field_key fk v)) [] (subscribe (key_of_row fk old) (record { hash = Some (rules.hash v); instruction = Delete })))
-      (subscribe (field_key fk v) (record { hash = Some (rules.hash v); instruction = Answer }))
-      (first (same_option same_bytes (key_of_row fk old) (field_key fk v)))
-      (one_asked (field_key fk v) (record { hash = Some (rules.hash v); instruction = Answer }) (field_key_fits fk v g) (f v))
+  row_key : (fk : Fk) → FitsFk fk → (k : Key) → IsKey k → (row : Option Row) → IfThere FitsRow row → IfThere IsKey (key_of_row fk k row)
+  row_key fk f k is row h = then_fits FitsRow IsKey (fk_of fk k) (λ v g. fk_fits fk f k is v g) row h
+
+  pub asked_fit : (rules : Rules) → FitsRules rules → (fk : Fk) → FitsFk fk → (k : Key) → IsKey k → (part : Option ℕ) → IsPart part → (old new : Option Row) → IfThere FitsRow old → IfThere FitsRow new → AllAsked (subscriptions rules.hash fk k part old new)
+  asked_fit rules good fk f k is part one old None h g = one_asked (key_of_row fk k old) (record { hash = None; instruction = DeleteAndAnswer; part = part }) (row_key fk f k is old h) tt one
+  asked_fit rules good fk f k is part one old (Some v) h g = asked-append
+      (cond (same_option same_bytes (key_of_row fk k old) (fk_of fk k v)) [] (subscribe (key_of_row fk k old) (record { hash = Some (rules.hash v); instruction = Delete; part = part })))
+      (subscribe (fk_of fk k v) (record { hash = Some (rules.hash v); instruction = Answer; part = part }))
+      (first (same_option same_bytes (key_of_row fk k old) (fk_of fk k v)))
+      (one_asked (fk_of fk k v) (record { hash = Some (rules.hash v); instruction = Answer; part = part }) (fk_fits fk f k is v g) (good v) one)
     where
-      first : (b : Bool) → AllAsked (cond b [] (subscribe (key_of_row fk old) (record { hash = Some (rules.hash v); instruction = Delete })))
+      first : (b : Bool) → AllAsked (cond b [] (subscribe (key_of_row fk k old) (record { hash = Some (rules.hash v); instruction = Delete; part = part })))
       first true = tt
-      first false = one_asked (key_of_row fk old) (record { hash = Some (rules.hash v); instruction = Delete }) (row_key fk old h) (f v)
+      first false = one_asked (key_of_row fk k old) (record { hash = Some (rules.hash v); instruction = Delete; part = part }) (row_key fk f k is old h) (good v) one
 
   asked_sent : (n : ℕ) (k : Key) → IsKey k → (ss : List (Key × Subscription)) → AllAsked ss → AllSent (send_subscriptions n k ss)
   asked_sent n k is [] h = tt
   asked_sent n k is (s ∷ ss) h = (
     and_from (spells key_from s.0) (spells subscription_from (subscription_bytes (value_of k s.1))) (spells_key s.0 h.0.0)
-        (spells_subscription (value_of k s.1) (record { hash = h.0.1; instruction = few s.1.instruction; left = is })),
+        (spells_subscription (value_of k s.1) (record { hash = h.0.1; instruction = few s.1.instruction; left = is; part = h.0.2 })),
     asked_sent n k is ss h.1,
   )
 
   -- to response topics
-  abbrev pub AllAnswers : List (Key × Response) → Type 0
+  abbrev pub AllAnswers : List Sending → Type 0
   AllAnswers [] = Unit {0}
   AllAnswers (r ∷ rs) = (IsKey r.0 × FitsResponse r.1) × AllAnswers rs
 
-  answers_sent : (n : ℕ) (rs : List (Key × Response)) → AllAnswers rs → AllSent (send_responses n rs)
+  answers_sent : (n : ℕ) (rs : List Sending) → AllAnswers rs → AllSent (send_responses n rs)
   answers_sent n [] h = tt
   answers_sent n (r ∷ rs) h = (and_from (spells key_from r.0) (spells response_from (response_bytes r.1)) (spells_key r.0 h.0.0) (spells_response r.1 h.0.1), answers_sent n rs h.1)
 
@@ -226,22 +239,22 @@ module _ (p : Plan) where
   some_if P None h = tt
   some_if P (Some x) h = h
 
-  pub all_answers : (right : Option Row) → IfThere FitsRow right → (es : List (Key × ℕ)) → Every (λ k h. IsKey k × (h < 2 ^ 128)) es → AllAnswers (answer_all right es)
+  pub all_answers : (right : Option Row) → IfThere FitsRow right → (es : List (Key × Subscriber)) → Every (λ k s. IsKey k × FitsSubscriber s) es → AllAnswers (answer_all right es)
   all_answers right f [] h = tt
-  all_answers right f (e ∷ es) h = ((h.0.0, record { hash = h.0.1; right = some_if FitsRow right f }), all_answers right f es h.1)
+  all_answers right f (e ∷ es) h = ((h.0.0, record { hash = h.0.1.hash; right = some_if FitsRow right f }), all_answers right f es h.1)
 
   pub answer_fits : (s : Subscription) → FitsHash s.hash → (right : Option Row) → IfThere FitsRow right → IfThere FitsResponse (answer_to s right)
   answer_fits s h right f = by s.instruction
     where
-      by : (i : Instruction) → IfThere FitsResponse (answer_to (record { hash = s.hash; instruction = i }) right)
+      by : (i : Instruction) → IfThere FitsResponse (answer_to (record { hash = s.hash; instruction = i; part = s.part }) right)
       by Delete = tt
       by DeleteAndAnswer = record { hash = tt; right = tt }
       by Answer = record { hash = h; right = some_if FitsRow right f }
       by AnswerIfThere = mapped_fits FitsRow FitsResponse (λ (row : Row). record { hash = s.hash; right = Some row }) (λ row g. record { hash = h; right = g }) right f
 
-  pub one_answer : (k : Key) → IsKey k → (r : Option Response) → IfThere FitsResponse r → AllAnswers (answer_of k r)
-  one_answer k is None h = tt
-  one_answer k is (Some r) h = ((is, h), tt)
+  pub one_answer : (k : Key) → IsKey k → (part : Option ℕ) (r : Option Response) → IfThere FitsResponse r → AllAnswers (answer_of k part r)
+  one_answer k is part None h = tt
+  one_answer k is part (Some r) h = ((is, h), tt)
 
   -- ---- what is written into changelogs
   abbrev pub WrittenFits : Written → Type 0
@@ -335,14 +348,14 @@ module _ (p : Plan) where
     of_item w old counts (Some x) f h = of_group w old counts x.time x.key f.key f.time h
 
   -- subscription stores
-  kept_hash : (s : Subscription) → FitsHash s.hash → may_have (spells hash_from) (option_map hash_bytes (subscribed s)) ≡ true
-  kept_hash s h = by s.instruction
+  kept_subscriber : (s : Subscription) → FitsHash s.hash → IsPart s.part → may_have (spells subscriber_from) (option_map subscriber_bytes (subscribed s)) ≡ true
+  kept_subscriber s h g = by s.instruction
     where
-      told : (o : Option ℕ) → FitsHash o → may_have (spells hash_from) (option_map hash_bytes o) ≡ true
+      told : (o : Option ℕ) → FitsHash o → may_have (spells subscriber_from) (option_map subscriber_bytes (option_map (λ x. record { hash = x; part = s.part }) o)) ≡ true
       told None f = refl
-      told (Some x) f = spells_hash x f
+      told (Some x) f = spells_subscriber (record { hash = x; part = s.part }) (record { hash = f; part = g })
 
-      by : (i : Instruction) → may_have (spells hash_from) (option_map hash_bytes (subscribed (record { hash = s.hash; instruction = i }))) ≡ true
+      by : (i : Instruction) → may_have (spells subscriber_from) (option_map subscriber_bytes (subscribed (record { hash = s.hash; instruction = i; part = s.part }))) ≡ true
       by Delete = refl
       by DeleteAndAnswer = refl
       by Answer = told s.hash h
@@ -353,11 +366,11 @@ module _ (p : Plan) where
   hashes_written st n (Some (Given k v)) f = tt
   hashes_written st n (Some (Keyed g row)) f = tt
   hashes_written st n (Some (Moved g d)) f = tt
-  hashes_written st n (Some (Asked b q s)) f = by (same_option nat_eq (fin.get (st.hashes n b) q) (subscribed s))
+  hashes_written st n (Some (Asked b q s)) f = by (same_option same_subscriber (fin.get (st.hashes n b) q) (subscribed s))
     where
       by : (c : Bool) → AllWritten (write_all (HashChangelog n) (cond c [] (KeptHash b q (subscribed s) ∷ [])))
       by true = tt
-      by false = (and_from (spells subscription_key_from (subscription_key b q)) (may_have (spells hash_from) (option_map hash_bytes (subscribed s))) (spells_keys b q f.0 f.1) (kept_hash s f.2), tt)
+      by false = (and_from (spells subscription_key_from (subscription_key b q)) (may_have (spells subscriber_from) (option_map subscriber_bytes (subscribed s))) (spells_keys b q f.0 f.1) (kept_subscriber s f.2 f.3), tt)
   hashes_written st n (Some (Answered q r)) f = tt
   hashes_written st n (Some (Kept k w)) f = tt
   hashes_written st n (Some (KeptCount w g)) f = tt
@@ -366,7 +379,8 @@ module _ (p : Plan) where
 
 -- ---- a whole step
 module _ (rules : Rules) (good : FitsRules rules) (p : Plan) (a : Arrival) (arrives : MessageFits a.item.message) (in_time : a.item.time < 2 ^ 64) (st : Store) (held : StoreFits p st)
-    (items : ℕ → Option StreamItem) (itemly : ItemsFit rules p a arrives in_time items) (olds news : Values) (old : ValuesFit rules p a arrives in_time olds) (new : ValuesFit rules p a arrives in_time news) where
+    (items : ℕ → Option StreamItem) (itemly : ItemsFit rules p a arrives in_time items) (olds news : Values) (old : ValuesFit rules p a arrives in_time olds) (new : ValuesFit rules p a arrives in_time news)
+    (named : (n : ℕ) → IsPart (a.names n)) where
   key_fits : IfThere IsKey (step_key a.item.message)
   key_fits = by a.item.message arrives
     where
@@ -387,15 +401,16 @@ module _ (rules : Rules) (good : FitsRules rules) (p : Plan) (a : Arrival) (arri
   row_then : (n : ℕ) → IfThere FitsRow (row_in olds n)
   row_then n = row_fits rules p a arrives in_time olds old n
 
-  join_sent : (fk : List ℕ) (n l r : ℕ) (k : Option Key) → IfThere IsKey k → AllSent p (join_sends rules fk n l r st olds news k)
-  join_sent fk n l r None is = tt
-  join_sent fk n l r (Some k) is = sent-append p
-      (cond (changed olds news l) (send_subscriptions n k (subscriptions rules.hash fk (row_in olds l) (row_in news l))) [])
-      (cond (changed olds news r) (send_responses n (answer_all (row_in news r) (fin.entries (st.hashes n k)))) [])
-      (sent-cond p (changed olds news l) (send_subscriptions n k (subscriptions rules.hash fk (row_in olds l) (row_in news l)))
-      (asked_sent p n k is (subscriptions rules.hash fk (row_in olds l) (row_in news l)) (asked_fit p rules good fk (row_in olds l) (row_in news l) (row_then l) (row_now l))))
-      (sent-cond p (changed olds news r) (send_responses n (answer_all (row_in news r) (fin.entries (st.hashes n k))))
-      (answers_sent p n (answer_all (row_in news r) (fin.entries (st.hashes n k))) (all_answers p (row_in news r) (row_now r) (fin.entries (st.hashes n k)) (held.hashes n k))))
+  join_sent : (fk : Fk) → FitsFk fk → (n l r : ℕ) (k : Option Key) → IfThere IsKey k → AllSent p (join_sends rules fk (a.names n) n l r st olds news k)
+  join_sent fk f n l r None is = tt
+  join_sent fk f n l r (Some k) is =
+      let asks = subscriptions rules.hash fk k (a.names n) (row_in olds l) (row_in news l) in
+      let answers = answer_all (row_in news r) (fin.entries (st.hashes n k)) in
+      sent-append p (cond (changed olds news l) (send_subscriptions n k asks) []) (cond (changed olds news r) (send_responses n answers) [])
+      (sent-cond p (changed olds news l) (send_subscriptions n k asks)
+      (asked_sent p n k is asks (asked_fit p rules good fk f k is (a.names n) (named n) (row_in olds l) (row_in news l) (row_then l) (row_now l))))
+      (sent-cond p (changed olds news r) (send_responses n answers)
+      (answers_sent p n answers (all_answers p (row_in news r) (row_now r) (fin.entries (st.hashes n k)) (held.hashes n k))))
 
   answer_sent : (n r : ℕ) (m : Option Message) → IfThere MessageFits m → AllSent p (answer_one n st r m)
   answer_sent n r None f = tt
@@ -405,34 +420,34 @@ module _ (rules : Rules) (good : FitsRules rules) (p : Plan) (a : Arrival) (arri
   answer_sent n r (Some (Asked b q s)) f =
       let right = option_map shown (fin.get (st.tables r) b) in
       let right_fits : IfThere FitsRow right = mapped_fits (StoredFits (kind_at p r)) FitsRow shown (λ w g. g.row) (fin.get (st.tables r) b) (held.tables r b).there in
-      answers_sent p n (answer_of q (answer_to s right)) (one_answer p q f.1 (answer_to s right) (answer_fits p s f.2 right right_fits))
+      answers_sent p n (answer_of q s.part (answer_to s right)) (one_answer p q f.1 s.part (answer_to s right) (answer_fits p s f.2 right right_fits))
   answer_sent n r (Some (Answered q x)) f = tt
   answer_sent n r (Some (Kept k w)) f = tt
   answer_sent n r (Some (KeptCount w g)) f = tt
   answer_sent n r (Some (KeptTime t)) f = tt
   answer_sent n r (Some (KeptHash b q g)) f = tt
 
-  node_sent : (n : ℕ) (k : Kind) → kind_at p n ≡ k → AllSent p (sends_at rules a items st olds news n k)
-  node_sent n (StreamAggregate f by field through) at = sent-cond p through (regroup by n (items f))
+  node_sent : (n : ℕ) (k : Kind) → FitsKind k → kind_at p n ≡ k → AllSent p (sends_at rules a items st olds news n k)
+  node_sent n (StreamAggregate f by field through) fit at = sent-cond p through (regroup by n (items f))
       (regroup_sent p by n (λ row g. subst (λ x. is_regrouped x (spelling row) ≡ true) (sym at) (spells_row row g)) (items f) (itemly f))
-  node_sent n (Windowed f by w through) at = sent-cond p through (regroup by n (items f))
+  node_sent n (Windowed f by w through) fit at = sent-cond p through (regroup by n (items f))
       (regroup_sent p by n (λ row g. subst (λ x. is_regrouped x (spelling row) ≡ true) (sym at) (spells_row row g)) (items f) (itemly f))
-  node_sent n (TableAggregate f by field) at =
+  node_sent n (TableAggregate f by field) fit at =
       deltas_sent p n f by field at (table_parts by field (row_in olds f) (row_in news f)) (parts_fit p by field (row_in olds f) (row_in news f) (row_then f) (row_now f))
-  node_sent n (ForeignKeyJoin l r fk kind set) at = sent-append p (join_sends rules fk n l r st olds news (step_key a.item.message)) (answer_one n st r (arrived a (Subscriptions n)))
-      (join_sent fk n l r (step_key a.item.message) key_fits) (answer_sent n r (arrived a (Subscriptions n)) (here rules p a arrives in_time (Subscriptions n)))
-  node_sent n (StreamSource t) at = tt
-  node_sent n (TableSource t) at = tt
-  node_sent n (StreamFilter f x) at = tt
-  node_sent n (TableFilter f x) at = tt
-  node_sent n (StreamMap f s) at = tt
-  node_sent n (TableMap f s) at = tt
-  node_sent n (KeySelected f k) at = tt
-  node_sent n (KeyJoin l r kind s) at = tt
+  node_sent n (ForeignKeyJoin l r fk kind set) fit at = sent-append p (join_sends rules fk (a.names n) n l r st olds news (step_key a.item.message)) (answer_one n st r (arrived a (Subscriptions n)))
+      (join_sent fk fit.1 n l r (step_key a.item.message) key_fits) (answer_sent n r (arrived a (Subscriptions n)) (here rules p a arrives in_time (Subscriptions n)))
+  node_sent n (StreamSource t) fit at = tt
+  node_sent n (TableSource t) fit at = tt
+  node_sent n (StreamFilter f x) fit at = tt
+  node_sent n (TableFilter f x) fit at = tt
+  node_sent n (StreamMap f s) fit at = tt
+  node_sent n (TableMap f s) fit at = tt
+  node_sent n (KeySelected f k) fit at = tt
+  node_sent n (KeyJoin l r kind s) fit at = tt
 
-  pub all_sent : (n : ℕ) (ks : List Kind) → AtPlace rules p n ks → AllSent p (over_nodes (sends_at rules a items st olds news) n ks)
-  all_sent n [] at = tt
-  all_sent n (k ∷ ks) at = sent-append p (sends_at rules a items st olds news n k) (over_nodes (sends_at rules a items st olds news) (suc n) ks) (node_sent n k at.0) (all_sent (suc n) ks at.1)
+  pub all_sent : (n : ℕ) (ks : List Kind) → AllByRecursion FitsKind ks → AtPlace rules p n ks → AllSent p (over_nodes (sends_at rules a items st olds news) n ks)
+  all_sent n [] fit at = tt
+  all_sent n (k ∷ ks) fit at = sent-append p (sends_at rules a items st olds news n k) (over_nodes (sends_at rules a items st olds news) (suc n) ks) (node_sent n k fit.0 at.0) (all_sent (suc n) ks fit.1 at.1)
 
   node_counted : (n : ℕ) (k : Kind) → kind_at p n ≡ k → AllWritten p (write_all (Changelog n) (counted_at a items st n k).changes)
   node_counted n (Windowed f by w through) at = of_item p n (ap is_windowed at) w (st.times n) (st.counts n) (item_into a items n f through) (into_fits rules p a arrives in_time items itemly n f through) (held.times n)

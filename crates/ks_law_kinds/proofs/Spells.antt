@@ -18,9 +18,10 @@ use Rattle.ks_wire.specs.Values.{SubscriptionValue}
 use Rattle.ks_wire.specs.declared.values.Response.{Response}
 use Rattle.ks_wire.specs.declared.values.Delta.{Delta}
 use Rattle.ks_wire.specs.declared.values.Agg.{Agg}
-use Rattle.ks_wire.specs.Spelling.{hash_flag, hash_or_nothing, hash_bytes, time_bytes, subscription_bytes, row_or_nothing, response_bytes, delta_bytes, agg_bytes, long_key, subscription_key, window_key, FitsSubscription, FitsResponse, FitsDelta, FitsAgg}
-use Rattle.ks_wire.specs.Reading.{subscription_from, response_from, delta_from, agg_from, hash_from, time_from, subscription_key_from, window_key_from}
-use Rattle.ks_wire.proofs.Wired.{subscription_codec, response_codec, delta_codec, agg_codec, hash_codec, time_codec, subscription_key_codec, window_key_codec}
+use Rattle.ks_wire.specs.declared.values.Subscriber.{Subscriber}
+use Rattle.ks_wire.specs.Spelling.{hash_flag, version_of, part_or_nothing, hash_or_nothing, hash_bytes, time_bytes, subscription_bytes, subscriber_bytes, row_or_nothing, response_bytes, delta_bytes, agg_bytes, long_key, subscription_key, window_key, FitsSubscription, FitsSubscriber, FitsResponse, FitsDelta, FitsAgg}
+use Rattle.ks_wire.specs.Reading.{subscription_from, response_from, delta_from, agg_from, subscriber_from, time_from, subscription_key_from, window_key_from}
+use Rattle.ks_wire.proofs.Wired.{subscription_codec, response_codec, delta_codec, agg_codec, subscriber_codec, time_codec, subscription_key_codec, window_key_codec}
 use Rattle.ks_law_kinds.specs.OfKind.{are_bytes, spells}
 
 pub are_bytes-append : (xs ys : List ℕ) → are_bytes xs ≡ true → are_bytes ys ≡ true → are_bytes (xs ++ ys) ≡ true
@@ -114,9 +115,19 @@ pub spells_row : (row : List Member) → FitsRow row → spells row_from (spelli
 spells_row row h = spelled row_from (spelling row) row (row_bytes row h) (row_codec.again row h)
 
 -- ---- messages and stored values
-flag : (h : Option ℕ) → hash_flag h < 256
-flag None = omega arith
-flag (Some h) = omega arith
+flag : (h part : Option ℕ) → hash_flag h + version_of part < 256
+flag None None = omega arith
+flag None (Some i) = omega arith
+flag (Some h) None = omega arith
+flag (Some h) (Some i) = omega arith
+
+no_version : (h : Option ℕ) → hash_flag h < 256
+no_version None = omega arith
+no_version (Some h) = omega arith
+
+part_or : (part : Option ℕ) → are_bytes (part_or_nothing part) ≡ true
+part_or None = refl
+part_or (Some i) = number_bytes w32 i
 
 hash_or : (h : Option ℕ) → are_bytes (hash_or_nothing h) ≡ true
 hash_or None = refl
@@ -128,15 +139,16 @@ row_or (Some row) h = row_bytes row h
 
 subscription_are : (s : SubscriptionValue) → FitsSubscription s → are_bytes (subscription_bytes s) ≡ true
 unfolding subscription_bytes
-subscription_are s h = one_byte (hash_flag s.hash) (s.instruction ∷ (hash_or_nothing s.hash ++ s.left)) (flag s.hash) (one_byte s.instruction (hash_or_nothing s.hash ++ s.left) (omega (arith, h.instruction))
-    (are_bytes-append (hash_or_nothing s.hash) s.left (hash_or s.hash) (utf8_bytes s.left h.left.utf8)))
+subscription_are s h = one_byte (hash_flag s.hash + version_of s.part) (s.instruction ∷ (hash_or_nothing s.hash ++ s.left ++ part_or_nothing s.part)) (flag s.hash s.part)
+    (one_byte s.instruction (hash_or_nothing s.hash ++ s.left ++ part_or_nothing s.part) (omega (arith, h.instruction))
+    (are_bytes-append (hash_or_nothing s.hash ++ s.left) (part_or_nothing s.part) (are_bytes-append (hash_or_nothing s.hash) s.left (hash_or s.hash) (utf8_bytes s.left h.left.utf8)) (part_or s.part)))
 
 pub spells_subscription : (s : SubscriptionValue) → FitsSubscription s → spells subscription_from (subscription_bytes s) ≡ true
 spells_subscription s h = spelled subscription_from (subscription_bytes s) s (subscription_are s h) (subscription_codec.again s h)
 
 response_are : (r : Response) → FitsResponse r → are_bytes (response_bytes r) ≡ true
 unfolding response_bytes
-response_are r h = one_byte (hash_flag r.hash) (hash_or_nothing r.hash ++ row_or_nothing r.right) (flag r.hash) (are_bytes-append (hash_or_nothing r.hash) (row_or_nothing r.right) (hash_or r.hash) (row_or r.right h.right))
+response_are r h = one_byte (hash_flag r.hash) (hash_or_nothing r.hash ++ row_or_nothing r.right) (no_version r.hash) (are_bytes-append (hash_or_nothing r.hash) (row_or_nothing r.right) (hash_or r.hash) (row_or r.right h.right))
 
 pub spells_response : (r : Response) → FitsResponse r → spells response_from (response_bytes r) ≡ true
 spells_response r h = spelled response_from (response_bytes r) r (response_are r h) (response_codec.again r h)
@@ -159,8 +171,12 @@ agg_are a = are_bytes-append (int_bytes a.members) (int_bytes a.total) (number_b
 pub spells_agg : (a : Agg) → FitsAgg a → spells agg_from (agg_bytes a) ≡ true
 spells_agg a h = spelled agg_from (agg_bytes a) a (agg_are a) (agg_codec.again a h)
 
-pub spells_hash : (h : ℕ) → h < 2 ^ 128 → spells hash_from (hash_bytes h) ≡ true
-spells_hash h lt = spelled hash_from (hash_bytes h) h (number_bytes w128 h) (hash_codec.again h lt)
+subscriber_are : (s : Subscriber) → are_bytes (subscriber_bytes s) ≡ true
+unfolding subscriber_bytes
+subscriber_are s = are_bytes-append (hash_bytes s.hash) (part_or_nothing s.part) (number_bytes w128 s.hash) (part_or s.part)
+
+pub spells_subscriber : (s : Subscriber) → FitsSubscriber s → spells subscriber_from (subscriber_bytes s) ≡ true
+spells_subscriber s h = spelled subscriber_from (subscriber_bytes s) s (subscriber_are s) (subscriber_codec.again s h)
 
 pub spells_time : (t : ℕ) → t < 2 ^ 64 → spells time_from (time_bytes t) ≡ true
 spells_time t lt = spelled time_from (time_bytes t) t (number_bytes w64 t) (time_codec.again t lt)

@@ -13,9 +13,10 @@ use Rattle.ks_row.specs.Reading.{◌>>=◌, row_from}
 use Rattle.ks_row.proofs.Fields.{some_is}
 use Rattle.ks_row.proofs.Spelled.{row_codec}
 use Rattle.ks_wire.specs.declared.values.Agg.{Agg}
-use Rattle.ks_wire.specs.Spelling.{FitsAgg, time_key}
-use Rattle.ks_wire.specs.Reading.{agg_from, hash_from, time_from, subscription_key_from, window_key_from}
-use Rattle.ks_wire.proofs.Wired.{agg_codec, hash_codec, time_codec, subscription_key_codec}
+use Rattle.ks_wire.specs.declared.values.Subscriber.{Subscriber}
+use Rattle.ks_wire.specs.Spelling.{FitsAgg, FitsSubscriber, time_key}
+use Rattle.ks_wire.specs.Reading.{agg_from, subscriber_from, time_from, subscription_key_from, window_key_from}
+use Rattle.ks_wire.proofs.Wired.{agg_codec, subscriber_codec, time_codec, subscription_key_codec}
 use Rattle.ks_expr.specs.Eval.{Row, same_bytes}
 use Rattle.ks_plan.specs.Plan.{Plan, Kind, is_windowed}
 use Rattle.ks_plan.specs.Plan.Kind.{StreamSource, TableSource, StreamFilter, TableFilter, StreamMap, TableMap, KeySelected, StreamAggregate, TableAggregate, Windowed, KeyJoin, ForeignKeyJoin}
@@ -35,7 +36,7 @@ use Rattle.ks_law_topology.specs.Spelled.{IfThere}
 use Rattle.ks_law_kinds.specs.OfKind.{are_bytes, spells, is_stored, is_counted, is_kept, is_of_topic}
 use Rattle.ks_law_kinds.specs.Fitting.{are_pairs_of, is_pair_of}
 use Rattle.ks_law_kinds.proofs.Spells.{IsBytes-of, spells_row, spells_agg}
-use Rattle.ks_law_kinds.proofs.Every.{Every, Gives, every_read, every_get}
+use Rattle.ks_law_topology.proofs.Every.{Every, Gives, every_read, every_get}
 
 pub bytes_anti : IsAntisymmetric by_bytes
 bytes_anti = slice_cmp-IsAntisymmetric nat_cmp-IsAntisymmetric
@@ -110,7 +111,7 @@ read_stored (ForeignKeyJoin l r fk kind s) bytes w h e = fit (read_row bytes w h
 pub record StoreFits (p : Plan) (st : Store) : Type 0 where
   pub tables : (n : ℕ) (k : Key) → ValueFits (kind_at p n) (fin.get (st.tables n) k)
   pub times : (n : ℕ) → IfThere (λ t. t < 2 ^ 64) (st.times n)
-  pub hashes : (n : ℕ) (b : Key) → Every (λ k h. IsKey k × (h < 2 ^ 128)) (fin.entries (st.hashes n b))
+  pub hashes : (n : ℕ) (b : Key) → Every (λ k s. IsKey k × FitsSubscriber s) (fin.entries (st.hashes n b))
 
 module _ (p : Plan) where
   abbrev AllPairs : Topic → List (List ℕ × List ℕ) → Type 0
@@ -190,26 +191,26 @@ module _ (p : Plan) where
         by false e = tt
 
     -- hashes
-    read_hash : (b k v : List ℕ) (left : Key) (h : ℕ) → is_of_topic p (HashChangelog 0) (Some k) (Some v) ≡ true → left_at b (subscription_key_from k) ≡ Some left → hash_from v ≡ Some h → IsKey left × (h < 2 ^ 128)
-    read_hash b k v left h is e f =
-        let a = and_parts (spells subscription_key_from k) (spells hash_from v) is in
-        (by (subscription_key_from k) refl e, (hash_codec.back v h (bytes_in hash_from v a.1) f).0)
+    read_subscriber : (b k v : List ℕ) (left : Key) (s : Subscriber) → is_of_topic p (HashChangelog 0) (Some k) (Some v) ≡ true → left_at b (subscription_key_from k) ≡ Some left → subscriber_from v ≡ Some s → IsKey left × FitsSubscriber s
+    read_subscriber b k v left s is e f =
+        let a = and_parts (spells subscription_key_from k) (spells subscriber_from v) is in
+        (by (subscription_key_from k) refl e, (subscriber_codec.back v s (bytes_in subscriber_from v a.1) f).0)
       where
         by : (o : Option (Key × Key)) → subscription_key_from k ≡ o → left_at b o ≡ Some left → IsKey left
         by None g i = absurd cc
         by (Some x) g i = at (same_bytes b x.0) i
           where
             at : (c : Bool) → cond c (Some x.1) None ≡ Some left → IsKey left
-            at true j = subst IsKey (some_is x.1 left j) (subscription_key_codec.back k x (bytes_in subscription_key_from k (and_parts (spells subscription_key_from k) (spells hash_from v) is).0) g).0.1
+            at true j = subst IsKey (some_is x.1 left j) (subscription_key_codec.back k x (bytes_in subscription_key_from k (and_parts (spells subscription_key_from k) (spells subscriber_from v) is).0) g).0.1
             at false j = absurd cc
 
     hash_pairs : (n : ℕ) (b : Key) (es : List (List ℕ × List ℕ)) → AllPairs (HashChangelog n) es →
-        Gives (λ k h. IsKey k × (h < 2 ^ 128)) by_bytes nat_list_cmp_total bytes_anti (λ k. left_at b (subscription_key_from k)) hash_from es
+        Gives (λ k s. IsKey k × FitsSubscriber s) by_bytes nat_list_cmp_total bytes_anti (λ k. left_at b (subscription_key_from k)) subscriber_from es
     hash_pairs n b [] h = tt
-    hash_pairs n b (e ∷ es) h = (λ k x f g. read_hash b e.0 e.1 k x h.0 f g, hash_pairs n b es h.1)
+    hash_pairs n b (e ∷ es) h = (λ k x f g. read_subscriber b e.0 e.1 k x h.0 f g, hash_pairs n b es h.1)
 
-    hashes_fit : (n : ℕ) (b : Key) → Every (λ k h. IsKey k × (h < 2 ^ 128)) (fin.entries (hashes_from p sub stores n b))
-    hashes_fit n b = every_read (λ k h. IsKey k × (h < 2 ^ 128)) by_bytes nat_list_cmp_total bytes_anti (λ k. left_at b (subscription_key_from k)) hash_from
+    hashes_fit : (n : ℕ) (b : Key) → Every (λ k s. IsKey k × FitsSubscriber s) (fin.entries (hashes_from p sub stores n b))
+    hashes_fit n b = every_read (λ k s. IsKey k × FitsSubscriber s) by_bytes nat_list_cmp_total bytes_anti (λ k. left_at b (subscription_key_from k)) subscriber_from
         (pairs_of p sub stores (HashChangelog n)) (hash_pairs n b (pairs_of p sub stores (HashChangelog n)) (own_pairs (HashChangelog n)))
 
     pub store_fits : StoreFits p (store_from p sub stores)

@@ -11,6 +11,7 @@ use Rattle.ks_wire.specs.Spelling.{FitsAgg}
 use Rattle.ks_expr.specs.declared.terms.JoinKind.{JoinKind}
 use Rattle.ks_expr.specs.Terms.{Set, Test}
 use Rattle.ks_expr.specs.Eval.{Row, holds, project, joined}
+use Rattle.ks_expr.specs.declared.terms.Fk.{Fk}
 use Rattle.ks_plan.specs.Plan.{Plan, Kind, is_windowed}
 use Rattle.ks_plan.specs.Plan.Kind.{StreamSource, TableSource, StreamFilter, TableFilter, StreamMap, TableMap, KeySelected, StreamAggregate, TableAggregate, Windowed, KeyJoin, ForeignKeyJoin}
 use Rattle.ks_plan.specs.declared.node.Topic.{Topic}
@@ -23,7 +24,7 @@ use Rattle.ks_def_tasks.specs.Messages.{Stored, shown, agg_of, Message, Rules}
 use Rattle.ks_def_tasks.specs.Messages.Stored.{OfRow, OfAgg}
 use Rattle.ks_def_tasks.specs.Messages.Message.{Given, Keyed, Moved, Asked, Answered, Kept, KeptCount, KeptTime, KeptHash}
 use Rattle.ks_def_tasks.specs.Foreign.{is_direct, direct_row, is_present}
-use Rattle.ks_def_tasks.specs.Step.{Arrival, Values, arrived, item_given, item_keyed, item_at, items_from, item_into, row_in, changed, of_row, kept_row, taken_row, added, applied, direct, set_result, responded, value_at, values_from, news_at}
+use Rattle.ks_def_tasks.specs.Step.{Arrival, Values, step_key, arrived, item_given, item_keyed, item_at, items_from, item_into, row_in, changed, of_row, kept_row, taken_row, added, applied, direct, set_result, responded, value_at, values_from, news_at}
 use Rattle.ks_law_topology.specs.Spelled.{IfThere, FitsSet}
 use Rattle.ks_law_topology.proofs.Rows.{project_fits, joined_fits, field_key_fits, stream_fits, apply_fits}
 use Rattle.ks_law_topology.proofs.Placing.{AtPlace, at_places}
@@ -169,7 +170,7 @@ module _ (rules : Rules) (p : Plan) (a : Arrival) (arrives : MessageFits a.item.
   one_applied f by field old h (Some (KeptTime u)) = h
   one_applied f by field old h (Some (KeptHash b q g)) = h
 
-  module _ (l r : ℕ) (fk : List ℕ) (kind : JoinKind) (set : Set) (f : FitsSet set) where
+  module _ (l r : ℕ) (fk : Fk) (kind : JoinKind) (set : Set) (f : FitsSet set) where
     abbrev this : Kind
     this = ForeignKeyJoin l r fk kind set
 
@@ -177,8 +178,9 @@ module _ (rules : Rules) (p : Plan) (a : Arrival) (arrives : MessageFits a.item.
     of_direct None h = tt
     of_direct (Some v) h = joined_fits kind set (Some v) None f h tt
 
-    directly : (old new : Option Row) (result : Option Stored) → IfThere FitsRow new → ValueFits this result → ValueFits this (direct fk kind set old new result)
-    directly old new result h g = either (is_direct fk old new) (of_row (direct_row kind set new)) result (a_value refl (λ row g. fit (a_row row g)) (direct_row kind set new) (of_direct new h)) g
+    directly : (key : Option Key) (old new : Option Row) (result : Option Stored) → IfThere FitsRow new → ValueFits this result → ValueFits this (direct fk key kind set old new result)
+    directly None old new result h g = g
+    directly (Some k) old new result h g = either (is_direct fk k old new) (of_row (direct_row kind set new)) result (a_value refl (λ row g. fit (a_row row g)) (direct_row kind set new) (of_direct new h)) g
 
     set_to : (b : Bool) (row : Option Row) (result : Option Stored) → IfThere FitsRow row → ValueFits this result → ValueFits this (set_result (cond b (Some row) None) result)
     set_to true row result h g = a_value refl (λ row g. fit (a_row row g)) row h
@@ -211,9 +213,9 @@ module _ (rules : Rules) (p : Plan) (a : Arrival) (arrives : MessageFits a.item.
     value_fits news h n (KeyJoin l r kind set) f o = either (changed olds news l || changed olds news r) (of_row (joined kind set (row_in news l) (row_in news r))) (olds n)
         (a_value refl (λ row g. fit (a_row row g)) (joined kind set (row_in news l) (row_in news r)) (joined_fits kind set (row_in news l) (row_in news r) f (row_fits news h l) (row_fits news h r))) o
     value_fits news h n (ForeignKeyJoin l r fk kind set) f o =
-        either (changed olds news l) (direct fk kind set (row_in olds l) (row_in news l) (olds n)) (responded rules kind set (row_in news l) (arrived a (Responses n)) (olds n))
-        (directly l r fk kind set f (row_in olds l) (row_in news l) (olds n) (row_fits news h l) o)
-        (by_response l r fk kind set f (row_in news l) (row_fits news h l) (arrived a (Responses n)) (here (Responses n)) (olds n) o)
+        either (changed olds news l) (direct fk (step_key a.item.message) kind set (row_in olds l) (row_in news l) (olds n)) (responded rules kind set (row_in news l) (arrived a (Responses n)) (olds n))
+        (directly l r fk kind set f.0 (step_key a.item.message) (row_in olds l) (row_in news l) (olds n) (row_fits news h l) o)
+        (by_response l r fk kind set f.0 (row_in news l) (row_fits news h l) (arrived a (Responses n)) (here (Responses n)) (olds n) o)
     value_fits news h n (StreamSource t) f o = o
     value_fits news h n (StreamFilter i x) f o = o
     value_fits news h n (StreamMap i s) f o = o

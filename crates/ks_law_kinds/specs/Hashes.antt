@@ -4,7 +4,7 @@ use Rattle.ks_row.specs.Spelling.{spelling}
 use Rattle.ks_hash.specs.Murmur3.{murmur3_of}
 use Rattle.ks_expr.specs.Eval.{Row}
 use Rattle.ks_def_tasks.specs.Messages.{Rules}
-use Rattle.ks_law_kinds.specs.Fitting.{FitsRules}
+use Rattle.ks_law_topology.specs.Work.{FitsRules}
 
 -- rules that hash a row's bytes by MurmurHash3 have hashes of 128 bits
 abbrev pub MurmurFits : Type 0

@@ -6,7 +6,7 @@ use Rattle.ks_row.specs.declared.record.Rec.{Rec}
 use Rattle.ks_row.specs.declared.record.PartId.{PartId}
 use Rattle.ks_row.specs.Texts.{key_from}
 use Rattle.ks_row.specs.Reading.{row_from}
-use Rattle.ks_wire.specs.Reading.{subscription_from, response_from, delta_from, agg_from, hash_from, time_from, subscription_key_from, window_key_from}
+use Rattle.ks_wire.specs.Reading.{subscription_from, response_from, delta_from, agg_from, subscriber_from, time_from, subscription_key_from, window_key_from}
 use Rattle.ks_wire.specs.Spelling.{time_key}
 use Rattle.ks_expr.specs.Eval.{same_bytes}
 use Rattle.ks_plan.specs.Plan.{Plan, Kind, is_windowed}
@@ -68,8 +68,8 @@ is_of_topic p (Subscriptions n) key value = has (spells key_from) key && has (sp
 -- a left key
 is_of_topic p (Responses n) key value = has (spells key_from) key && has (spells response_from) value
 is_of_topic p (Changelog n) key value = is_kept (kind_at p n) key value
--- a foreign key and a left key, with a hash, or none for a deletion
-is_of_topic p (HashChangelog n) key value = has (spells subscription_key_from) key && may_have (spells hash_from) value
+-- a foreign key and a left key, with a subscriber, or none for a deletion
+is_of_topic p (HashChangelog n) key value = has (spells subscription_key_from) key && may_have (spells subscriber_from) value
 
 -- of a topic beyond those of the plan nothing is asked
 abbrev pub is_of : Plan → Option Topic → Option (List ℕ) → Option (List ℕ) → Bool

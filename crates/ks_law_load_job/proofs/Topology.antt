@@ -11,7 +11,9 @@ use Rattle.serde_json.proofs.Numbers.{number_of-decimal}
 use Rattle.ks_job_record.specs.Members.{object_of, is_member, text_of, member_of, integer_from}
 use Rattle.ks_job_topology.specs.Exprs.{limited, leaf_from}
 use Rattle.ks_job_topology.specs.Nodes.{nodes_of, node_from, op_from, kind_of, node_name_from, blob_from, name_from, count_from, sum_from, by_from, fk_join_from, join_kind_from, set_of, entry_from, body_from}
-use Rattle.ks_job_topology.specs.Topology.{topology_from, app_from, label_from, topics_of, topic_from, parts_from, print_of}
+use Rattle.ks_job_topology.specs.Topology.{topology_from, app_from, label_from, topics_of, topic_from, print_of}
+use Rattle.ks_job_topology.specs.Stated.{parts_from, plain_from, spread_from}
+use Rattle.ks_job_topology.specs.Foreign.{fk_in, fk_from}
 use Rattle.ks_law_load_job.specs.Items.{load_draft}
 use Rattle.ks_law_load_job.proofs.Clean.{clean}
 use Rattle.ks_law_load_job.proofs.Trees.{read_printed}
@@ -105,7 +107,7 @@ topology_read = ap read (sym written) ∙ read_printed topology_tree topology_da
 
 -- ---- what it says
 pub topology_said : topology_from topology_data ≡ Ok load_draft
-unfolding topology_from object_of is_member app_from text_of member_of label_from topics_of topic_from parts_from integer_from nodes_of node_from op_from kind_of node_name_from blob_from name_from count_from sum_from by_from fk_join_from join_kind_from set_of entry_from limited leaf_from print_of body_from
+unfolding topology_from object_of is_member app_from text_of member_of label_from topics_of topic_from spread_from plain_from parts_from integer_from nodes_of node_from op_from kind_of node_name_from blob_from name_from count_from sum_from by_from fk_join_from fk_from fk_in join_kind_from set_of entry_from limited leaf_from print_of body_from
 topology_said = refl
 
 pub topology_clean : clean topology_line ≡ true

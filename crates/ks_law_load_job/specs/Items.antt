@@ -1,12 +1,14 @@
 -- What the load job says: its topology, and its records as the items of a job.
-use Rattle.std.specs.Prelude.{◌≡◌, ℕ, ℤ, pos, List, [], ◌∷◌, ◌++◌, map, Option, Some, None, codes, decimal}
+use Rattle.std.specs.Prelude.{◌≡◌, ℕ, pos, List, [], ◌∷◌, ◌++◌, map, Option, Some, None, codes, decimal}
 use Rattle.ks_row.specs.Rows.{Member}
 use Rattle.ks_row.specs.Spelling.{spelling}
 use Rattle.ks_row.specs.declared.record.Rec.{Rec}
 use Rattle.ks_row.specs.declared.row.Field.TheVariants.{Int, Text}
 use Rattle.ks_expr.specs.declared.terms.JoinKind.TheVariants.{Inner}
+use Rattle.ks_expr.specs.declared.terms.Fk.TheVariants.{Field}
 use Rattle.ks_expr.specs.Terms.Term.{LeftOf, RightOf}
-use Rattle.ks_plan.specs.Drafts.{Name, OpView, NodeView, DraftView, TableOf, CountOf, SumOf, FkJoinOf}
+use Rattle.ks_plan.specs.declared.draft.TopicDraft.{TopicDraft}
+use Rattle.ks_plan.specs.Drafts.{Topics, OpView, NodeView, DraftView, TableOf, CountOf, SumOf, FkJoinOf}
 use Rattle.ks_words.specs.declared.load.LoadRecord.{LoadRecord}
 use Rattle.ks_words.specs.declared.load.LoadRecord.TheVariants.{Order, Deletion, Customer}
 use Rattle.ks_words.specs.Load.{load_records}
@@ -15,14 +17,17 @@ use Rattle.ks_job.specs.Reader.{Machine}
 use Rattle.ks_job.specs.Phases.{IsReading}
 
 -- ---- the topology: orders and their customers, joined on the foreign key, and the orders' amounts and number by region
-abbrev pub load_topics : List (Name × ℤ)
-load_topics = (codes "customers", pos 4) ∷ (codes "orders", pos 8) ∷ []
+abbrev pub plain : ℕ → TopicDraft
+plain n = record { parts = pos n; before = None }
+
+abbrev pub load_topics : Topics
+load_topics = (codes "customers", plain 4) ∷ (codes "orders", plain 8) ∷ []
 
 abbrev pub node : List ℕ → OpView → NodeView
 node name op = record { name = name; op = op }
 
 abbrev pub joined : OpView
-joined = FkJoinOf (codes "o") (codes "c") (codes "cust") Inner ((codes "amt", LeftOf (codes "amt")) ∷ (codes "region", RightOf (codes "region")) ∷ [])
+joined = FkJoinOf (codes "o") (codes "c") (Field (codes "cust")) Inner ((codes "amt", LeftOf (codes "amt")) ∷ (codes "region", RightOf (codes "region")) ∷ [])
 
 abbrev pub load_nodes : List NodeView
 load_nodes =

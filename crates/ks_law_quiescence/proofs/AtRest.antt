@@ -10,6 +10,7 @@ use Rattle.ks_row.specs.Parts.{same_task}
 use Rattle.ks_expr.specs.declared.terms.JoinKind.{JoinKind}
 use Rattle.ks_expr.specs.Terms.{Set, Test}
 use Rattle.ks_expr.specs.Eval.{Row, holds, project, joined}
+use Rattle.ks_plan.specs.declared.node.Spread.{Spread}
 use Rattle.ks_plan.specs.Plan.{Plan}
 use Rattle.ks_plan.specs.Plan.Kind.{TableSource, TableFilter, TableMap, KeyJoin}
 use Rattle.ks_def_runs.specs.FinMap as fin
@@ -59,7 +60,7 @@ module _ (rules : Rules) (p : Plan) (fits : Fits p) (records : List Input) (sche
   at_home n h k = h (home_task rules p n k) k ∙ ap (λ b. cond b (fin.get ((query p records).tables n) k) None) ((same_task-is (home_task rules p n k) (home_task rules p n k)).1 refl)
 
   beside_home : (f n : ℕ) → Beside p f n → (k : Key) → home_task rules p f k ≡ home_task rules p n k
-  beside_home f n b k = ap₂ (λ (s i : ℕ). record { sub = s; part = rules.part k i }) b.sub b.parts
+  beside_home f n b k = ap₂ (λ (s : ℕ) (i : Spread). record { sub = s; part = rules.part k i }) b.sub b.spread
 
   -- a row of an input, at the task that keeps the node's key
   beside_row : (f n : ℕ) → Beside p f n → IsQuery rules p records st f → (k : Key) → row_at st (home_task rules p n k) f k ≡ fin.get ((query p records).tables f) k

@@ -1,13 +1,14 @@
 -- What the laws need of each node of a plan: its inputs stand before it, and those that share its tasks have its subtopology
 -- and its partitions.
-use Rattle.std.proofs.Common.{get_or, Bool, Option, None, ◌≡◌, ℕ, zero, suc, ◌+◌, ◌<◌, true, false, cond, ◌||◌, List, length, [], ◌∷◌, ◌++◌, map, slice_get, Some, fold, refl, sym, ap, subst, ◌∙◌, arith, append_assoc, length-append, nat_eq, inl, inr, ⊎_elim}
+use Rattle.std.proofs.Common.{get_or, Bool, Option, None, ◌≡◌, ℕ, zero, suc, ◌+◌, ◌<◌, true, false, cond, ◌||◌, List, length, [], ◌∷◌, ◌++◌, map, slice_get, Some, fold, refl, sym, ap, ap₂, subst, ◌∙◌, arith, append_assoc, length-append, nat_eq, inl, inr, ⊎_elim}
 use Rattle.std.specs.Prelude.{min, max}
 use Rattle.std.proofs.lemmas.Bool.Decides.{Decides-eqb}
 use Rattle.std.proofs.lemmas.Bool.{eqb-false}
 use Rattle.std.proofs.lemmas.List.Sums.{fold-append}
 use Rattle.ks_plan.specs.Plan.{Plan, Kind, wiring_of}
 use Rattle.ks_plan.specs.Plan.Kind.{StreamSource, TableSource, StreamFilter, TableFilter, StreamMap, TableMap, KeySelected, StreamAggregate, TableAggregate, Windowed, KeyJoin, ForeignKeyJoin}
-use Rattle.ks_plan.specs.Layout.{at, relabel, join_labels, label_next, labels, firsts, sub_of, wired_parts, parts_of, is_source_of, any_source_of, is_read, first_source_of, source_of}
+use Rattle.ks_plan.specs.declared.node.Topic.TheVariants.{Input as InputTopic}
+use Rattle.ks_plan.specs.Layout.{at, origin_at, wired_origin, with_origin, node_origins, stated_for, before_of, spread_of, spread_of_topic, relabel, join_labels, label_next, labels, firsts, sub_of, wired_parts, parts_of, is_source_of, any_source_of, is_read, first_source_of, source_of}
 use Rattle.ks_law_quiescence.proofs.Mixed.{Stands_at}
 
 abbrev parts_next : Plan → List ℕ → Kind → List ℕ
@@ -18,12 +19,14 @@ pub record Beside (p : Plan) (f n : ℕ) : Type 0 where
   pub before : f < n
   pub sub : sub_of p f ≡ sub_of p n
   pub parts : parts_of p f ≡ parts_of p n
+  pub spread : spread_of p f ≡ spread_of p n
 
 -- the source n reads its topic alone
 pub record Sourced (p : Plan) (t n : ℕ) : Type 0 where
   pub read : is_read p t ≡ true
   pub sub : sub_of p (source_of p t) ≡ sub_of p n
   pub parts : at p.counts t ≡ parts_of p n
+  pub spread : spread_of_topic p (InputTopic t) ≡ spread_of p n
 
 -- ---- streams whose items have the keys of their records
 abbrev pub own_next : List Bool → Kind → List Bool
@@ -78,6 +81,27 @@ at_map f (x ∷ xs) (suc n) lt = at_map f xs n (omega arith)
 length_map : {A B : Type 0} (f : A → B) (xs : List A) → length (map f xs) ≡ length xs
 length_map f [] = refl
 length_map f (x ∷ xs) = ap (λ n. suc n) (length_map f xs)
+
+-- ---- origins: each kind adds one
+abbrev origin_next : List (Option ℕ) → Kind → List (Option ℕ)
+origin_next os k = with_origin os (wiring_of k)
+
+origin_before : (xs ys : List (Option ℕ)) (n : ℕ) → n < length xs → origin_at (xs ++ ys) n ≡ origin_at xs n
+origin_before [] ys n lt = absurd (omega arith)
+origin_before (x ∷ xs) ys zero lt = refl
+origin_before (x ∷ xs) ys (suc n) lt = origin_before xs ys n (omega arith)
+
+origin_end : (xs : List (Option ℕ)) (x : Option ℕ) (ys : List (Option ℕ)) → origin_at (xs ++ x ∷ ys) (length xs) ≡ x
+origin_end [] x ys = refl
+origin_end (y ∷ xs) x ys = origin_end xs x ys
+
+origins_count : (os : List (Option ℕ)) (ks : List Kind) → length (fold origin_next os ks) ≡ length os + length ks
+origins_count os [] = omega arith
+origins_count os (k ∷ ks) = omega (arith, origins_count (origin_next os k) ks, length-append os (wired_origin os (wiring_of k) ∷ []))
+
+origins_stay : (os : List (Option ℕ)) (ks : List Kind) (f : ℕ) → f < length os → origin_at (fold origin_next os ks) f ≡ origin_at os f
+origins_stay os [] f lt = refl
+origins_stay os (k ∷ ks) f lt = origins_stay (origin_next os k) ks f (omega (arith, length-append os (wired_origin os (wiring_of k) ∷ []))) ∙ origin_before os (wired_origin os (wiring_of k) ∷ []) f lt
 
 -- ---- labels: each kind adds one, and nodes with one label keep one label
 pub one_more : (xs : List ℕ) (x : ℕ) → length (xs ++ x ∷ []) ≡ suc (length xs)
@@ -197,7 +221,9 @@ NodeShape p before (KeySelected f k) = Before before f
 NodeShape p before (StreamAggregate f by field through) = Before before f × (through ≡ false → GroupsByKey (own_keys before) f by)
 NodeShape p before (TableAggregate f by field) = Before before f
 NodeShape p before (Windowed f by w through) = Before before f × (through ≡ false → GroupsByKey (own_keys before) f by) × (0 < w.advance)
-NodeShape p before (KeyJoin l r kind s) = Before before l × Before before r × (at (fold (parts_next p) [] before) l ≡ at (fold (parts_next p) [] before) r)
+NodeShape p before (KeyJoin l r kind s) =
+    Before before l × Before before r × (at (fold (parts_next p) [] before) l ≡ at (fold (parts_next p) [] before) r)
+    × (stated_for p.befores (origin_at (node_origins before) l) ≡ stated_for p.befores (origin_at (node_origins before) r))
 NodeShape p before (ForeignKeyJoin l r fk kind s) = Before before l × Before before r
 
 abbrev pub EachShape : Plan → List Kind → List Kind → Type 0
@@ -324,23 +350,49 @@ module _ (p : Plan) where
         parts_are (length before) ∙ parts_stay (parts_next p cs k) rest (length before) (omega (arith, parts_count cs k))
         ∙ ap (λ l. at l (length before)) e ∙ ap (at (cs ++ c ∷ [])) (sym m) ∙ at_end cs c []
 
+    abbrev os : List (Option ℕ)
+    os = node_origins before
+
+    origins_are : (n : ℕ) → origin_at (node_origins p.kinds) n ≡ origin_at (fold origin_next (origin_next os k) rest) n
+    origins_are n = ap (λ l. origin_at l n) (ap (fold origin_next []) all ∙ fold-append origin_next [] before (k ∷ rest))
+
+    stated_before : (f : ℕ) → f < length before → before_of p f ≡ stated_for p.befores (origin_at os f)
+    stated_before f lt =
+        let n : length os ≡ 0 + length before = origins_count [] before in
+        ap (stated_for p.befores) (origins_are f ∙ origins_stay (origin_next os k) rest f (omega (arith, length-append os (wired_origin os (wiring_of k) ∷ []))) ∙ origin_before os (wired_origin os (wiring_of k) ∷ []) f (omega arith))
+
+    stated_here : before_of p (length before) ≡ stated_for p.befores (wired_origin os (wiring_of k))
+    stated_here =
+        let n : length os ≡ 0 + length before = origins_count [] before in
+        let m : length os ≡ length before = omega arith in
+        ap (stated_for p.befores) (origins_are (length before) ∙ origins_stay (origin_next os k) rest (length before) (omega (arith, length-append os (wired_origin os (wiring_of k) ∷ [])))
+        ∙ ap (origin_at (os ++ wired_origin os (wiring_of k) ∷ [])) (sym m) ∙ origin_end os (wired_origin os (wiring_of k)) [])
+
+    -- where the keys of no input topic are its own they are spread as a whole
+    pub plain_here : wired_origin os (wiring_of k) ≡ None → before_of p (length before) ≡ None
+    plain_here o = stated_here ∙ ap (stated_for p.befores) o
+
     count_is : length ls ≡ length before
     count_is = let n : length ls ≡ 0 + length before = labels_count [] before in omega arith
 
-    beside : (f : ℕ) → f < length before → Linked (label_next ls k) f (length ls) → parts_next p cs k ≡ cs ++ at cs f ∷ [] → Beside p f (length before)
-    beside f lt h e = record {
-      before = lt;
-      sub = same_sub f (subst (Linked (label_next ls k) f) count_is h);
-      parts = part_before f lt ∙ sym (part_here (at cs f) e);
-    }
+    beside : (f : ℕ) → f < length before → Linked (label_next ls k) f (length ls) → parts_next p cs k ≡ cs ++ at cs f ∷ [] → stated_for p.befores (wired_origin os (wiring_of k)) ≡ stated_for p.befores (origin_at os f) → Beside p f (length before)
+    beside f lt h e o =
+        let parts = part_before f lt ∙ sym (part_here (at cs f) e) in
+        record {
+          before = lt;
+          sub = same_sub f (subst (Linked (label_next ls k) f) count_is h);
+          parts = parts;
+          spread = ap₂ (λ n b. record { parts = n; before = b }) parts (stated_before f lt ∙ sym (stated_here ∙ o));
+        }
 
-    sourced : (t : ℕ) → any_source_of t before ≡ false → is_source_of t k ≡ true → parts_next p cs k ≡ cs ++ at p.counts t ∷ [] → Sourced p t (length before)
-    sourced t none is e = record {
+    sourced : (t : ℕ) → any_source_of t before ≡ false → is_source_of t k ≡ true → parts_next p cs k ≡ cs ++ at p.counts t ∷ [] → wired_origin os (wiring_of k) ≡ Some t → Sourced p t (length before)
+    sourced t none is e o = record {
       read = ap (any_source_of t) all ∙ sources_append t before k rest is;
       sub =
           let n : 0 + length before ≡ length before = omega arith in
           ap (sub_of p) (ap (first_source_of t 0) all ∙ first_source t 0 before k rest none is ∙ n);
       parts = sym (part_here (at p.counts t) e);
+      spread = ap₂ (λ n b. record { parts = n; before = b }) (sym (part_here (at p.counts t) e)) (sym (stated_here ∙ ap (stated_for p.befores) o));
     }
 
     within : (f : ℕ) → f < length before → f < length ls
@@ -360,29 +412,44 @@ module _ (p : Plan) where
       (h.0, ap (λ l. get_or (own_keys l) f false) all ∙ ap (λ bs. get_or bs f false) (fold-append own_next [] before (k ∷ rest)) ∙ own_stay (own_keys before) (k ∷ rest) f (omega arith) ∙ h.1)
 
   node_fits : (before : List Kind) (k : Kind) (rest : List Kind) → p.kinds ≡ before ++ k ∷ rest → NodeShape p before k → NodeFits p (length before) k
-  node_fits before (StreamSource t) rest all h = sourced before (StreamSource t) rest all t h ((Decides-eqb t t).1 refl) refl
-  node_fits before (TableSource t) rest all h = sourced before (TableSource t) rest all t h ((Decides-eqb t t).1 refl) refl
-  node_fits before (StreamFilter f x) rest all h = beside before (StreamFilter f x) rest all f h (linked_new _ f (within before (StreamFilter f x) rest all f h)) refl
-  node_fits before (TableFilter f x) rest all h = beside before (TableFilter f x) rest all f h (linked_new _ f (within before (TableFilter f x) rest all f h)) refl
-  node_fits before (StreamMap f s) rest all h = beside before (StreamMap f s) rest all f h (linked_new _ f (within before (StreamMap f s) rest all f h)) refl
-  node_fits before (TableMap f s) rest all h = beside before (TableMap f s) rest all f h (linked_new _ f (within before (TableMap f s) rest all f h)) refl
-  node_fits before (KeySelected f k) rest all h = beside before (KeySelected f k) rest all f h (linked_new _ f (within before (KeySelected f k) rest all f h)) refl
+  node_fits before (StreamSource t) rest all h = sourced before (StreamSource t) rest all t h ((Decides-eqb t t).1 refl) refl refl
+  node_fits before (TableSource t) rest all h = sourced before (TableSource t) rest all t h ((Decides-eqb t t).1 refl) refl refl
+  node_fits before (StreamFilter f x) rest all h = beside before (StreamFilter f x) rest all f h (linked_new _ f (within before (StreamFilter f x) rest all f h)) refl refl
+  node_fits before (TableFilter f x) rest all h = beside before (TableFilter f x) rest all f h (linked_new _ f (within before (TableFilter f x) rest all f h)) refl refl
+  node_fits before (StreamMap f s) rest all h = beside before (StreamMap f s) rest all f h (linked_new _ f (within before (StreamMap f s) rest all f h)) refl refl
+  node_fits before (TableMap f s) rest all h = beside before (TableMap f s) rest all f h (linked_new _ f (within before (TableMap f s) rest all f h)) refl refl
+  node_fits before (KeySelected f k) rest all h = beside before (KeySelected f k) rest all f h (linked_new _ f (within before (KeySelected f k) rest all f h)) refl refl
   node_fits before (StreamAggregate f by field true) rest all h = (h.0, λ e. cc, λ e. cc)
   node_fits before (StreamAggregate f by field false) rest all h =
-      (h.0, λ e. beside before (StreamAggregate f by field false) rest all f h.0 (linked_new _ f (within before (StreamAggregate f by field false) rest all f h.0)) refl, λ e. keys_fit before (StreamAggregate f by field false) rest all f by h.0 (h.1 refl))
+      (h.0, λ e. beside before (StreamAggregate f by field false) rest all f h.0 (linked_new _ f (within before (StreamAggregate f by field false) rest all f h.0)) refl refl, λ e. keys_fit before (StreamAggregate f by field false) rest all f by h.0 (h.1 refl))
   node_fits before (TableAggregate f by field) rest all h = h
   node_fits before (Windowed f by w true) rest all h = (h.0, λ e. cc, λ e. cc, h.2)
   node_fits before (Windowed f by w false) rest all h =
-      (h.0, λ e. beside before (Windowed f by w false) rest all f h.0 (linked_new _ f (within before (Windowed f by w false) rest all f h.0)) refl, λ e. keys_fit before (Windowed f by w false) rest all f by h.0 (h.1 refl), h.2)
+      (h.0, λ e. beside before (Windowed f by w false) rest all f h.0 (linked_new _ f (within before (Windowed f by w false) rest all f h.0)) refl refl, λ e. keys_fit before (Windowed f by w false) rest all f by h.0 (h.1 refl), h.2)
   node_fits before (KeyJoin l r kind s) rest all h =
       let k = KeyJoin l r kind s in
       let ls = fold label_next [] before in
       let cs = fold (parts_next p) [] before in (
-        beside before k rest all l h.0 (joined_new ls l r l (within before k rest all l h.0) (left_label (at ls l) (at ls r))) refl,
-        beside before k rest all r h.1 (joined_new ls l r r (within before k rest all r h.1) (right_label (at ls l) (at ls r))) (ap (λ c. cs ++ c ∷ []) h.2),
+        beside before k rest all l h.0 (joined_new ls l r l (within before k rest all l h.0) (left_label (at ls l) (at ls r))) refl refl,
+        beside before k rest all r h.1 (joined_new ls l r r (within before k rest all r h.1) (right_label (at ls l) (at ls r))) (ap (λ c. cs ++ c ∷ []) h.2) h.3,
       )
   node_fits before (ForeignKeyJoin l r fk kind s) rest all h =
-      (beside before (ForeignKeyJoin l r fk kind s) rest all l h.0 (linked_new _ l (within before (ForeignKeyJoin l r fk kind s) rest all l h.0)) refl, h.1)
+      (beside before (ForeignKeyJoin l r fk kind s) rest all l h.0 (linked_new _ l (within before (ForeignKeyJoin l r fk kind s) rest all l h.0)) refl refl, h.1)
+
+  -- of a node behind a repartition topic
+  plain_from : (before ks : List Kind) → p.kinds ≡ before ++ ks → (i : ℕ) (k : Kind) → slice_get ks i ≡ Some k → ((os : List (Option ℕ)) → wired_origin os (wiring_of k) ≡ None) → before_of p (length before + i) ≡ None
+  plain_from before [] all i k e h = absurd cc
+  plain_from before (x ∷ ks) all zero k e h =
+      let is : x ≡ k = cc in
+      let z : length before ≡ length before + 0 = omega arith in
+      ap (before_of p) (sym z) ∙ plain_here before x ks all (subst (λ (y : Kind). wired_origin (node_origins before) (wiring_of y) ≡ None) (sym is) (h (node_origins before)))
+  plain_from before (x ∷ ks) all (suc i) k e h =
+      let push : before ++ x ∷ ks ≡ (before ++ x ∷ []) ++ ks = sym (append_assoc before (x ∷ []) ks) in
+      let z : length (before ++ x ∷ []) + i ≡ length before + suc i = omega (arith, length-append before (x ∷ [])) in
+      ap (before_of p) (sym z) ∙ plain_from (before ++ x ∷ []) ks (all ∙ push) i k e h
+
+  pub plain_node : (n : ℕ) (k : Kind) → slice_get p.kinds n ≡ Some k → ((os : List (Option ℕ)) → wired_origin os (wiring_of k) ≡ None) → before_of p n ≡ None
+  plain_node n k e h = let z : 0 + n ≡ n = omega arith in ap (before_of p) (sym z) ∙ plain_from [] p.kinds refl n k e h
 
   each_fits : (before ks : List Kind) → p.kinds ≡ before ++ ks → EachShape p before ks → EachFits p (length before) ks
   each_fits before [] all h = tt

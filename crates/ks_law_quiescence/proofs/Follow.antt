@@ -12,6 +12,7 @@ use Rattle.ks_expr.specs.declared.terms.JoinKind.TheVariants.{Inner, Left as Lef
 use Rattle.ks_expr.specs.Terms.{Set}
 use Rattle.ks_expr.specs.Eval.{Row, same_bytes, same_field, joined, holds, project}
 use Rattle.ks_query.specs.Streams.{Key}
+use Rattle.ks_expr.specs.declared.terms.Fk.{Fk}
 use Rattle.ks_plan.specs.Plan.{Plan, Kind}
 use Rattle.ks_plan.specs.Plan.Kind.{TableFilter, TableMap, StreamAggregate, TableAggregate, KeyJoin, ForeignKeyJoin}
 use Rattle.ks_def_runs.specs.FinMap as map
@@ -23,7 +24,7 @@ use Rattle.ks_row.specs.declared.record.TaskId.{TaskId}
 use Rattle.ks_row.specs.Parts.{same_task}
 use Rattle.ks_def_tasks.specs.Messages.{Place, Stored, Item, Store, Rules, same_row, same_option}
 use Rattle.ks_def_tasks.specs.Step.{Arrival, Values, row_in, changed, kept_row, of_row, value_at, values_from, whole_step, step_key, items_from, tables_after, news_at, olds_at, applied, added, arrived, item_into, responded, direct}
-use Rattle.ks_def_tasks.specs.Tasks.{machine, step}
+use Rattle.ks_def_tasks.specs.Tasks.{arrival, machine, step}
 use Rattle.ks_law_quiescence.proofs.Following.{EachFollows, values_of, InOrder}
 use Rattle.ks_def_runs.proofs.Tables.{equal, get-write}
 use Rattle.ks_def_runs.proofs.Runs.{kept_by_run}
@@ -138,15 +139,15 @@ module _ (rules : Rules) (x : Arrival) (items : ℕ → Option StreamItem) (olds
   stream_receives news n ks a f by field through s = (value_is news n ks a (StreamAggregate f by field through) s).1
 
   -- a foreign-key join's result, where its left row didn't change
-  pub result_receives : (news : Values) (n : ℕ) (ks : List Kind) (a l r : ℕ) (fk : List ℕ) (kind : JoinKind) (set : Set) → Stands_at a (ForeignKeyJoin l r fk kind set) n ks → l < a →
+  pub result_receives : (news : Values) (n : ℕ) (ks : List Kind) (a l r : ℕ) (fk : Fk) (kind : JoinKind) (set : Set) → Stands_at a (ForeignKeyJoin l r fk kind set) n ks → l < a →
       changed olds (values_from rules x items olds news n ks) l ≡ false →
       values_from rules x items olds news n ks a ≡ responded rules kind set (row_in (values_from rules x items olds news n ks) l) (arrived x (Responses a)) (olds a)
   result_receives news n ks a l r fk kind set s lt e =
       let v = value_is news n ks a (ForeignKeyJoin l r fk kind set) s in
       let last = values_from rules x items olds news n ks in
       let same : row_in v.0 l ≡ row_in last l = ap (λ w. row_in (λ m. w) l) (v.2 l lt) in
-      v.1 ∙ ap (λ row. cond (not (same_option same_row (row_in olds l) row)) (direct fk kind set (row_in olds l) row (olds a)) (responded rules kind set row (arrived x (Responses a)) (olds a))) same
-      ∙ ap (λ b. cond b (direct fk kind set (row_in olds l) (row_in last l) (olds a)) (responded rules kind set (row_in last l) (arrived x (Responses a)) (olds a))) e
+      v.1 ∙ ap (λ row. cond (not (same_option same_row (row_in olds l) row)) (direct fk (step_key x.item.message) kind set (row_in olds l) row (olds a)) (responded rules kind set row (arrived x (Responses a)) (olds a))) same
+      ∙ ap (λ b. cond b (direct fk (step_key x.item.message) kind set (row_in olds l) (row_in last l) (olds a)) (responded rules kind set (row_in last l) (arrived x (Responses a)) (olds a))) e
 
 module _ (rules : Rules) (p : Plan) (order : InOrder 0 p.kinds) where
   abbrev pub FollowsAll : Store → Type 0
@@ -186,7 +187,7 @@ module _ (rules : Rules) (p : Plan) (order : InOrder 0 p.kinds) where
       let t : TaskId = (machine rules p).reader q in
       let out = step rules p t (st.stores t) q x in
       elim (same_task u t) as (λ b. FollowsAll (cond b out.store (st.stores u))) [
-        | true ↦ step_follows (st.stores t) (record { topic = q.topic; item = x }) (h t)
+        | true ↦ step_follows (st.stores t) (arrival p q x) (h t)
         | false ↦ h u
       ]
 

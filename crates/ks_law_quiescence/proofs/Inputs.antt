@@ -13,7 +13,7 @@ use Rattle.ks_expr.specs.Eval.{Row}
 use Rattle.ks_plan.specs.declared.node.Topic.TheVariants.{Input as InputTopic}
 use Rattle.ks_plan.specs.Plan.{Plan, Kind}
 use Rattle.ks_plan.specs.Plan.Kind.{TableSource}
-use Rattle.ks_plan.specs.Layout.{sub_of, is_read, at}
+use Rattle.ks_plan.specs.Layout.{spread_of_topic, sub_of, is_read}
 use Rattle.ks_def_runs.specs.FinMap as fin
 use Rattle.ks_def_runs.specs.Table.{Change, latest}
 use Rattle.ks_def_runs.specs.Bytes.{by_bytes}
@@ -26,7 +26,7 @@ use Rattle.ks_def_runs.proofs.Sums.{kept_from_start, none_before}
 use Rattle.ks_def_tasks.specs.Messages.{Place, same_place, Item, Store, Rules}
 use Rattle.ks_def_tasks.specs.Messages.Message.{Given}
 use Rattle.ks_def_tasks.specs.Step.{Arrival, Sent, of_row, over_nodes, sends_at, items_from, olds_at, news_at, step_key}
-use Rattle.ks_def_tasks.specs.Tasks.{machine, step, stands_at, inputs_of, item_of_input, part_of_key}
+use Rattle.ks_def_tasks.specs.Tasks.{arrival, machine, step, stands_at, inputs_of, item_of_input, part_of_key}
 use Rattle.ks_def_tasks.specs.Rest.{IsDrained}
 use Rattle.ks_def_tasks.proofs.Names.{names}
 use Rattle.ks_law_quiescence.specs.Taken.{messages, taken_at, change_of, changes_in}
@@ -54,7 +54,7 @@ module _ (rules : Rules) (p : Plan) where
 
       one : (n : ℕ) (o : Outcome Place Store Item) (x : Taken TaskId Place Item) → same_task u ((machine rules p).reader x.place) ≡ true → messages (sent_to (machine rules p) at_input o.made) ≡ [] → messages (sent_to (machine rules p) at_input (after (machine rules p) o (step rules p u o.store x.place x.item)).made) ≡ []
       one n o x b h =
-          let a : Arrival = record { topic = x.place.topic; item = x.item } in
+          let a : Arrival = arrival p x.place x.item in
           let key = step_key x.item.message in
           let items = items_from a (λ n. None) 0 p.kinds in
           let olds = olds_at o.store key in
@@ -94,7 +94,7 @@ module _ (rules : Rules) (p : Plan) where
   -- ---- a key's last value among all records is that among the records of its partition
   module _ (t : ℕ) (read : is_read p t ≡ true) (q : Key) where
     abbrev place : Place
-    place = record { topic = InputTopic t; part = rules.part q (at p.counts t) }
+    place = record { topic = InputTopic t; part = rules.part q (spread_of_topic p (InputTopic t)) }
 
     abbrev last_onto : Option Row → List (Change Key Row) → Option Row
     last_onto found cs = fold (λ found r. cond (eq_by_cmp by_bytes q r.0) r.1 found) found cs
@@ -102,7 +102,7 @@ module _ (rules : Rules) (p : Plan) where
     abbrev told_there : List Input → List (Change Key Row)
     told_there rs = changes_in (messages (map item_of_input (filter (stands_at rules p place) rs)))
 
-    one_more : (k : Option Key) (v : Option Row) (c : Bool) (found : Option Row) (left right : List (Change Key Row)) → nat_eq (part_of_key rules p (InputTopic t) k) (rules.part q (at p.counts t)) ≡ c →
+    one_more : (k : Option Key) (v : Option Row) (c : Bool) (found : Option Row) (left right : List (Change Key Row)) → nat_eq (part_of_key rules p (InputTopic t) k) (rules.part q (spread_of_topic p (InputTopic t))) ≡ c →
         ((found : Option Row) → last_onto found left ≡ last_onto found right) →
         last_onto found (with_some (option_map (λ k. (k, v)) k) left) ≡ last_onto found (cond c (with_some (change_of (Given k v)) right) right)
     one_more None v true found left right e h = h found
@@ -112,7 +112,7 @@ module _ (rules : Rules) (p : Plan) where
         elim (eq_by_cmp by_bytes q k) as (λ b. eq_by_cmp by_bytes q k ≡ b → last_onto (cond b v found) left ≡ last_onto found right) [
           | true ↦ λ b.
               let is : q ≡ k = slice_cmp-IsAntisymmetric nat_cmp-IsAntisymmetric q k (equal _ b) in
-              let here : nat_eq (rules.part k (at p.counts t)) (rules.part q (at p.counts t)) ≡ true = (Decides-eqb _ _).1 (ap (λ c. rules.part c (at p.counts t)) (sym is)) in
+              let here : nat_eq (rules.part k (spread_of_topic p (InputTopic t))) (rules.part q (spread_of_topic p (InputTopic t))) ≡ true = (Decides-eqb _ _).1 (ap (λ c. rules.part c (spread_of_topic p (InputTopic t))) (sym is)) in
               cc
           | false ↦ λ b. h found
         ] refl
@@ -122,13 +122,13 @@ module _ (rules : Rules) (p : Plan) where
     last_there (r ∷ rs) found =
         elim (nat_eq r.topic t) as (λ b. nat_eq r.topic t ≡ b →
         last_onto found (table_changes (cond b (r ∷ of_topic t rs) (of_topic t rs)))
-        ≡ last_onto found (changes_in (messages (map item_of_input (cond (b && is_read p r.topic && nat_eq (part_of_key rules p (InputTopic r.topic) r.key) (rules.part q (at p.counts t))) (r ∷ filter (stands_at rules p place) rs) (filter (stands_at rules p place) rs)))))) [
+        ≡ last_onto found (changes_in (messages (map item_of_input (cond (b && is_read p r.topic && nat_eq (part_of_key rules p (InputTopic r.topic) r.key) (rules.part q (spread_of_topic p (InputTopic t)))) (r ∷ filter (stands_at rules p place) rs) (filter (stands_at rules p place) rs)))))) [
           | true ↦ λ b.
               let is : r.topic ≡ t = (Decides-eqb r.topic t).0 b in
-              let both : (is_read p r.topic && nat_eq (part_of_key rules p (InputTopic r.topic) r.key) (rules.part q (at p.counts t))) ≡ nat_eq (part_of_key rules p (InputTopic t) r.key) (rules.part q (at p.counts t)) =
-              ap (λ c. is_read p c && nat_eq (part_of_key rules p (InputTopic c) r.key) (rules.part q (at p.counts t))) is ∙ ap (λ c. c && nat_eq (part_of_key rules p (InputTopic t) r.key) (rules.part q (at p.counts t))) read in
-              let more = one_more r.key r.value (nat_eq (part_of_key rules p (InputTopic t) r.key) (rules.part q (at p.counts t))) found (table_changes (of_topic t rs)) (told_there rs) refl (last_there rs) in
-              more ∙ ap (last_onto found) (spread (nat_eq (part_of_key rules p (InputTopic t) r.key) (rules.part q (at p.counts t))))
+              let both : (is_read p r.topic && nat_eq (part_of_key rules p (InputTopic r.topic) r.key) (rules.part q (spread_of_topic p (InputTopic t)))) ≡ nat_eq (part_of_key rules p (InputTopic t) r.key) (rules.part q (spread_of_topic p (InputTopic t))) =
+              ap (λ c. is_read p c && nat_eq (part_of_key rules p (InputTopic c) r.key) (rules.part q (spread_of_topic p (InputTopic t)))) is ∙ ap (λ c. c && nat_eq (part_of_key rules p (InputTopic t) r.key) (rules.part q (spread_of_topic p (InputTopic t)))) read in
+              let more = one_more r.key r.value (nat_eq (part_of_key rules p (InputTopic t) r.key) (rules.part q (spread_of_topic p (InputTopic t)))) found (table_changes (of_topic t rs)) (told_there rs) refl (last_there rs) in
+              more ∙ ap (last_onto found) (spread (nat_eq (part_of_key rules p (InputTopic t) r.key) (rules.part q (spread_of_topic p (InputTopic t)))))
               ∙ ap (λ c. last_onto found (changes_in (messages (map item_of_input (cond c (r ∷ filter (stands_at rules p place) rs) (filter (stands_at rules p place) rs)))))) (sym both)
           | false ↦ λ b. last_there rs found
         ] refl
@@ -146,9 +146,9 @@ module _ (rules : Rules) (p : Plan) where
     pub source_rests : IsDrained end → (q : Key) → fin.get ((end.stores (home_task rules p n q)).tables n) q ≡ of_row (fin.get ((query p records).tables n) q)
     source_rests drained q =
         let follows = Follows-run (machine rules p) (names rules p) (inputs_of rules p records) schedule in
-        let i = rules.part q (at p.counts t) in
+        let i = rules.part q (spread_of_topic p (InputTopic t)) in
         let spot : Place = record { topic = InputTopic t; part = i } in
-        let home_is : home_task rules p n q ≡ record { sub = sub_of p n; part = i } = ap (λ c. record { sub = sub_of p n; part = rules.part q c }) (sym sourced.parts) in
+        let home_is : home_task rules p n q ≡ record { sub = sub_of p n; part = i } = ap (λ c. record { sub = sub_of p n; part = rules.part q c }) (sym sourced.spread) in
         let took : taken_at spot end.taken ≡ messages (inputs_of rules p records spot) =
         from_inputs spot end.taken (λ u. inputs_alone (inputs_of rules p records) end follows u t i)
         ∙ ap messages (received_all (machine rules p) (names rules p) (inputs_of rules p records) end follows None spot (drained None spot refl)) in

@@ -18,7 +18,7 @@ use Rattle.ks_def_runs.proofs.Sums.{sum_map, sum_map-append, sum_map-add, sum_ma
 use Rattle.ks_def_tasks.specs.Messages.{Place, same_place, Item, Rules}
 use Rattle.ks_def_tasks.specs.Messages.Message.{Given}
 use Rattle.ks_def_tasks.specs.Step.{Arrival, arrived, item_given, item_at, items_from}
-use Rattle.ks_def_tasks.specs.Tasks.{machine, stands_at, inputs_of, item_of_input, part_of_key}
+use Rattle.ks_def_tasks.specs.Tasks.{arrival, machine, stands_at, inputs_of, item_of_input, part_of_key}
 use Rattle.ks_def_tasks.specs.Rest.{IsDrained}
 use Rattle.ks_def_tasks.proofs.Names.{names}
 use Rattle.ks_law_quiescence.specs.States.{State, state_of}
@@ -152,7 +152,7 @@ module _ (rules : Rules) (p : Plan) (fits : Fits p) (records : List Input) (sche
 
     -- one record taken, over all partitions
     one_taken : (x : Taken TaskId Place Item) (m : ℕ) → x.place.part < m →
-        sum_map (λ i. cond (same_place (spot i) x.place) (gives x.item) 0) (up_to m) ≡ opt_share f (item_given x.item.time (arrived (record { topic = x.place.topic; item = x.item }) (InputTopic t)))
+        sum_map (λ i. cond (same_place (spot i) x.place) (gives x.item) 0) (up_to m) ≡ opt_share f (item_given x.item.time (arrived (arrival p x.place x.item) (InputTopic t)))
     one_taken x m lt = elim (same_topic x.place.topic (InputTopic t)) as (λ b. same_topic x.place.topic (InputTopic t) ≡ b →
         sum_map (λ i. cond (same_place (spot i) x.place) (gives x.item) 0) (up_to m) ≡ opt_share f (item_given x.item.time (cond b (Some x.item.message) None))) [
           | true ↦ λ b.
@@ -171,7 +171,7 @@ module _ (rules : Rules) (p : Plan) (fits : Fits p) (records : List Input) (sche
         ] refl
 
     all_taken : (m : ℕ) (ts : List (Taken TaskId Place Item)) → parts_sum ts < m →
-        sum_map (λ i. sum_taken (machine rules p) gives (spot i) ts) (up_to m) ≡ sum_map (λ x. opt_share f (item_given x.item.time (arrived (record { topic = x.place.topic; item = x.item }) (InputTopic t)))) ts
+        sum_map (λ i. sum_taken (machine rules p) gives (spot i) ts) (up_to m) ≡ sum_map (λ x. opt_share f (item_given x.item.time (arrived (arrival p x.place x.item) (InputTopic t)))) ts
     unfolding parts_sum
     all_taken m [] lt = sum_map-zero (up_to m)
     all_taken m (x ∷ ts) lt = sum_map-add (λ i. cond (same_place (spot i) x.place) (gives x.item) 0) (λ i. sum_taken (machine rules p) gives (spot i) ts) (up_to m)
@@ -223,18 +223,18 @@ module _ (rules : Rules) (p : Plan) (fits : Fits p) (records : List Input) (sche
         from_none None h = inl refl
         from_none (Some u) h = inr (inputs_alone rules p (inputs_of rules p records) st h u t i)
 
-    source_items : sum_map (λ x. opt_share f (item_given x.item.time (arrived (record { topic = x.place.topic; item = x.item }) (InputTopic t)))) st.taken ≡ sum_map given_by (of_topic t records)
+    source_items : sum_map (λ x. opt_share f (item_given x.item.time (arrived (arrival p x.place x.item) (InputTopic t)))) st.taken ≡ sum_map given_by (of_topic t records)
     source_items =
         let m = suc (parts_sum st.taken + records_sum records) in
         sym (all_taken m st.taken (omega arith)) ∙ sum_map-same _ _ (up_to m) spot_taken ∙ all_records m records (omega arith)
 
   -- ---- each node
-  abbrev arrival : Taken TaskId Place Item → Arrival
-  arrival x = record { topic = x.place.topic; item = x.item }
+  abbrev arriving : Taken TaskId Place Item → Arrival
+  arriving x = arrival p x.place x.item
 
   step_item : (n : ℕ) (k : Kind) → Stands_at n k 0 p.kinds → (x : Taken TaskId Place Item) →
-      (then : ℕ → Option StreamItem) × (item_of_step p n x ≡ item_at (arrival x) then k) × ((c : ℕ) → c < n → then c ≡ item_of_step p c x)
-  step_item n k s x = item_is (arrival x) (λ m. None) 0 p.kinds n k s
+      (then : ℕ → Option StreamItem) × (item_of_step p n x ≡ item_at (arriving x) then k) × ((c : ℕ) → c < n → then c ≡ item_of_step p c x)
+  step_item n k s x = item_is (arriving x) (λ m. None) 0 p.kinds n k s
 
   -- a node that passes on what its input gives
   passes : (n g : ℕ) (k : Kind) → Stands_at n k 0 p.kinds → g < n → (turn : StreamItem → Option StreamItem) →
@@ -243,13 +243,13 @@ module _ (rules : Rules) (p : Plan) (fits : Fits p) (records : List Input) (sche
   passes n g k s lt turn acts answer h f =
       sum_map-same _ (λ x. opt_share (λ y. opt_share f (turn y)) (item_of_step p g x)) st.taken (λ x.
       let here = step_item n k s x in
-      ap (opt_share f) (here.1 ∙ acts (arrival x) here.0 ∙ ap (option_and_then turn) (here.2 g lt)) ∙ opt_then f turn (item_of_step p g x))
+      ap (opt_share f) (here.1 ∙ acts (arriving x) here.0 ∙ ap (option_and_then turn) (here.2 g lt)) ∙ opt_then f turn (item_of_step p g x))
       ∙ h (λ y. opt_share f (turn y)) ∙ sym (some_then f turn ((query p records).items g)) ∙ ap (sum_map f) (sym answer)
 
   -- a node that is no stream
   gives_none : (n : ℕ) (k : Kind) → Stands_at n k 0 p.kinds → ((y : Arrival) (items : ℕ → Option StreamItem) → item_at y items k ≡ None) → ((b : Answers) → (answer_node records b n k).items n ≡ b.items n) → ItemsRest n
   gives_none n k s none same f =
-      sum_map-same _ (λ x. 0) st.taken (λ x. let here = step_item n k s x in ap (opt_share f) (here.1 ∙ none (arrival x) here.0)) ∙ sum_map-zero st.taken
+      sum_map-same _ (λ x. 0) st.taken (λ x. let here = step_item n k s x in ap (opt_share f) (here.1 ∙ none (arriving x) here.0)) ∙ sum_map-zero st.taken
       ∙ ap (sum_map f) (sym (items_none records no_answers 0 p.kinds n k s same))
 
   source_gives : (t : ℕ) (f : StreamItem → ℕ) (rs : List Input) → sum_map (λ r. opt_share f (item_of r)) (of_topic t rs) ≡ sum_map f (some_of item_of (of_topic t rs))
@@ -269,7 +269,7 @@ module _ (rules : Rules) (p : Plan) (fits : Fits p) (records : List Input) (sche
   node_items : (n : ℕ) (k : Kind) → Stands_at n k 0 p.kinds → NodeFits p n k → ((c : ℕ) → c < n → ItemsRest c) → ItemsRest n
   node_items n (StreamSource t) s h before = λ f.
       let answer = query_at records p n (StreamSource t) s in
-      sum_map-same _ (λ x. opt_share f (item_given x.item.time (arrived (arrival x) (InputTopic t)))) st.taken (λ x. let here = step_item n (StreamSource t) s x in ap (opt_share f) here.1)
+      sum_map-same _ (λ x. opt_share f (item_given x.item.time (arrived (arriving x) (InputTopic t)))) st.taken (λ x. let here = step_item n (StreamSource t) s x in ap (opt_share f) here.1)
       ∙ source_items t h.read f ∙ source_gives t f records ∙ ap (sum_map f) (sym (answer.items ∙ given_here records answer.then.items n _))
   node_items n (StreamFilter g test) s h before =
       let answer = query_at records p n (StreamFilter g test) s in

@@ -23,7 +23,7 @@ use Rattle.ks_def_runs.proofs.Sums.{sum_map, sum_map-add, sum_map-same, sum_map-
 use Rattle.ks_def_tasks.specs.Messages.{Place, Item, Store, Rules}
 use Rattle.ks_def_tasks.specs.Windowed.{Counted, count_window, count_group, count_item, greater, time_changes}
 use Rattle.ks_def_tasks.specs.Step.{Arrival, items_from, counted_at, late_over}
-use Rattle.ks_def_tasks.specs.Tasks.{machine, step, inputs_of}
+use Rattle.ks_def_tasks.specs.Tasks.{arrival, machine, step, inputs_of}
 use Rattle.ks_def_tasks.specs.Rest.{IsDrained}
 use Rattle.ks_def_tasks.proofs.Names.{names}
 use Rattle.ks_law_quiescence.specs.States.{State, state_of}
@@ -131,7 +131,7 @@ module _ (rules : Rules) (p : Plan) where
   abbrev of_node : ℕ → Kind → Machine TaskId Place Store Item
   of_node n k = record (machine rules p) {
     step = λ u st q x.
-        let a : Arrival = record { topic = q.topic; item = x } in
+        let a : Arrival = arrival p q x in
         record (step rules p u st q x) { late = (counted_at a (items_from a (λ m. None) 0 p.kinds) st n k).late };
   }
 
@@ -148,7 +148,7 @@ module _ (rules : Rules) (p : Plan) where
   next_stores stores t u = cond (same_task u ((machine rules p).reader t.place)) (step rules p ((machine rules p).reader t.place) (stores ((machine rules p).reader t.place)) t.place t.item).store (stores u)
 
   one_over : (stores : TaskId → Store) (t : Taken TaskId Place Item) (ts : List (Taken TaskId Place Item)) (n : ℕ) (ks : List Kind) →
-      let a : Arrival = record { topic = t.place.topic; item = t.item } in
+      let a : Arrival = arrival p t.place t.item in
       over_kinds stores (t ∷ ts) n ks ≡ late_over (counted_at a (items_from a (λ m. None) 0 p.kinds) (stores ((machine rules p).reader t.place))) n ks + over_kinds (next_stores stores t) ts n ks
   unfolding over_kinds
   one_over stores t ts n [] = refl
@@ -157,7 +157,7 @@ module _ (rules : Rules) (p : Plan) where
   by_nodes : (stores : TaskId → Store) (ts : List (Taken TaskId Place Item)) → late_all (machine rules p) stores ts ≡ over_kinds stores ts 0 p.kinds
   by_nodes stores [] = sym (none_over stores 0 p.kinds)
   by_nodes stores (t ∷ ts) =
-      let a : Arrival = record { topic = t.place.topic; item = t.item } in
+      let a : Arrival = arrival p t.place t.item in
       ap (λ m. late_over (counted_at a (items_from a (λ m. None) 0 p.kinds) (stores ((machine rules p).reader t.place))) 0 p.kinds + m) (by_nodes (next_stores stores t) ts) ∙ sym (one_over stores t ts 0 p.kinds)
 
   module _ (fits : Fits p) (n f : ℕ) (by : Option (List ℕ)) (w : Window) (through : Bool) (stands : Stands_at n (Windowed f by w through) 0 p.kinds) (any : WindowKey) (ks : List WindowKey) where
@@ -168,7 +168,7 @@ module _ (rules : Rules) (p : Plan) where
     node_windows stores [] h = sum_map-zero ks
     node_windows stores (t ∷ ts) h =
         let parts = each_parts CoversStep t ts h in
-        let a : Arrival = record { topic = t.place.topic; item = t.item } in
+        let a : Arrival = arrival p t.place t.item in
         let items = items_from a (λ m. None) 0 p.kinds in
         let r = (machine rules p).reader t.place in
         sum_map-add (λ k. late_at k n (stores r) a items (kind_at p n)) (λ k. late_all (counting rules p n k) (next_stores stores t) ts) ks
@@ -181,7 +181,7 @@ none_late : (rules : Rules) (p : Plan) (n : ℕ) (k : Kind) → ((a : Arrival) (
     (stores : TaskId → Store) (ts : List (Taken TaskId Place Item)) → late_all (of_node rules p n k) stores ts ≡ 0
 none_late rules p n k none stores [] = refl
 none_late rules p n k none stores (t ∷ ts) =
-    let a : Arrival = record { topic = t.place.topic; item = t.item } in
+    let a : Arrival = arrival p t.place t.item in
     ap₂ (λ c d. c + d) (none a (items_from a (λ m. None) 0 p.kinds) (stores ((machine rules p).reader t.place))) (none_late rules p n k none (next_stores rules p stores t) ts)
 
 module _ (rules : Rules) (p : Plan) (fits : Fits p) (records : List Input) (schedule : List (Option TaskId × Place)) (drained : IsDrained (state_of rules p records schedule)) where

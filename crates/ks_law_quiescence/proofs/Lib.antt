@@ -4,6 +4,7 @@ pub mod Follow
 pub mod Fits
 pub mod WellFormed
 pub mod Each
+pub mod Entries
 pub mod Placed
 pub mod Sources
 pub mod Queries

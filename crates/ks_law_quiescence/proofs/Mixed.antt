@@ -2,13 +2,13 @@
 use Rattle.std.proofs.Common.{◌≡◌, ◌≢◌, ℕ, suc, ◌<◌, Bool, true, false, cond, ◌&&◌, List, [], ◌∷◌, ◌++◌, map, Option, Some, None, refl, sym, ap, ap₂, ◌∙◌, arith, append-nil, ⊎_elim, ◌⊎◌, nat_eq, ne_eqb}
 use Rattle.ks_expr.specs.Eval.{Row}
 use Rattle.ks_query.specs.Streams.{Key}
+use Rattle.ks_expr.specs.declared.terms.Fk.{Fk}
 use Rattle.ks_plan.specs.Plan.{Plan, Kind}
 use Rattle.ks_plan.specs.Plan.Kind.{StreamAggregate, TableAggregate, Windowed, ForeignKeyJoin}
 use Rattle.ks_plan.specs.declared.node.Topic.{Topic}
-use Rattle.ks_plan.specs.Layout.{same_topic, parts_of_topic}
+use Rattle.ks_plan.specs.Layout.{same_topic}
 use Rattle.ks_plan.specs.declared.node.Topic.TheVariants.{Input, Repartition, Subscriptions, Responses, Changelog, HashChangelog}
 use Rattle.ks_wire.specs.declared.values.Delta.{Delta}
-use Rattle.ks_wire.specs.declared.values.Response.{Response}
 use Rattle.ks_query.specs.Aggregates.{table_parts}
 use Rattle.ks_query.specs.Streams.{StreamItem, group_key}
 use Rattle.ks_def_runs.specs.FinMap as fin
@@ -16,9 +16,9 @@ use Rattle.ks_def_runs.specs.Run.{sent_to}
 use Rattle.ks_row.specs.declared.record.TaskId.{TaskId}
 use Rattle.ks_def_tasks.specs.Messages.{Place, same_place, Subscription, Message, Item, Store, Rules}
 use Rattle.ks_def_tasks.specs.Messages.Message.{Asked}
-use Rattle.ks_def_tasks.specs.Foreign.{subscriptions, answer_all}
+use Rattle.ks_def_tasks.specs.Foreign.{Sending, subscriptions, answer_all}
 use Rattle.ks_def_tasks.specs.Step.{Arrival, Sent, Values, row_in, changed, arrived, step_key, sends_at, changes_at, join_sends, regroup, keyed_to, send_deltas, send_subscriptions, send_responses, answer_one, write_all, value_changes, counted_at, hash_changes, over_nodes, whole_step, items_from, olds_at, news_at}
-use Rattle.ks_def_tasks.specs.Tasks.{machine, sent_item, written_item, is_changelog, step}
+use Rattle.ks_def_tasks.specs.Tasks.{to_part, arrival, machine, sent_item, written_item, is_changelog, step}
 use Rattle.ks_def_runs.proofs.Runs.{sent_to-append}
 use Rattle.ks_law_quiescence.specs.Taken.{messages}
 
@@ -72,7 +72,7 @@ avoids_subscriptions : (t : Topic) (n : ℕ) → Apart t n → (p : Key) (ss : L
 avoids_subscriptions t n a p [] = avoids_nothing t
 avoids_subscriptions t n a p (s ∷ ss) = avoids_first t _ _ a.subscriptions (avoids_subscriptions t n a p ss)
 
-avoids_responses : (t : Topic) (n : ℕ) → Apart t n → (rs : List (Key × Response)) → Avoids t (send_responses n rs)
+avoids_responses : (t : Topic) (n : ℕ) → Apart t n → (rs : List Sending) → Avoids t (send_responses n rs)
 avoids_responses t n a [] = avoids_nothing t
 avoids_responses t n a (r ∷ rs) = avoids_first t _ _ a.responses (avoids_responses t n a rs)
 
@@ -81,10 +81,10 @@ avoids_one t n a st r None = avoids_nothing t
 avoids_one t n a st r (Some (Asked b p s)) = avoids_responses t n a _
 avoids_one t n a st r (Some _) = avoids_nothing t
 
-avoids_join : (t : Topic) (n : ℕ) → Apart t n → (rules : Rules) (fk : List ℕ) (l r : ℕ) (st : Store) (olds news : Values) (k : Option Key) → Avoids t (join_sends rules fk n l r st olds news k)
-avoids_join t n a rules fk l r st olds news None = avoids_nothing t
-avoids_join t n a rules fk l r st olds news (Some k) =
-    Avoids-append t _ _ (Avoids-cond t (changed olds news l) _ (avoids_subscriptions t n a k (subscriptions rules.hash fk (row_in olds l) (row_in news l))))
+avoids_join : (t : Topic) (n : ℕ) → Apart t n → (rules : Rules) (fk : Fk) (part : Option ℕ) (l r : ℕ) (st : Store) (olds news : Values) (k : Option Key) → Avoids t (join_sends rules fk part n l r st olds news k)
+avoids_join t n a rules fk part l r st olds news None = avoids_nothing t
+avoids_join t n a rules fk part l r st olds news (Some k) =
+    Avoids-append t _ _ (Avoids-cond t (changed olds news l) _ (avoids_subscriptions t n a k (subscriptions rules.hash fk k part (row_in olds l) (row_in news l))))
     (Avoids-cond t (changed olds news r) _ (avoids_responses t n a (answer_all (row_in news r) (fin.entries (st.hashes n k)))))
 
 pub avoids_sends : (t : Topic) (n : ℕ) → Apart t n → (rules : Rules) (arr : Arrival) (items : ℕ → Option StreamItem) (st : Store) (olds news : Values) (k : Kind) → Avoids t (sends_at rules arr items st olds news n k)
@@ -92,7 +92,7 @@ avoids_sends t n a rules arr items st olds news (StreamAggregate f by field thro
 avoids_sends t n a rules arr items st olds news (Windowed f by w through) = Avoids-cond t through _ (avoids_regroup t n a by (items f))
 avoids_sends t n a rules arr items st olds news (TableAggregate f by field) = avoids_deltas t n a (table_parts by field (row_in olds f) (row_in news f))
 avoids_sends t n a rules arr items st olds news (ForeignKeyJoin l r fk kind s) =
-    Avoids-append t _ _ (avoids_join t n a rules fk l r st olds news (step_key arr.item.message)) (avoids_one t n a st r (arrived arr (Subscriptions n)))
+    Avoids-append t _ _ (avoids_join t n a rules fk (arr.names n) l r st olds news (step_key arr.item.message)) (avoids_one t n a st r (arrived arr (Subscriptions n)))
 avoids_sends t n a rules arr items st olds news _ = avoids_nothing t
 
 -- the node a stands in the list from n on, and is k
@@ -113,20 +113,20 @@ module _ (rules : Rules) (p : Plan) where
   -- the messages that go to a partition
   abbrev pub picked : Place → List Sent → List Message
   picked q [] = []
-  picked q (s ∷ xs) = cond (same_place q (record { topic = s.topic; part = rules.part s.key (parts_of_topic p s.topic) })) (s.message ∷ picked q xs) (picked q xs)
+  picked q (s ∷ xs) = cond (same_place q (record { topic = s.topic; part = to_part rules p s.topic s.key s.to })) (s.message ∷ picked q xs) (picked q xs)
 
   pub picked-is : (q : Place) (time : ℕ) (xs : List Sent) → messages (sent_to (machine rules p) q (map (sent_item rules p time) xs)) ≡ picked q xs
   picked-is q time [] = refl
   picked-is q time (s ∷ xs) =
       let rest = sent_to (machine rules p) q (map (sent_item rules p time) xs) in
-      elim (same_place q (record { topic = s.topic; part = rules.part s.key (parts_of_topic p s.topic) })) as (λ b. messages (cond b (record { message = s.message; time = time } ∷ rest) rest) ≡ cond b (s.message ∷ picked q xs) (picked q xs)) [
+      elim (same_place q (record { topic = s.topic; part = to_part rules p s.topic s.key s.to })) as (λ b. messages (cond b (record { message = s.message; time = time } ∷ rest) rest) ≡ cond b (s.message ∷ picked q xs) (picked q xs)) [
         | true ↦ ap (λ l. s.message ∷ l) (picked-is q time xs)
         | false ↦ picked-is q time xs
       ]
 
   pub picked-append : (q : Place) (xs ys : List Sent) → picked q (xs ++ ys) ≡ picked q xs ++ picked q ys
   picked-append q [] ys = refl
-  picked-append q (s ∷ xs) ys = elim (same_place q (record { topic = s.topic; part = rules.part s.key (parts_of_topic p s.topic) })) as (λ b. cond b (s.message ∷ picked q (xs ++ ys)) (picked q (xs ++ ys)) ≡ cond b (s.message ∷ picked q xs) (picked q xs) ++ picked q ys) [
+  picked-append q (s ∷ xs) ys = elim (same_place q (record { topic = s.topic; part = to_part rules p s.topic s.key s.to })) as (λ b. cond b (s.message ∷ picked q (xs ++ ys)) (picked q (xs ++ ys)) ≡ cond b (s.message ∷ picked q xs) (picked q xs) ++ picked q ys) [
     | true ↦ ap (λ l. s.message ∷ l) (picked-append q xs ys)
     | false ↦ picked-append q xs ys
   ]
@@ -135,7 +135,7 @@ module _ (rules : Rules) (p : Plan) where
   unfolding Avoids
   picked_none q [] a = refl
   picked_none q (s ∷ xs) a =
-      ap (λ b. cond (b && nat_eq q.part (rules.part s.key (parts_of_topic p s.topic))) (s.message ∷ picked q xs) (picked q xs)) a.0 ∙ picked_none q xs a.1
+      ap (λ b. cond (b && nat_eq q.part (to_part rules p s.topic s.key s.to)) (s.message ∷ picked q xs) (picked q xs)) a.0 ∙ picked_none q xs a.1
 
   none_beyond : (q : Place) (a : ℕ) (h : ℕ → Kind → List Sent) → ((n : ℕ) (k : Kind) → n ≢ a → picked q (h n k) ≡ []) → (n : ℕ) (ks : List Kind) → a < n → picked q (over_nodes h n ks) ≡ []
   none_beyond q a h alone n [] lt = refl
@@ -201,11 +201,11 @@ module _ (rules : Rules) (p : Plan) where
 
   -- all that a whole step makes for a partition that is no changelog's
   pub made_is : (u : TaskId) (st : Store) (q at : Place) (x : Item) → is_changelog at.topic ≡ false →
-      messages (sent_to (machine rules p) at (step rules p u st q x).made) ≡ picked at (whole_step rules p st (record { topic = q.topic; item = x })).sends
+      messages (sent_to (machine rules p) at (step rules p u st q x).made) ≡ picked at (whole_step rules p st (arrival p q x)).sends
   made_is u st q at x free =
-      let made = whole_step rules p st (record { topic = q.topic; item = x }) in
+      let made = whole_step rules p st (arrival p q x) in
       let key = step_key x.message in
-      let a : Arrival = record { topic = q.topic; item = x } in
+      let a : Arrival = arrival p q x in
       let items = items_from a (λ n. None) 0 p.kinds in
       let olds = olds_at st key in
       let news = news_at rules p a items olds key in

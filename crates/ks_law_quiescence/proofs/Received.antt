@@ -28,7 +28,7 @@ use Rattle.ks_def_tasks.specs.Messages.{Place, same_place, Stored, agg_of, Messa
 use Rattle.ks_def_tasks.specs.Messages.Stored.{OfAgg}
 use Rattle.ks_def_tasks.specs.Messages.Message.{Given, Keyed, Moved, Asked, Answered, Kept, KeptCount, KeptTime, KeptHash}
 use Rattle.ks_def_tasks.specs.Step.{Arrival, arrived, step_key, applied, whole_step, items_from, olds_at, news_at, tables_after}
-use Rattle.ks_def_tasks.specs.Tasks.{machine, step, inputs_of}
+use Rattle.ks_def_tasks.specs.Tasks.{arrival, machine, step, inputs_of}
 use Rattle.ks_def_tasks.proofs.Names.{names, same_task-is, same_place-is}
 use Rattle.ks_law_quiescence.specs.Taken.{messages, taken_at}
 use Rattle.ks_law_quiescence.specs.Groups.{one_moved, sum_of_deltas}
@@ -241,10 +241,10 @@ module _ (rules : Rules) (p : Plan) (a f : ℕ) (by : List ℕ) (field : Option 
   none_taken None g old = refl
   none_taken (Some k) g old = either_same (eq_by_cmp by_bytes g k) old
 
-  group_step : (st : Store) (q : Place) (x : Item) (g : Key) → fin.get ((whole_step rules p st (record { topic = q.topic; item = x })).store.tables a) g
-      ≡ at_key (step_key x.message) g (applied field (fin.get (st.tables a) g) (arrived (record { topic = q.topic; item = x }) (Repartition a))) (fin.get (st.tables a) g)
+  group_step : (st : Store) (q : Place) (x : Item) (g : Key) → fin.get ((whole_step rules p st (arrival p q x)).store.tables a) g
+      ≡ at_key (step_key x.message) g (applied field (fin.get (st.tables a) g) (arrived (arrival p q x) (Repartition a))) (fin.get (st.tables a) g)
   group_step st q x g =
-      let y : Arrival = record { topic = q.topic; item = x } in
+      let y : Arrival = arrival p q x in
       let items = items_from y (λ n. None) 0 p.kinds in
       node_step rules p a st y items (λ old. applied field old (arrived y (Repartition a))) (step_key x.message)
       (λ k. (value_is rules y items (olds_at st (Some k)) (olds_at st (Some k)) 0 p.kinds a (TableAggregate f by field) stands).1) g
@@ -266,7 +266,7 @@ module _ (rules : Rules) (p : Plan) (a f : ℕ) (by : List ℕ) (field : Option 
       let task : same_task (group_task g) ((machine rules p).reader q) ≡ true = (same_task-is (group_task g) ((machine rules p).reader q)).1 (sym reader) in
       let topic : same_topic q.topic (Repartition a) ≡ true = ap (λ (v : Place). same_topic v.topic (Repartition a)) is ∙ (Decides-eqb a a).1 refl in
       let old = fin.get ((st.stores (group_task g)).tables a) g in
-      ap (then_at st g q x) task ∙ ap (λ v. fin.get ((whole_step rules p (st.stores v) (record { topic = q.topic; item = x })).store.tables a) g) reader
+      ap (then_at st g q x) task ∙ ap (λ v. fin.get ((whole_step rules p (st.stores v) (arrival p q x)).store.tables a) g) reader
       ∙ group_step (st.stores (group_task g)) q x g ∙ ap (λ c. at_key (step_key x.message) g (applied field old (cond c (Some x.message) None)) old) topic
       ∙ one_taken g old (sum_of_deltas g ms) x.message (h g) left
       ∙ ap stored_sum (sym (fold-append (one_moved g) nothing_yet ms (x.message ∷ [])))

@@ -12,7 +12,7 @@ use Rattle.ks_query.specs.Streams.{Key}
 use Rattle.ks_plan.specs.Plan.{Plan}
 use Rattle.ks_plan.specs.Plan.Kind.{TableAggregate}
 use Rattle.ks_plan.specs.declared.node.Topic.{Topic}
-use Rattle.ks_plan.specs.Layout.{same_topic, parts_of_topic}
+use Rattle.ks_plan.specs.Layout.{spread_of_topic, same_topic}
 use Rattle.ks_plan.specs.declared.node.Topic.TheVariants.{Repartition}
 use Rattle.ks_def_runs.specs.FinMap as fin
 use Rattle.ks_def_runs.specs.FinMap.{FinMap}
@@ -27,7 +27,7 @@ use Rattle.ks_row.specs.declared.record.TaskId.{TaskId}
 use Rattle.ks_def_tasks.specs.Messages.{Place, Stored, shown, Message, Item, Store, Rules}
 use Rattle.ks_def_tasks.specs.Messages.Message.{Moved}
 use Rattle.ks_def_tasks.specs.Step.{Arrival, Values, row_in, step_key, sends_at, send_deltas, whole_step, olds_at, news_at, items_from, tables_after}
-use Rattle.ks_def_tasks.specs.Tasks.{machine, step, empty_store}
+use Rattle.ks_def_tasks.specs.Tasks.{arrival, machine, step, empty_store}
 use Rattle.ks_def_runs.proofs.Tables.{equal, total-empty}
 use Rattle.ks_def_runs.proofs.Sums.{Begins, steps, kept_from_start}
 use Rattle.ks_def_runs.proofs.Runs.{after, sent_to-append}
@@ -79,7 +79,7 @@ amount_bits (Some name) row = as_i64_again (int_of (field_of name row))
 
 module _ (rules : Rules) (p : Plan) (a f : ℕ) (by : List ℕ) (field : Option (List ℕ)) where
   abbrev pub group_part : Key → ℕ
-  group_part g = rules.part g (parts_of_topic p (Repartition a))
+  group_part g = rules.part g (spread_of_topic p (Repartition a))
 
   -- a row's group and amount
   abbrev pub share : Stored → Option (Key × ℤ)
@@ -104,7 +104,7 @@ module _ (rules : Rules) (p : Plan) (a f : ℕ) (by : List ℕ) (field : Option 
       of_value None = refl
       of_value (Some x) = refl
 
-  here : (j : ℕ) (g : Key) (x : Message) (xs : List Message) (t : Topic) → t ≡ Repartition a → cond (same_topic (Repartition a) t && nat_eq j (rules.part g (parts_of_topic p t))) (x ∷ xs) xs ≡ cond (nat_eq j (group_part g)) (x ∷ []) [] ++ xs
+  here : (j : ℕ) (g : Key) (x : Message) (xs : List Message) (t : Topic) → t ≡ Repartition a → cond (same_topic (Repartition a) t && nat_eq j (rules.part g (spread_of_topic p t))) (x ∷ xs) xs ≡ cond (nat_eq j (group_part g)) (x ∷ []) [] ++ xs
   here j g x xs t e = rw (e, (Decides-eqb a a).1 refl) (elim (nat_eq j (group_part g)) as (λ b. cond b (x ∷ xs) xs ≡ cond b (x ∷ []) [] ++ xs) [ true ↦ refl | false ↦ refl ])
 
   -- a row's amount has 64 bits
@@ -183,7 +183,7 @@ module _ (rules : Rules) (p : Plan) (a f : ℕ) (by : List ℕ) (field : Option 
     one_step : (u : TaskId) (n : ℕ) (o : Outcome Place Store Item) (t : Taken TaskId Place Item) → RowsSent n (o.store.tables f) (sent_by o) →
         RowsSent (suc n) ((after (machine rules p) o (step rules p u o.store t.place t.item)).store.tables f) (sent_by (after (machine rules p) o (step rules p u o.store t.place t.item)))
     one_step u n o t h =
-        let x : Arrival = record { topic = t.place.topic; item = t.item } in
+        let x : Arrival = arrival p t.place t.item in
         let made = whole_step rules p o.store x in
         let key = step_key t.item.message in
         subst (RowsSent (suc n) (made.store.tables f))

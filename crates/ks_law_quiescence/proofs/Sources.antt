@@ -23,7 +23,7 @@ use Rattle.ks_def_runs.proofs.Runs.{kept_by_run}
 use Rattle.ks_def_tasks.specs.Messages.{Place, same_place, Stored, Message, Item, Store, Rules}
 use Rattle.ks_def_tasks.specs.Messages.Message.{Given, Keyed, Moved, Asked, Answered, Kept, KeptCount, KeptTime, KeptHash}
 use Rattle.ks_def_tasks.specs.Step.{Arrival, of_row, taken_row, arrived, whole_step, items_from, olds_at, news_at, tables_after}
-use Rattle.ks_def_tasks.specs.Tasks.{machine, step}
+use Rattle.ks_def_tasks.specs.Tasks.{arrival, machine, step}
 use Rattle.ks_def_tasks.proofs.Names.{same_task-is, same_place-is}
 use Rattle.ks_law_quiescence.specs.Taken.{taken_at, change_of, changes_in}
 use Rattle.ks_law_quiescence.proofs.Fits.{Sourced}
@@ -72,9 +72,9 @@ told None = None
 told (Some m) = change_of m
 
 module _ (rules : Rules) (p : Plan) (n t : ℕ) (stands : Stands_at n (TableSource t) 0 p.kinds) where
-  module _ (st : Store) (at : Topic) (time : ℕ) where
+  module _ (st : Store) (at : Topic) (part time : ℕ) where
     abbrev comes : Message → Arrival
-    comes m = record { topic = at; item = record { message = m; time = time } }
+    comes m = arrival p (record { topic = at; part = part }) (record { message = m; time = time })
 
     abbrev items : Message → ℕ → Option StreamItem
     items m = items_from (comes m) (λ n. None) 0 p.kinds
@@ -146,8 +146,8 @@ module _ (rules : Rules) (p : Plan) (n t : ℕ) (stands : Stands_at n (TableSour
         let task : same_task (keeper i) ((machine rules p).reader q) ≡ true = (same_task-is (keeper i) ((machine rules p).reader q)).1 (sym reader) in
         let topic : same_topic q.topic (InputTopic t) ≡ true = ap (λ (v : Place). same_topic v.topic (InputTopic t)) is ∙ (Decides-eqb t t).1 refl in
         let values = fin.get ((st.stores (keeper i)).tables n) in
-        ap (table_then st i k q x) task ∙ ap (λ v. fin.get ((whole_step rules p (st.stores v) (record { topic = q.topic; item = x })).store.tables n) k) reader
-        ∙ source_step (st.stores (keeper i)) q.topic x.time x.message k ∙ ap (λ c. changed_by (values k) k (told (cond c (Some x.message) None))) topic
+        ap (table_then st i k q x) task ∙ ap (λ v. fin.get ((whole_step rules p (st.stores v) (arrival p q x)).store.tables n) k) reader
+        ∙ source_step (st.stores (keeper i)) q.topic q.part x.time x.message k ∙ ap (λ c. changed_by (values k) k (told (cond c (Some x.message) None))) topic
         ∙ latest_push values (taken_at (at i) st.taken) x.message k (h i k)
 
     -- one of another
@@ -166,7 +166,7 @@ module _ (rules : Rules) (p : Plan) (n t : ℕ) (stands : Stands_at n (TableSour
                 | false ↦ λ d. refl
               ] refl in
               let values = fin.get ((st.stores u).tables n) in
-              source_step (st.stores u) q.topic x.time x.message k ∙ ap (λ d. changed_by (values k) k (told (cond d (Some x.message) None))) other
+              source_step (st.stores u) q.topic q.part x.time x.message k ∙ ap (λ d. changed_by (values k) k (told (cond d (Some x.message) None))) other
               ∙ ap (λ v. fin.get ((st.stores v).tables n) k) (sym is) ∙ h i k
           | false ↦ λ c. h i k
         ] refl

@@ -12,7 +12,7 @@ use Rattle.ks_plan.specs.declared.node.Topic.{Topic}
 use Rattle.ks_plan.specs.declared.node.Topic.TheVariants.{Repartition}
 use Rattle.ks_plan.specs.Plan.{Plan}
 use Rattle.ks_plan.specs.Plan.Kind.{StreamAggregate}
-use Rattle.ks_plan.specs.Layout.{same_topic, parts_of}
+use Rattle.ks_plan.specs.Layout.{spread_of, same_topic}
 use Rattle.ks_def_runs.specs.FinMap as fin
 use Rattle.ks_def_runs.specs.FinMap.{FinMap}
 use Rattle.ks_def_runs.specs.Bytes.{by_bytes}
@@ -27,7 +27,7 @@ use Rattle.ks_def_tasks.specs.Messages.{Place, same_place, Stored, agg_of, Messa
 use Rattle.ks_def_tasks.specs.Messages.Stored.{OfAgg}
 use Rattle.ks_def_tasks.specs.Messages.Message.{Given, Keyed, Moved, Asked, Answered, Kept, KeptCount, KeptTime, KeptHash}
 use Rattle.ks_def_tasks.specs.Step.{Arrival, arrived, step_key, added, item_keyed, regroup, keyed_to, whole_step, items_from, olds_at}
-use Rattle.ks_def_tasks.specs.Tasks.{machine, step, inputs_of}
+use Rattle.ks_def_tasks.specs.Tasks.{arrival, machine, step, inputs_of}
 use Rattle.ks_def_tasks.proofs.Names.{same_task-is, same_place-is}
 use Rattle.ks_law_quiescence.specs.Groups.{place_of}
 use Rattle.ks_law_quiescence.specs.States.{home_task}
@@ -163,11 +163,11 @@ module _ (rules : Rules) (p : Plan) (n f : ℕ) (by : Option (List ℕ)) (field 
     one_sent : (row : Row) (k : Option Key) → sum_map (keyed_share g w) (picked rules p place (keyed_to n row k)) ≡ group_share g w row k
     one_sent row None = refl
     one_sent row (Some h) =
-        let to : Place = record { topic = Repartition n; part = rules.part h (parts_of p n) } in
+        let to : Place = record { topic = Repartition n; part = rules.part h (spread_of p n) } in
         elim (eq_by_cmp by_bytes g h) as (λ b. eq_by_cmp by_bytes g h ≡ b → sum_map (keyed_share g w) (cond (same_place place to) (Keyed h row ∷ []) []) ≡ cond b (w row) 0) [
           | true ↦ λ b.
               let is : g ≡ h = slice_cmp-IsAntisymmetric nat_cmp-IsAntisymmetric g h (equal _ b) in
-              let here : same_place place to ≡ true = (same_place-is place to).1 (ap (λ k. record { topic = Repartition n; part = rules.part k (parts_of p n) }) is) in
+              let here : same_place place to ≡ true = (same_place-is place to).1 (ap (λ k. record { topic = Repartition n; part = rules.part k (spread_of p n) }) is) in
               ap (λ c. sum_map (keyed_share g w) (cond c (Keyed h row ∷ []) [])) here ∙ ap (λ c. cond c (w row) 0 + 0) b ∙ sum_zero (w row)
           | false ↦ λ b. elim (same_place place to) as (λ c. sum_map (keyed_share g w) (cond c (Keyed h row ∷ []) []) ≡ 0) [ true ↦ ap (λ c. cond c (w row) 0 + 0) b ∙ refl | false ↦ refl ]
         ] refl
@@ -182,7 +182,7 @@ module _ (rules : Rules) (p : Plan) (n f : ℕ) (by : Option (List ℕ)) (field 
     step_sent : (u : TaskId) (st : Store) (t : Taken TaskId Place Item) → sum_map (keyed_share g w) (messages (sent_to (machine rules p) place (step rules p u st t.place t.item).made)) ≡ item_share g w by (item_of_step p f t)
     step_sent u st t =
         ap (sum_map (keyed_share g w)) (made_is rules p u st t.place place t.item refl
-        ∙ step_sends_own rules p (Repartition n) n (apart n) (StreamAggregate f by field true) stands st (record { topic = t.place.topic; item = t.item }) place.part)
+        ∙ step_sends_own rules p (Repartition n) n (apart n) (StreamAggregate f by field true) stands st (arrival p t.place t.item) place.part)
         ∙ item_sent (item_of_step p f t)
 
     -- what was taken, and what waits, of all tasks that made a step
@@ -228,10 +228,10 @@ module _ (rules : Rules) (p : Plan) (n f : ℕ) (by : Option (List ℕ)) (field 
   abbrev StoredIs : RunState TaskId Place Store Item → Type 0
   StoredIs st = fin.get ((st.stores (home_task rules p n g)).tables n) g ≡ counts_of (taken_at place st.taken)
 
-  value_step : (st : Store) (q : Place) (x : Item) → fin.get ((whole_step rules p st (record { topic = q.topic; item = x })).store.tables n) g
-      ≡ at_key (step_key x.message) g (added field (fin.get (st.tables n) g) (item_keyed x.time (arrived (record { topic = q.topic; item = x }) (Repartition n)))) (fin.get (st.tables n) g)
+  value_step : (st : Store) (q : Place) (x : Item) → fin.get ((whole_step rules p st (arrival p q x)).store.tables n) g
+      ≡ at_key (step_key x.message) g (added field (fin.get (st.tables n) g) (item_keyed x.time (arrived (arrival p q x) (Repartition n)))) (fin.get (st.tables n) g)
   value_step st q x =
-      let y : Arrival = record { topic = q.topic; item = x } in
+      let y : Arrival = arrival p q x in
       let items = items_from y (λ m. None) 0 p.kinds in
       node_step rules p n st y items (λ old. added field old (item_keyed x.time (arrived y (Repartition n)))) (step_key x.message)
       (λ k. (value_is rules y items (olds_at st (Some k)) (olds_at st (Some k)) 0 p.kinds n (StreamAggregate f by field true) stands).1) g
@@ -256,7 +256,7 @@ module _ (rules : Rules) (p : Plan) (n f : ℕ) (by : Option (List ℕ)) (field 
       let task : same_task home ((machine rules p).reader q) ≡ true = (same_task-is home ((machine rules p).reader q)).1 (sym reader) in
       let topic : same_topic q.topic (Repartition n) ≡ true = ap (λ (v : Place). same_topic v.topic (Repartition n)) is ∙ (Decides-eqb n n).1 refl in
       let old = fin.get ((st.stores home).tables n) g in
-      ap (then_at st q x) task ∙ ap (λ v. fin.get ((whole_step rules p (st.stores v) (record { topic = q.topic; item = x })).store.tables n) g) reader
+      ap (then_at st q x) task ∙ ap (λ v. fin.get ((whole_step rules p (st.stores v) (arrival p q x)).store.tables n) g) reader
       ∙ value_step (st.stores home) q x ∙ ap (λ c. at_key (step_key x.message) g (added field old (item_keyed x.time (cond c (Some x.message) None))) old) topic
       ∙ came x.time old (sum_map (keyed_share g one_each) ms) (sum_map (keyed_share g (amount_each field)) ms) x.message h (none_of_all field g ms)
       ∙ more_counts ms x.message

@@ -26,7 +26,7 @@ use Rattle.ks_def_tasks.specs.Messages.{Place, Stored, agg_of, Message, Item, St
 use Rattle.ks_def_tasks.specs.Messages.Stored.{OfAgg}
 use Rattle.ks_def_tasks.specs.Messages.Message.{Given, Keyed, Moved, Asked, Answered, Kept, KeptCount, KeptTime, KeptHash}
 use Rattle.ks_def_tasks.specs.Step.{Arrival, step_key, added, item_given, item_at, whole_step, items_from, olds_at}
-use Rattle.ks_def_tasks.specs.Tasks.{machine, step, inputs_of, is_changelog}
+use Rattle.ks_def_tasks.specs.Tasks.{arrival, machine, step, inputs_of, is_changelog}
 use Rattle.ks_def_tasks.proofs.Names.{same_task-is}
 use Rattle.ks_law_quiescence.specs.States.{home_task}
 use Rattle.ks_law_quiescence.specs.Streams.{item_of_step}
@@ -175,10 +175,10 @@ module _ (rules : Rules) (p : Plan) (fits : Fits p) (n f : ℕ) (field : Option 
       of_item None e = refl
       of_item (Some i) e = of_key i.row i.key e
 
-  value_step : (st : Store) (q : Place) (x : Item) → let a : Arrival = record { topic = q.topic; item = x } in
+  value_step : (st : Store) (q : Place) (x : Item) → let a : Arrival = arrival p q x in
       fin.get ((whole_step rules p st a).store.tables n) g ≡ at_key (step_key x.message) g (added field (fin.get (st.tables n) g) (items_from a (λ m. None) 0 p.kinds f)) (fin.get (st.tables n) g)
   value_step st q x =
-      let a : Arrival = record { topic = q.topic; item = x } in
+      let a : Arrival = arrival p q x in
       let items = items_from a (λ m. None) 0 p.kinds in
       node_step rules p n st a items (λ old. added field old (items f)) (step_key x.message)
       (λ k. (value_is rules a items (olds_at st (Some k)) (olds_at st (Some k)) 0 p.kinds n (StreamAggregate f None field false) stands).1) g
@@ -188,9 +188,9 @@ module _ (rules : Rules) (p : Plan) (fits : Fits p) (n f : ℕ) (field : Option 
 
   -- an item of the group comes to the group's task alone
   elsewhere : (q : Place) (x : Item) → (is_changelog q.topic ≡ false → FitsAt rules p q x.message) → same_task home ((machine rules p).reader q) ≡ false → (w : Row → ℕ) →
-      item_share g w None (items_from (record { topic = q.topic; item = x }) (λ m. None) 0 p.kinds f) ≡ 0
+      item_share g w None (items_from (arrival p q x) (λ m. None) 0 p.kinds f) ≡ 0
   elsewhere q x fit away w =
-      let a : Arrival = record { topic = q.topic; item = x } in
+      let a : Arrival = arrival p q x in
       ⊎_elim (λ (e : items_from a (λ m. None) 0 p.kinds f ≡ None). ap (item_share g w None) e) (λ o. of_item (items_from a (λ m. None) 0 p.kinds f) refl o)
       (items_owned rules p a (λ m. None) 0 p.kinds (λ c. inl refl) fits f)
     where
@@ -200,15 +200,15 @@ module _ (rules : Rules) (p : Plan) (fits : Fits p) (n f : ℕ) (field : Option 
         | true ↦ λ b.
             let is : g ≡ h = slice_cmp-IsAntisymmetric nat_cmp-IsAntisymmetric g h (equal _ b) in
             let at : FitsKey rules p q h = fits_key rules p q x.message h e (fit o.list) in
-            let there : (machine rules p).reader q ≡ home = ap₂ (λ (i j : ℕ). record { sub = i; part = j }) (o.sub ∙ beside.sub) (at ∙ ap₂ rules.part (sym is) (o.parts ∙ beside.parts)) in
+            let there : (machine rules p).reader q ≡ home = ap₂ (λ (i j : ℕ). record { sub = i; part = j }) (o.sub ∙ beside.sub) (at ∙ ap₂ rules.part (sym is) (o.spread ∙ beside.spread)) in
             let yes : same_task home ((machine rules p).reader q) ≡ true = (same_task-is home ((machine rules p).reader q)).1 (sym there) in
             cc
         | false ↦ λ b. refl
       ] refl
 
-      of_item : (i : Option StreamItem) → items_from (record { topic = q.topic; item = x }) (λ m. None) 0 p.kinds f ≡ i → Owned rules p q.topic f → item_share g w None i ≡ 0
+      of_item : (i : Option StreamItem) → items_from (arrival p q x) (λ m. None) 0 p.kinds f ≡ i → Owned rules p q.topic f → item_share g w None i ≡ 0
       of_item None e o = refl
-      of_item (Some i) e o = of_key i.row i.key (item_key (record { topic = q.topic; item = x }) p f own i e) o
+      of_item (Some i) e o = of_key i.row i.key (item_key (arrival p q x) p f own i e) o
 
   pub record Both (st : RunState TaskId Place Store Item) : Type 0 where
     pub placed : Placed rules p st
@@ -223,7 +223,7 @@ module _ (rules : Rules) (p : Plan) (fits : Fits p) (n f : ℕ) (field : Option 
     placed = placed_step rules p fits st s q (x ∷ rest) e h.placed;
     stored =
         let u = (machine rules p).reader q in
-        let a : Arrival = record { topic = q.topic; item = x } in
+        let a : Arrival = arrival p q x in
         let now : Taken TaskId Place Item = record { sender = s; place = q; item = x } in
         let item = items_from a (λ m. None) 0 p.kinds f in
         let c = sum_map (share one_each) st.taken in

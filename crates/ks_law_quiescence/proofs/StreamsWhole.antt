@@ -17,7 +17,7 @@ use Rattle.ks_def_runs.proofs.Runs.{after, sent_to-append, Follows-run}
 use Rattle.ks_def_runs.proofs.Sums.{sum_map, kept_from_start}
 use Rattle.ks_def_tasks.specs.Messages.{Place, agg_of, Item, Store, Rules}
 use Rattle.ks_def_tasks.specs.Messages.Stored.{OfAgg}
-use Rattle.ks_def_tasks.specs.Tasks.{machine, step, inputs_of}
+use Rattle.ks_def_tasks.specs.Tasks.{arrival, machine, step, inputs_of}
 use Rattle.ks_def_tasks.proofs.Names.{names}
 use Rattle.ks_law_quiescence.specs.Groups.{place_of}
 use Rattle.ks_law_quiescence.specs.States.{State, state_of, home_task}
@@ -74,7 +74,7 @@ module _ (rules : Rules) (p : Plan) (fits : Fits p) (records : List Input) (sche
         messages (sent_to (machine rules p) (place_of rules p n g) (after (machine rules p) o (step rules p u o.store t.place t.item)).made) ≡ []
     one_silent u m o t b h =
         let q = place_of rules p n g in
-        let a : Arrival = record { topic = t.place.topic; item = t.item } in
+        let a : Arrival = arrival p t.place t.item in
         let items = items_from a (λ m. None) 0 p.kinds in
         let olds = olds_at o.store (step_key t.item.message) in
         ap messages (sent_to-append (machine rules p) q o.made _) ∙ messages-append (sent_to (machine rules p) q o.made) _

@@ -15,11 +15,12 @@ use Rattle.std.specs.Cmp.Lexicographic.{nat_list_cmp_total, slice_cmp}
 use Rattle.std.specs.FinMap.{slice_cmp-IsAntisymmetric, nat_cmp-IsAntisymmetric}
 use Rattle.ks_expr.specs.Eval.{same_bytes}
 use Rattle.ks_plan.specs.declared.fault.TopoFault.TheVariants.{UnknownInput, WrongKind, DuplicateName, NotCopartitioned, BadWindow}
-use Rattle.ks_plan.specs.Drafts.{Name, OpView, StreamOf, TableOf, FilterOf, MapOf, KeyOf, CountOf, SumOf, WindowedOf, JoinOf, FkJoinOf, NodeView, DraftView}
+use Rattle.ks_plan.specs.declared.draft.TopicDraft.{TopicDraft}
+use Rattle.ks_plan.specs.Drafts.{Name, Topics, OpView, StreamOf, TableOf, FilterOf, MapOf, KeyOf, CountOf, SumOf, WindowedOf, JoinOf, FkJoinOf, NodeView, DraftView}
 use Rattle.ks_plan.specs.Plan.{Plan, Kind, Known, is_stream, known_of, learn, known_from, known_at, known_names, name_place, node_number, topic_number, plan_of, nothing_known, natural, or_number}
 use Rattle.ks_plan.specs.Plan.Kind.{StreamFilter, TableFilter, StreamMap, TableMap}
-use Rattle.ks_plan.specs.Layout.{is_source_of, any_source_of}
-use Rattle.ks_plan.specs.Faults.{Line, first_fitting, first_of, has_name, names_of, topic_names, unknown_lines, taken_lines, inputs_in, topics_in, sources_of, parts_in, node_table, nodes_fault, side_lines, size_lines, print_fault, wrong_kind, wiring_in, window_lines, is_window, is_time, is_advance, int_or}
+use Rattle.ks_plan.specs.Layout.{node_parts, node_origins, is_source_of, any_source_of}
+use Rattle.ks_plan.specs.Faults.{Line, same_before, stated_at, are_apart, first_fitting, first_of, has_name, names_of, topic_names, unknown_lines, taken_lines, inputs_in, topics_in, sources_of, parts_in, node_table, nodes_fault, side_lines, size_lines, print_fault, wrong_kind, wiring_in, window_lines, is_window, is_time, is_advance, int_or}
 use Rattle.ks_def_runs.proofs.Tables.{equal}
 use Rattle.ks_law_quiescence.specs.WellFormed.{IsWellFormed}
 use Rattle.ks_law_quiescence.proofs.Fits.{Fits, NodeShape, EachShape, fits_of_shape, own_next, own_keys, GroupsByKey, own_same, own_count}
@@ -82,7 +83,7 @@ module _ where
   not_itself : (a : Name) → below a a ≡ false
   not_itself a = ap is_lt (tied_itself nat_list_cmp_total a)
 
-  number_le : (ts : List (Name × ℤ)) (u t : Name) → below u t ≡ true → topic_number ts u ≤ topic_number ts t
+  number_le : (ts : Topics) (u t : Name) → below u t ≡ true → topic_number ts u ≤ topic_number ts t
   number_le [] u t lt = omega arith
   number_le (x ∷ xs) u t lt =
       let rest = number_le xs u t lt in
@@ -91,11 +92,11 @@ module _ where
         | false ↦ λ b. elim (below x.0 t) as (λ c. topic_number xs u ≤ cond c (suc (topic_number xs t)) (topic_number xs t)) [ true ↦ omega arith | false ↦ rest ]
       ] refl
 
-  number_less : (ts : List (Name × ℤ)) (u t : Name) → below u t ≡ true → has_name (map (λ (x : Name × ℤ). x.0) ts) u ≡ true → topic_number ts u < topic_number ts t
+  number_less : (ts : Topics) (u t : Name) → below u t ≡ true → has_name (map (λ (x : Name × TopicDraft). x.0) ts) u ≡ true → topic_number ts u < topic_number ts t
   number_less [] u t lt e = cc
   number_less (x ∷ xs) u t lt e =
       let rest = number_le xs u t lt in
-      elim (same_bytes x.0 u) as (λ b. same_bytes x.0 u ≡ b → (b || has_name (map (λ (x : Name × ℤ). x.0) xs) u) ≡ true →
+      elim (same_bytes x.0 u) as (λ b. same_bytes x.0 u ≡ b → (b || has_name (map (λ (x : Name × TopicDraft). x.0) xs) u) ≡ true →
       cond (below x.0 u) (suc (topic_number xs u)) (topic_number xs u) < cond (below x.0 t) (suc (topic_number xs t)) (topic_number xs t)) [
         | true ↦ λ b h.
             let here : below x.0 u ≡ false = ap (below x.0) (sym (name-is x.0 u b)) ∙ not_itself x.0 in
@@ -114,7 +115,7 @@ module _ where
   by_order Equal e = cc
   by_order Greater e = inr refl
 
-  numbers_apart : (ts : List (Name × ℤ)) (u t : Name) → same_bytes u t ≡ false → has_name (map (λ (x : Name × ℤ). x.0) ts) u ≡ true → has_name (map (λ (x : Name × ℤ). x.0) ts) t ≡ true →
+  numbers_apart : (ts : Topics) (u t : Name) → same_bytes u t ≡ false → has_name (map (λ (x : Name × TopicDraft). x.0) ts) u ≡ true → has_name (map (λ (x : Name × TopicDraft). x.0) ts) t ≡ true →
       nat_eq (topic_number ts u) (topic_number ts t) ≡ false
   numbers_apart ts u t ne ku kt = ne_eqb _ _ (⊎_elim
       (λ (lt : below u t ≡ true). let less = number_less ts u t lt ku in λ e. omega arith)
@@ -122,6 +123,12 @@ module _ where
       let lt : below t u ≡ true = ap is_lt (nat_list_cmp_total.antisymm t u) ∙ gt in
       let less = number_less ts t u lt kt in λ e. omega arith)
       (by_order (slice_cmp nat_cmp u t) ne))
+
+before-is : (a b : Option Name) → same_before a b ≡ true → a ≡ b
+before-is None None e = refl
+before-is (Some a) (Some b) e = ap (λ n. Some n) (name-is a b e)
+before-is None (Some b) e = cc
+before-is (Some a) None e = cc
 
 -- ---- the advance of a window that has no fault
 at_least_one : (z : ℤ) → int_le (pos 1) z ≡ true → 0 < natural z
@@ -163,7 +170,7 @@ shape_push p b [] k h n = (subst (λ l. NodeShape p l k) (append-nil b) n, tt)
 shape_push p b (x ∷ xs) k h n = (h.0, shape_push p (b ++ x ∷ []) xs k h.1 (subst (λ l. NodeShape p l k) (sym (append_assoc b (x ∷ []) xs)) n))
 
 module _ (d : DraftView) where
-  abbrev ts : List (Name × ℤ)
+  abbrev ts : Topics
   ts = d.topics
 
   abbrev plan : Plan
@@ -225,7 +232,7 @@ module _ (d : DraftView) where
       inputs : first_fitting (unknown_lines (names_of before) (inputs_in op)) ≡ None;
       sources : first_fitting (taken_lines (sources_of before) (topics_in op)) ≡ None;
       kinds : first_fitting (map (λ i. (wrong_kind op (wiring_in ks i), WrongKind n.name)) (inputs_in op)) ≡ None;
-      sides : first_fitting (side_lines plan.counts ks op) ≡ None;
+      sides : first_fitting (side_lines ts plan.counts ks op) ≡ None;
       windows : first_fitting (window_lines n.name op) ≡ None;
     }
 
@@ -258,7 +265,11 @@ module _ (d : DraftView) where
         of_not false e = cc
     shape_of (JoinOf l r kind s) e apart own =
         let left = input_known l (r ∷ []) e.inputs in
-        (left.0, one_known r left.1, (Decides-eqb _ _).0 (of_not _ (not_first (not (nat_eq (parts_in plan.counts ks l) (parts_in plan.counts ks r)), NotCopartitioned l r) [] e.sides).0))
+        let origins = node_origins (kinds_of ks) in
+        let apart = are_apart ts (node_parts plan.counts (kinds_of ks)) origins (node_number ks l) (node_number ks r) in
+        let both = and_parts (nat_eq (parts_in plan.counts ks l) (parts_in plan.counts ks r)) (same_before (stated_at ts origins (node_number ks l)) (stated_at ts origins (node_number ks r)))
+        (of_not _ (not_first (apart, NotCopartitioned l r) [] e.sides).0) in
+        (left.0, one_known r left.1, (Decides-eqb _ _).0 both.0, before-is _ _ both.1)
       where
         of_not : (b : Bool) → not b ≡ false → b ≡ true
         of_not true e = refl

@@ -13,7 +13,7 @@ use Rattle.ks_wire.specs.declared.values.Agg.{Agg}
 use Rattle.ks_plan.specs.declared.node.Topic.TheVariants.{Repartition}
 use Rattle.ks_plan.specs.Plan.{Plan, Kind, Window}
 use Rattle.ks_plan.specs.Plan.Kind.{StreamSource, Windowed}
-use Rattle.ks_plan.specs.Layout.{same_topic, kind_at, parts_of_topic}
+use Rattle.ks_plan.specs.Layout.{spread_of_topic, same_topic, kind_at}
 use Rattle.ks_def_runs.specs.FinMap as fin
 use Rattle.ks_def_runs.specs.FinMap.{FinMap}
 use Rattle.ks_def_runs.specs.Bytes.{by_bytes}
@@ -30,7 +30,7 @@ use Rattle.ks_def_tasks.specs.Messages.{Place, Message, Item, Store, Rules}
 use Rattle.ks_def_tasks.specs.Messages.Message.{Given, Keyed, Moved, Asked, Answered, Kept, KeptCount, KeptTime, KeptHash}
 use Rattle.ks_def_tasks.specs.Windowed.{Counted, count_window, count_group, count_item, greater, time_changes}
 use Rattle.ks_def_tasks.specs.Step.{Arrival, arrived, step_key, item_keyed, item_into, items_from, counted_at, late_over, whole_step}
-use Rattle.ks_def_tasks.specs.Tasks.{machine, step, inputs_of, is_changelog, taker}
+use Rattle.ks_def_tasks.specs.Tasks.{arrival, machine, step, inputs_of, is_changelog, taker}
 use Rattle.ks_def_tasks.proofs.Names.{same_task-is}
 use Rattle.ks_law_quiescence.specs.States.{home_task}
 use Rattle.ks_law_quiescence.specs.Taken.{messages}
@@ -166,7 +166,7 @@ module _ (rules : Rules) (p : Plan) (fits : Fits p) (n f : ℕ) (by : Option (Li
 
   -- the item that a step brings to the count
   abbrev pub brought : Taken TaskId Place Item → Option StreamItem
-  brought t = item_into (record { topic = t.place.topic; item = t.item }) (items_from (record { topic = t.place.topic; item = t.item }) (λ m. None) 0 p.kinds) n f through
+  brought t = item_into (arrival p t.place t.item) (items_from (arrival p t.place t.item) (λ m. None) 0 p.kinds) n f through
 
   abbrev pub share_of_step : Taken TaskId Place Item → ℕ
   share_of_step t = own_windows k w (brought t)
@@ -174,10 +174,10 @@ module _ (rules : Rules) (p : Plan) (fits : Fits p) (n f : ℕ) (by : Option (Li
   pub kind_is : kind_at p n ≡ Windowed f by w through
   kind_is = kind_here 0 p.kinds n (Windowed f by w through) (subst (λ c. Stands_at c (Windowed f by w through) 0 p.kinds) (omega arith) stands)
 
-  counts_step : (st : Store) (t : Taken TaskId Place Item) (x : ℕ) → fin.get (st.counts n) k ≡ counted x 0 → (whole_step rules p st (record { topic = t.place.topic; item = t.item })).late ≡ 0 →
-      fin.get ((whole_step rules p st (record { topic = t.place.topic; item = t.item })).store.counts n) k ≡ counted (x + share_of_step t) 0
+  counts_step : (st : Store) (t : Taken TaskId Place Item) (x : ℕ) → fin.get (st.counts n) k ≡ counted x 0 → (whole_step rules p st (arrival p t.place t.item)).late ≡ 0 →
+      fin.get ((whole_step rules p st (arrival p t.place t.item)).store.counts n) k ≡ counted (x + share_of_step t) 0
   counts_step st t x e late =
-      let a : Arrival = record { topic = t.place.topic; item = t.item } in
+      let a : Arrival = arrival p t.place t.item in
       let items = items_from a (λ m. None) 0 p.kinds in
       let own = node_late (counted_at a items st) 0 p.kinds n (Windowed f by w through) stands late in
       ap (λ c. fin.get (counted_at a items st n c).counts k) kind_is ∙ item_counted k w (st.times n) (st.counts n) (brought t) x e own
@@ -205,7 +205,7 @@ module _ (rules : Rules) (p : Plan) (fits : Fits p) (n f : ℕ) (by : Option (Li
       let topic : q.topic ≡ Repartition n = topic-is q.topic (Repartition n) e in
       let key : h ≡ g = of_some is in
       let at : FitsKey rules p q h = fit (ap is_changelog topic) in
-      ap₂ (λ (i j : ℕ). record { sub = i; part = j }) (ap (taker p) topic) (at ∙ ap₂ (λ c u. rules.part c (parts_of_topic p u)) key topic))
+      ap₂ (λ (i j : ℕ). record { sub = i; part = j }) (ap (taker p) topic) (at ∙ ap₂ (λ c u. rules.part c (spread_of_topic p u)) key topic))
     where
       of_some : {A : Type 0} {y z : A} → Some y ≡ Some z → y ≡ z
       of_some e = cc
@@ -219,27 +219,27 @@ module _ (rules : Rules) (p : Plan) (fits : Fits p) (n f : ℕ) (by : Option (Li
   came_keyed q x (KeptHash b c h) true fit e away = refl
 
   came_item : (q : Place) (x : Item) → (is_changelog q.topic ≡ false → FitsAt rules p q x.message) → Beside p f n → get_or (own_keys p.kinds) f false ≡ true → same_task home ((machine rules p).reader q) ≡ false →
-      own_windows k w (items_from (record { topic = q.topic; item = x }) (λ m. None) 0 p.kinds f) ≡ 0
+      own_windows k w (items_from (arrival p q x) (λ m. None) 0 p.kinds f) ≡ 0
   came_item q x fit beside own away =
-      let a : Arrival = record { topic = q.topic; item = x } in
+      let a : Arrival = arrival p q x in
       ⊎_elim (λ (e : items_from a (λ m. None) 0 p.kinds f ≡ None). ap (own_windows k w) e)
       (λ o. of_item (items_from a (λ m. None) 0 p.kinds f) refl o)
       (items_owned rules p a (λ m. None) 0 p.kinds (λ c. inl refl) fits f)
     where
-      of_item : (i : Option StreamItem) → items_from (record { topic = q.topic; item = x }) (λ m. None) 0 p.kinds f ≡ i → Owned rules p q.topic f → own_windows k w i ≡ 0
+      of_item : (i : Option StreamItem) → items_from (arrival p q x) (λ m. None) 0 p.kinds f ≡ i → Owned rules p q.topic f → own_windows k w i ≡ 0
       of_item None e o = refl
       of_item (Some y) e o = away_windows q y.key y.time away (λ g is.
-          let key : step_key x.message ≡ Some g = item_key (record { topic = q.topic; item = x }) p f own y e ∙ is in
+          let key : step_key x.message ≡ Some g = item_key (arrival p q x) p f own y e ∙ is in
           let at : FitsKey rules p q g = fits_key rules p q x.message g key (fit o.list) in
-          ap₂ (λ (i j : ℕ). record { sub = i; part = j }) (o.sub ∙ beside.sub) (at ∙ ap (rules.part g) (o.parts ∙ beside.parts)))
+          ap₂ (λ (i j : ℕ). record { sub = i; part = j }) (o.sub ∙ beside.sub) (at ∙ ap (rules.part g) (o.spread ∙ beside.spread)))
 
   pub elsewhere : (b : Bool) → through ≡ b → (q : Place) (x : Item) → (is_changelog q.topic ≡ false → FitsAt rules p q x.message) → same_task home ((machine rules p).reader q) ≡ false → (s : Option TaskId) →
       share_of_step (record { sender = s; place = q; item = x }) ≡ 0
   elsewhere true is q x fit away s =
-      let a : Arrival = record { topic = q.topic; item = x } in
+      let a : Arrival = arrival p q x in
       ap (λ c. own_windows k w (cond c (item_keyed x.time (arrived a (Repartition n))) (items_from a (λ m. None) 0 p.kinds f))) is ∙ came_keyed q x x.message (same_topic q.topic (Repartition n)) fit refl away
   elsewhere false is q x fit away s =
-      let a : Arrival = record { topic = q.topic; item = x } in
+      let a : Arrival = arrival p q x in
       let h = each_at p 0 p.kinds n (Windowed f by w through) fits stands in
       ap (λ c. own_windows k w (cond c (item_keyed x.time (arrived a (Repartition n))) (items_from a (λ m. None) 0 p.kinds f))) is ∙ came_item q x fit (h.1 is) (h.2 is).1 away
 

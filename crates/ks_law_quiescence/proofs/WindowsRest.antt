@@ -12,7 +12,7 @@ use Rattle.ks_plan.specs.declared.node.Topic.{Topic}
 use Rattle.ks_plan.specs.declared.node.Topic.TheVariants.{Input as InputTopic, Repartition}
 use Rattle.ks_plan.specs.Plan.{Plan, Kind, Window}
 use Rattle.ks_plan.specs.Plan.Kind.{StreamSource, TableSource, StreamFilter, TableFilter, StreamMap, TableMap, KeySelected, StreamAggregate, TableAggregate, Windowed, KeyJoin, ForeignKeyJoin}
-use Rattle.ks_plan.specs.Layout.{same_topic, parts_of, parts_of_topic}
+use Rattle.ks_plan.specs.Layout.{spread_of, same_topic}
 use Rattle.ks_def_runs.specs.FinMap as fin
 use Rattle.ks_def_runs.proofs.Tables.{equal}
 use Rattle.ks_query.specs.Streams.{Key, Input, StreamItem, filter_item, map_item, rekey_item, group_key, grouped}
@@ -26,7 +26,7 @@ use Rattle.ks_def_runs.proofs.Sums.{sum_map, sum_map-append, sum_map-same, sum_t
 use Rattle.ks_def_tasks.specs.Messages.{Place, same_place, Message, Item, Store, Rules}
 use Rattle.ks_def_tasks.specs.Messages.Message.{Given, Keyed, Moved, Asked, Answered, Kept, KeptCount, KeptTime, KeptHash}
 use Rattle.ks_def_tasks.specs.Step.{Arrival, Sent, step_key, item_given, item_keyed, item_at, items_from, olds_at, news_at, regroup, keyed_to, whole_step}
-use Rattle.ks_def_tasks.specs.Tasks.{machine, step, sent_item, written_item, inputs_of, is_changelog}
+use Rattle.ks_def_tasks.specs.Tasks.{to_part, arrival, machine, step, sent_item, written_item, inputs_of, is_changelog}
 use Rattle.ks_def_tasks.specs.Rest.{IsDrained}
 use Rattle.ks_def_tasks.proofs.Names.{names, same_task-is, same_place-is}
 use Rattle.ks_law_quiescence.specs.Groups.{place_of}
@@ -116,17 +116,17 @@ module _ (rules : Rules) (p : Plan) where
   picked_items q time [] = refl
   picked_items q time (s ∷ xs) =
       let rest = sent_to (machine rules p) q (map (sent_item rules p time) xs) in
-      elim (same_place q (record { topic = s.topic; part = rules.part s.key (parts_of_topic p s.topic) })) as (λ b. cond b (stamp time s.message ∷ rest) rest ≡ map (stamp time) (cond b (s.message ∷ picked rules p q xs) (picked rules p q xs))) [
+      elim (same_place q (record { topic = s.topic; part = to_part rules p s.topic s.key s.to })) as (λ b. cond b (stamp time s.message ∷ rest) rest ≡ map (stamp time) (cond b (s.message ∷ picked rules p q xs) (picked rules p q xs))) [
         | true ↦ ap (λ l. stamp time s.message ∷ l) (picked_items q time xs)
         | false ↦ picked_items q time xs
       ]
 
   made_items : (u : TaskId) (st : Store) (q to : Place) (x : Item) → is_changelog to.topic ≡ false →
-      sent_to (machine rules p) to (step rules p u st q x).made ≡ map (stamp x.time) (picked rules p to (whole_step rules p st (record { topic = q.topic; item = x })).sends)
+      sent_to (machine rules p) to (step rules p u st q x).made ≡ map (stamp x.time) (picked rules p to (whole_step rules p st (arrival p q x)).sends)
   made_items u st q to x free =
-      let made = whole_step rules p st (record { topic = q.topic; item = x }) in
+      let made = whole_step rules p st (arrival p q x) in
       let key = step_key x.message in
-      let a : Arrival = record { topic = q.topic; item = x } in
+      let a : Arrival = arrival p q x in
       let items = items_from a (λ n. None) 0 p.kinds in
       let olds = olds_at st key in
       let news = news_at rules p a items olds key in
@@ -149,13 +149,13 @@ module _ (rules : Rules) (p : Plan) (fits : Fits p) (n f : ℕ) (by : Option (Li
   one_sent : (time : ℕ) (row : Row) (h : Option Key) → sum_map (λ m. share_in (record { message = m; time = time })) (picked rules p place (keyed_to n row h)) ≡ group_windows k w h time
   one_sent time row None = refl
   one_sent time row (Some h) =
-      let to : Place = record { topic = Repartition n; part = rules.part h (parts_of p n) } in
+      let to : Place = record { topic = Repartition n; part = rules.part h (spread_of p n) } in
       elim (same_place place to) as (λ b. same_place place to ≡ b → sum_map (λ m. share_in (record { message = m; time = time })) (cond b (Keyed h row ∷ []) []) ≡ starts_at k w h (windows w time)) [
         | true ↦ λ b. sum_zero _
         | false ↦ λ b. sym (apart_windows (λ s. elim (eq_by_cmp by_window k (h, s)) as (λ c. eq_by_cmp by_window k (h, s) ≡ c → c ≡ false) [
           | true ↦ λ c.
               let is : k.0 ≡ h = ap (λ (v : WindowKey). v.0) (window_same k (h, s) (equal _ c)) in
-              sym ((same_place-is place to).1 (ap (λ g. record { topic = Repartition n; part = rules.part g (parts_of p n) }) is)) ∙ b
+              sym ((same_place-is place to).1 (ap (λ g. record { topic = Repartition n; part = rules.part g (spread_of p n) }) is)) ∙ b
           | false ↦ λ c. refl
         ] refl) (windows w time))
       ] refl
@@ -175,7 +175,7 @@ module _ (rules : Rules) (p : Plan) (fits : Fits p) (n f : ℕ) (by : Option (Li
 
     pub step_sent : (u : TaskId) (st : Store) (t : Taken TaskId Place Item) → sum_map share_in (sent_to (machine rules p) place (step rules p u st t.place t.item).made) ≡ item_windows k w by (item_of_step p f t)
     step_sent u st t =
-        let a : Arrival = record { topic = t.place.topic; item = t.item } in
+        let a : Arrival = arrival p t.place t.item in
         ap (sum_map share_in) (made_items rules p u st t.place place t.item refl) ∙ stamped_sum share_in t.item.time _
         ∙ ap (sum_map (λ m. share_in (record { message = m; time = t.item.time }))) (step_sends_own rules p (Repartition n) n (apart n) (Windowed f by w true) stands st a place.part)
         ∙ item_sent t (item_of_step p f t) (λ y e. item_time a p f y e)

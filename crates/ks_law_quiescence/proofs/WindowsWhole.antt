@@ -25,7 +25,7 @@ use Rattle.ks_def_tasks.specs.Messages.{Place, Message, Item, Store, Rules}
 use Rattle.ks_def_tasks.specs.Messages.Message.{Given, Keyed, Moved, Asked, Answered, Kept, KeptCount, KeptTime, KeptHash}
 use Rattle.ks_def_tasks.specs.Windowed.{Counted, count_window, count_group, count_item, greater, time_changes}
 use Rattle.ks_def_tasks.specs.Step.{Arrival, item_keyed, items_from, counted_at}
-use Rattle.ks_def_tasks.specs.Tasks.{machine, step, inputs_of, is_changelog}
+use Rattle.ks_def_tasks.specs.Tasks.{arrival, machine, step, inputs_of, is_changelog}
 use Rattle.ks_def_tasks.proofs.Names.{names, same_task-is, same_place-is}
 use Rattle.ks_law_quiescence.specs.Groups.{place_of}
 use Rattle.ks_law_quiescence.specs.States.{State, state_of, home_task}
@@ -123,7 +123,7 @@ module _ (rules : Rules) (p : Plan) (fits : Fits p) (n f : ℕ) (by : Option (Li
       late_pairs rules p n k (st.taken ++ t ∷ []) ≡ late_pairs rules p n k st.taken + late_of_step (st.stores ((machine rules p).reader t.place)) t
   late_push st follows t =
       let r = (machine rules p).reader t.place in
-      let a : Arrival = record { topic = t.place.topic; item = t.item } in
+      let a : Arrival = arrival p t.place t.item in
       let items = items_from a (λ m. None) 0 p.kinds in
       let store = (local lates r ((machine rules p).start r) st.taken).store in
       let is : store ≡ st.stores r = same_store r ((machine rules p).start r) st.taken ∙ sym (follows.stores r) in
@@ -157,7 +157,7 @@ module _ (rules : Rules) (p : Plan) (fits : Fits p) (n f : ℕ) (by : Option (Li
       now = record { sender = s; place = q; item = x }
 
       a : Arrival
-      a = record { topic = q.topic; item = x }
+      a = arrival p q x
 
       placed : Placed rules p (take_first (machine rules p) st s q (x ∷ rest))
       placed = placed_step rules p fits st s q (x ∷ rest) e h.placed

@@ -18,7 +18,7 @@ use Rattle.ks_query.specs.Aggregates.{stream_add}
 use Rattle.ks_def_tasks.specs.Messages.{Place, agg_of, Message, Item, Rules}
 use Rattle.ks_def_tasks.specs.Messages.Message.{Keyed}
 use Rattle.ks_def_tasks.specs.Step.{items_from}
-use Rattle.ks_def_tasks.specs.Tasks.{machine}
+use Rattle.ks_def_tasks.specs.Tasks.{arrival, machine}
 use Rattle.ks_def_tasks.specs.Collision.{IsNode}
 use Rattle.ks_law_quiescence.specs.Groups.{place_of}
 use Rattle.ks_law_quiescence.specs.WellFormed.{IsWellFormed}
@@ -27,7 +27,7 @@ use Rattle.ks_law_quiescence.specs.Taken.{messages}
 
 -- ---- the items that a stream node has passed on, in all tasks, in the order of the steps
 abbrev pub item_of_step : Plan → ℕ → Taken TaskId Place Item → Option StreamItem
-item_of_step p n t = items_from (record { topic = t.place.topic; item = t.item }) (λ m. None) 0 p.kinds n
+item_of_step p n t = items_from (arrival p t.place t.item) (λ m. None) 0 p.kinds n
 
 abbrev pub passed_on : Plan → ℕ → List (Taken TaskId Place Item) → List StreamItem
 passed_on p n ts = some_of (item_of_step p n) ts

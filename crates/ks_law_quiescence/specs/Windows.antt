@@ -9,7 +9,7 @@ use Rattle.ks_def_runs.specs.Run.{Machine, Taken, late_all}
 use Rattle.ks_query.specs.Grace.{is_open}
 use Rattle.ks_def_tasks.specs.Messages.Message.{Keyed}
 use Rattle.ks_def_tasks.specs.Step.{Arrival, item_into, items_from}
-use Rattle.ks_def_tasks.specs.Tasks.{machine, step}
+use Rattle.ks_def_tasks.specs.Tasks.{arrival, machine, step}
 use Rattle.ks_def_tasks.specs.Windowed.{greater}
 use Rattle.ks_law_quiescence.specs.Groups.{place_of}
 use Rattle.ks_law_quiescence.specs.Streams.{passed_on, all_waiting}
@@ -59,7 +59,7 @@ late_at k n st a items _ = 0
 abbrev pub counting : Rules → Plan → ℕ → WindowKey → Machine TaskId Place Store Item
 counting rules p n k = record (machine rules p) {
   step = λ u st q x.
-      let a : Arrival = record { topic = q.topic; item = x } in
+      let a : Arrival = arrival p q x in
       record (step rules p u st q x) { late = late_at k n st a (items_from a (λ m. None) 0 p.kinds) (kind_at p n) };
 }
 

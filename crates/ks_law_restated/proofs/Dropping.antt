@@ -15,7 +15,7 @@ use Rattle.ks_def_runs.specs.Run.{late_all}
 use Rattle.ks_def_tasks.specs.Messages.{Store, Rules}
 use Rattle.ks_def_tasks.specs.Windowed.{greater}
 use Rattle.ks_def_tasks.specs.Step.{Arrival, item_into, items_from}
-use Rattle.ks_def_tasks.specs.Tasks.{machine, step}
+use Rattle.ks_def_tasks.specs.Tasks.{arrival, machine, step}
 use Rattle.ks_law_quiescence.specs.Windows.{late_starts, late_of_group, late_of_item, late_at, counting}
 use Rattle.ks_law_restated.specs.Drops.{closed_windows, drops_of_group, drops_of_item, drops_at, drops_of_step, TakenRecords, drops_from, times_in, LatePairsAreDrops}
 
@@ -63,7 +63,7 @@ module _ (k : WindowKey) where
     records_dropped stores [] = refl
     records_dropped stores (t ∷ ts) =
         let u = (machine rules p).reader t.place in
-        let a : Arrival = record { topic = t.place.topic; item = t.item } in
+        let a : Arrival = arrival p t.place t.item in
         let next : TaskId → Store = λ v. cond (same_task v u) (step rules p u (stores u) t.place t.item).store (stores v) in
         ap₂ (λ c d. c + d) (node_dropped n (stores u) a (items_from a (λ m. None) 0 p.kinds) (kind_at p n)) (records_dropped next ts)
         ∙ sym (sum_by-append is_it (drops_of_step p n (stores u) t.place t.item) (drops_from rules p n next ts))

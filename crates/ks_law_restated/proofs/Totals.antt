@@ -19,7 +19,7 @@ use Rattle.ks_def_runs.proofs.Runs.{Follows-run}
 use Rattle.ks_def_tasks.specs.Messages.{Place, Item, Store, Rules}
 use Rattle.ks_def_tasks.specs.Windowed.{Counted, count_window, count_group, count_item, greater, time_changes}
 use Rattle.ks_def_tasks.specs.Step.{Arrival, item_into, items_from, counted_at, late_over}
-use Rattle.ks_def_tasks.specs.Tasks.{machine, step, inputs_of}
+use Rattle.ks_def_tasks.specs.Tasks.{arrival, machine, step, inputs_of}
 use Rattle.ks_def_tasks.proofs.Names.{names}
 use Rattle.ks_law_restated.specs.Drops.{closed_windows, drops_of_group, drops_of_item, drops_at, drops_of_step, TakenRecords, drops_from, LateIsAllDrops, LateCountIsAllDrops}
 
@@ -99,7 +99,7 @@ module _ (p : Plan) (f : ℕ → Kind → Counted) where
 module _ (rules : Rules) (p : Plan) where
   step_late : (st : Store) (q : Place) (x : Item) (u : TaskId) → (step rules p u st q x).late ≡ sum_by (λ n. length (drops_of_step p n st q x)) (up_to (length p.kinds))
   step_late st q x u =
-      let a : Arrival = record { topic = q.topic; item = x } in
+      let a : Arrival = arrival p q x in
       let items = items_from a (λ m. None) 0 p.kinds in
       sym (from_nothing _) ∙ nodes_late p (counted_at a items st) [] p.kinds refl
       ∙ ap (λ f. sum_by f (up_to (length p.kinds))) (fun_ext (λ n. node_late n st a items (kind_at p n)))

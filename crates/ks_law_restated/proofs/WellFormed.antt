@@ -7,7 +7,7 @@ use Rattle.std.proofs.lemmas.List.{length-map}
 use Rattle.std.proofs.lemmas.List.Sums.{fold-append}
 use Rattle.ks_expr.specs.Eval.{same_bytes}
 use Rattle.ks_plan.specs.declared.fault.TopoFault.TheVariants.{UnknownInput}
-use Rattle.ks_plan.specs.Drafts.{Name, OpView, StreamOf, TableOf, FilterOf, MapOf, KeyOf, CountOf, SumOf, WindowedOf, JoinOf, FkJoinOf, NodeView, DraftView}
+use Rattle.ks_plan.specs.Drafts.{Topics, Name, OpView, StreamOf, TableOf, FilterOf, MapOf, KeyOf, CountOf, SumOf, WindowedOf, JoinOf, FkJoinOf, NodeView, DraftView}
 use Rattle.ks_plan.specs.Plan.{Kind, Known, is_stream, known_of, learn, known_from, known_at, known_names, name_place, node_number}
 use Rattle.ks_plan.specs.Layout.{no_kind}
 use Rattle.ks_plan.specs.Faults.{Line, first_fitting, first_of, has_name, names_of, unknown_lines, inputs_in, node_table, nodes_fault, size_lines, print_fault}
@@ -66,7 +66,7 @@ abbrev kinds_of : List Known → List Kind
 kinds_of ks = map (λ k. k.kind) ks
 
 module _ (d : DraftView) where
-  abbrev ts : List (Name × ℤ)
+  abbrev ts : Topics
   ts = d.topics
 
   known_names_are : (ks : List Known) (ns : List NodeView) → known_names (fold (learn ts) ks ns) ≡ known_names ks ++ names_of ns

@@ -18,7 +18,7 @@ use Rattle.ks_def_runs.specs.Run.{Taken, late_all}
 use Rattle.ks_def_tasks.specs.Messages.{Place, Item, Store, Rules}
 use Rattle.ks_def_tasks.specs.Windowed.{greater}
 use Rattle.ks_def_tasks.specs.Step.{Arrival, item_into, items_from}
-use Rattle.ks_def_tasks.specs.Tasks.{machine, step}
+use Rattle.ks_def_tasks.specs.Tasks.{arrival, machine, step}
 use Rattle.ks_law_quiescence.specs.States.{state_of}
 use Rattle.ks_law_quiescence.specs.Windows.{late_pairs}
 
@@ -49,7 +49,7 @@ drops_at n st a items _ = []
 -- those that a task with this store drops at node n, when it takes this record
 abbrev pub drops_of_step : Plan → ℕ → Store → Place → Item → List WindowKey
 drops_of_step p n st q x =
-    let a : Arrival = record { topic = q.topic; item = x } in
+    let a : Arrival = arrival p q x in
     drops_at n st a (items_from a (λ m. None) 0 p.kinds) (kind_at p n)
 
 -- ---- a run

@@ -11,7 +11,7 @@ use Rattle.ks_row.specs.declared.record.Rec.{Rec}
 use Rattle.ks_row.specs.declared.record.PartId.{PartId}
 use Rattle.ks_row.specs.declared.record.TaskId.{TaskId}
 use Rattle.ks_wire.specs.Spelling.{time_key}
-use Rattle.ks_wire.specs.Reading.{agg_from, hash_from, time_from, window_key_from, subscription_key_from}
+use Rattle.ks_wire.specs.Reading.{agg_from, subscriber_from, time_from, window_key_from, subscription_key_from}
 use Rattle.ks_wire.specs.declared.values.Agg.{Agg}
 use Rattle.ks_expr.specs.Eval.{same_bytes}
 use Rattle.ks_plan.specs.declared.node.Topic.{Topic}
@@ -33,7 +33,7 @@ use Rattle.ks_def_tasks.specs.Messages.{Place, Stored, Message, Item, Store, Rul
 use Rattle.ks_def_tasks.specs.Messages.Message.{Given, Keyed, Moved, Asked, Answered, Kept, KeptCount, KeptTime, KeptHash}
 use Rattle.ks_def_tasks.specs.Windowed.{Counted, not_counted, greater, count_item}
 use Rattle.ks_def_tasks.specs.Step.{Arrival, Values, step_key, items_from, item_into, item_keyed, olds_at, value_at, values_from, tables_after, counted_at, subscribe_at}
-use Rattle.ks_def_tasks.specs.Tasks.{step, taker}
+use Rattle.ks_def_tasks.specs.Tasks.{arrival, step, taker}
 use Rattle.ks_def_tasks.specs.Bytes.{ByteStores, byte_step, rec_of, part_id, store_from, table_from, counts_from, time_of, hashes_from, pairs_of, map_from, stored_from, own_bytes, is_own, is_own_number, left_at}
 use Rattle.ks_def_tasks.specs.Laws.{IsTakenBy, IsReadAgain, AreBytes, FitsAsked, FitsCount, AllBelow}
 use Rattle.ks_def_tasks.proofs.Each.{AllOf}
@@ -47,12 +47,13 @@ use Rattle.ks_law_quiescence.proofs.Placed.{Owned}
 use Rattle.ks_law_topology.specs.Spelled.{IfThere}
 use Rattle.ks_law_topology.proofs.Writes.{comes, owned as items_owned}
 use Rattle.ks_law_kinds.specs.OfKind.{spells, is_counted, is_stored, is_of, is_of_kind, is_in_range}
-use Rattle.ks_law_kinds.specs.Fitting.{FitsRules, is_pair_of, are_pairs_of}
+use Rattle.ks_law_topology.specs.Work.{FitsRules}
+use Rattle.ks_law_kinds.specs.Fitting.{is_pair_of, are_pairs_of}
 use Rattle.ks_law_kinds.proofs.Stores.{bytes_in}
 use Rattle.ks_law_kinds.proofs.Arriving.{MessageFits}
 use Rattle.ks_law_kinds.proofs.Values.{ItemFits, into_fits}
 use Rattle.ks_law_kinds.proofs.Made.{AllUpTo, starts_up}
-use Rattle.ks_law_kinds.proofs.Kept.{held_after as bytes_held}
+use Rattle.ks_law_kinds.proofs.Kept.{held_after as bytes_held, test, tested}
 use Rattle.ks_law_settled.specs.Jobs.{HasParts}
 use Rattle.ks_law_settled.proofs.Lists.{at_node}
 use Rattle.ks_law_settled.proofs.Topics.{IsTopic, number_is}
@@ -60,7 +61,8 @@ use Rattle.ks_law_settled.specs.Jobs.{NodesHaveParts}
 use Rattle.ks_law_settled.proofs.Spelled.{Joins, FitsMessage, message_again, of_kind, FitsStored, stored_again}
 use Rattle.ks_law_settled.proofs.WholeNodes.{Whole, NodeIs, own_log, IsOwned, owned, table_log, hash_log}
 use Rattle.ks_law_settled.proofs.Agreeing.{IsNeat, StepAgrees, Agrees}
-use Rattle.ks_law_settled.proofs.Steps.{FitsItem, IsKept, Held, node_at, stream_stays, keeps, news, news_fit, olds_fit, arrives, in_time, its_fit, st_fits, stored_after, made_fit}
+use Rattle.ks_law_settled.proofs.Steps.{FitsItem, IsKept, Held, node_at, stream_stays, keeps, news, news_fit, olds_fit, arrives, in_time, its_fit, st_fits, stored_after, made_fit, kept_join}
+use Rattle.ks_wire.specs.declared.values.Subscriber.{Subscriber}
 
 -- a number past these nodes keeps its value
 beyond : (rules : Rules) (a : Arrival) (items : ℕ → Option StreamItem) (olds news : Values) (n : ℕ) (ks : List Kind) (c : ℕ) → n + length ks < suc c → values_from rules a items olds news n ks c ≡ news c
@@ -170,7 +172,7 @@ module _ (rules : Rules) (p : Plan) where
         by false o = refl
 
     hashes_none : (sub : ℕ) (b : ByteStores) (n : ℕ) (k : Key) → b (number_of p (HashChangelog n)) ≡ no_bytes → hashes_from p sub b n k ≡ fin.empty
-    hashes_none sub b n k e = ap (map_from by_bytes (λ c. left_at k (subscription_key_from c)) hash_from) (pairs_none sub b (HashChangelog n) e)
+    hashes_none sub b n k e = ap (map_from by_bytes (λ c. left_at k (subscription_key_from c)) subscriber_from) (pairs_none sub b (HashChangelog n) e)
 
     -- ---- keys of stores are bytes
     counted_key : (k v : List ℕ) → is_counted (Some k) (Some v) ≡ true → IsBytes k
@@ -192,10 +194,10 @@ module _ (rules : Rules) (p : Plan) where
     hash_keys n [] h = tt
     hash_keys n (e ∷ es) h =
         let both = and_parts (is_pair_of p (Some (HashChangelog n)) e) (are_pairs_of p (Some (HashChangelog n)) es) h in
-        (bytes_in subscription_key_from e.0 (and_parts (spells subscription_key_from e.0) (spells hash_from e.1) both.0).0, hash_keys n es both.1)
+        (bytes_in subscription_key_from e.0 (and_parts (spells subscription_key_from e.0) (spells subscriber_from e.1) both.0).0, hash_keys n es both.1)
 
     asked_fits : (m : Message) → MessageFits m → FitsAsked m
-    asked_fits (Asked b k s) h = ((h.0, h.1), h.2)
+    asked_fits (Asked b k s) h = ((h.0, h.1), h.2, h.3)
     asked_fits (Given k v) h = tt
     asked_fits (Keyed g row) h = tt
     asked_fits (Moved g d) h = tt
@@ -230,15 +232,15 @@ module _ (rules : Rules) (p : Plan) where
     own_number : (l : Topic) (sub : ℕ) → IsOwned p whole l → reads p l ≡ sub → is_own_number p sub (number_of p l) ≡ true
     own_number l sub o e = number_is (number_of p l) (changelog_numbers p sub) ∙ subst (λ s. has_topic (number_of p l) (changelog_numbers p s) ≡ true) e o.own
 
-    module _ (t : TaskId) (stores : ByteStores) (q : Place) (x : Item) (topic : IsTopic p q.topic) (takes : taker p q.topic ≡ t.sub) (neat : IsNeat p t.sub stores) (held : Held rules p t stores) (fit : FitsItem rules p q x) where
+    module _ (t : TaskId) (stores : ByteStores) (q : Place) (x : Item) (topic : IsTopic p q.topic) (takes : taker p q.topic ≡ t.sub) (same : q.part ≡ t.part) (neat : IsNeat p t.sub stores) (held : Held rules p t stores) (fit : FitsItem rules p q x) where
       abbrev before : Store
       before = store_from p t.sub stores
 
-      abbrev arrival : Arrival
-      arrival = record { topic = q.topic; item = x }
+      abbrev arr : Arrival
+      arr = arrival p q x
 
       abbrev all_items : ℕ → Option StreamItem
-      all_items = items_from arrival (λ n. None) 0 p.kinds
+      all_items = items_from arr (λ n. None) 0 p.kinds
 
       abbrev after : Outcome PartId ByteStores Rec
       after = byte_step rules p t stores (part_id p q) (rec_of x)
@@ -270,7 +272,7 @@ module _ (rules : Rules) (p : Plan) where
       stays (Some k) n e = ⊎_elim within past (cases_lt n (length p.kinds))
         where
           past : length p.kinds ≤ n → step_news (Some k) n ≡ olds_at before (Some k) n
-          past le = beyond rules arrival all_items (olds_at before (Some k)) (olds_at before (Some k)) 0 p.kinds n (omega (arith, le))
+          past le = beyond rules arr all_items (olds_at before (Some k)) (olds_at before (Some k)) 0 p.kinds n (omega (arith, le))
 
           within : n < length p.kinds → step_news (Some k) n ≡ olds_at before (Some k) n
           within lt = by (is_stream (kind_at p n)) refl
@@ -307,17 +309,17 @@ module _ (rules : Rules) (p : Plan) where
       -- ---- windowed counts
       -- nothing comes to one that the task doesn't keep
       counted_stays : (n f : ℕ) (by : Option (List ℕ)) (w : Window) (through : Bool) → Nodes n (Windowed f by w through) →
-          (counted_at arrival all_items before n (Windowed f by w through) ≡ not_counted (before.times n) (before.counts n)) ⊎ (sub_of p n ≡ t.sub)
-      counted_stays n f by w true node = comes rules p whole.fits arrival t.sub takes before (Repartition n) (λ m. count_item w (before.times n) (before.counts n) (item_keyed x.time m))
+          (counted_at arr all_items before n (Windowed f by w through) ≡ not_counted (before.times n) (before.counts n)) ⊎ (sub_of p n ≡ t.sub)
+      counted_stays n f by w true node = comes rules p whole.fits arr t.sub takes before (Repartition n) (λ m. count_item w (before.times n) (before.counts n) (item_keyed x.time m))
       counted_stays n f by w false node = ⊎_elim
           (λ (e : all_items f ≡ None). inl (ap (λ o. count_item w (before.times n) (before.counts n) o) e))
           (λ (o : Owned rules p q.topic f). let b = node.fits.1 refl in inr (sym b.sub ∙ sym o.sub ∙ takes))
-          (items_owned rules p whole.fits arrival t.sub takes before f)
+          (items_owned rules p whole.fits arr t.sub takes before f)
 
       -- what one takes is within its bounds
-      fits_count : (n f : ℕ) (w : Window) (through : Bool) → (y : StreamItem) → item_into arrival all_items n f through ≡ Some y → FitsCount w (before.times n) y
+      fits_count : (n f : ℕ) (w : Window) (through : Bool) → (y : StreamItem) → item_into arr all_items n f through ≡ Some y → FitsCount w (before.times n) y
       fits_count n f w through y e =
-          let fits : ItemFits y = subst (IfThere ItemFits) e (into_fits rules p arrival (arrives rules p whole has_parts have good t stores q x takes held fit) (in_time rules p whole has_parts have good t stores q x takes held fit) all_items (its_fit rules p whole has_parts have good t stores q x takes held fit) n f through) in
+          let fits : ItemFits y = subst (IfThere ItemFits) e (into_fits rules p arr (arrives rules p whole has_parts have good t stores q x takes held fit) (in_time rules p whole has_parts have good t stores q x takes held fit) all_items (its_fit rules p whole has_parts have good t stores q x takes held fit) n f through) in
           record {
             key = λ g k. subst (IfThere IsKey) k fits.key;
             time = greater_below (before.times n) y.time ((st_fits rules p whole has_parts have good t stores q x takes held fit).times n) fits.time;
@@ -352,9 +354,9 @@ module _ (rules : Rules) (p : Plan) where
 
         away : is_own_number p t.sub (number_of p (Changelog n)) ≡ false → CountsAre n
         away e =
-            let same : counted_at arrival all_items before n (kind_at p n) ≡ not_counted (before.times n) (before.counts n) =
-            ap (counted_at arrival all_items before n) k.is ∙ ⊎_elim
-            (λ (s : counted_at arrival all_items before n (Windowed k.f k.by k.w k.through) ≡ not_counted (before.times n) (before.counts n)). s)
+            let same : counted_at arr all_items before n (kind_at p n) ≡ not_counted (before.times n) (before.counts n) =
+            ap (counted_at arr all_items before n) k.is ∙ ⊎_elim
+            (λ (s : counted_at arr all_items before n (Windowed k.f k.by k.w k.through) ≡ not_counted (before.times n) (before.counts n)). s)
             (λ (s : sub_of p n ≡ t.sub). absurd (true≢false (sym (own_number (Changelog n) t.sub log s) ∙ e)))
             (counted_stays n k.f k.by k.w k.through node) in
             record {
@@ -367,7 +369,7 @@ module _ (rules : Rules) (p : Plan) where
         where
           plain : is_windowed (kind_at p n) ≡ false → CountsAre n
           plain w =
-              let same = none_counted arrival all_items before n (kind_at p n) w in
+              let same = none_counted arr all_items before n (kind_at p n) w in
               let none : (b : ByteStores) → counts_from p t.sub b n ≡ fin.empty = λ b. ap (λ c. cond c (map_from by_window window_key_from agg_from (pairs_of p t.sub b (Changelog n))) fin.empty) w in
               let no_time : (b : ByteStores) → time_of p t.sub b n ≡ None = λ b. ap (λ c. cond c (fin.get (own_bytes p t.sub b (Changelog n)) time_key >>= time_from) None) w in
               record {
@@ -419,13 +421,14 @@ module _ (rules : Rules) (p : Plan) where
           by false e = away e ∙ hashes_none t.sub stores n k (neat _ e) ∙ sym (hashes_none t.sub after.store n k (neat_after _ e))
 
       -- ---- what the bytes are afterwards
-      of_its_kind : (is_of_kind p (part_id p q) (rec_of x) && is_in_range x.time) ≡ true
-      of_its_kind = and_from (is_of_kind p (part_id p q) (rec_of x)) (is_in_range x.time) (ap (λ o. is_of p o (rec_of x).key (rec_of x).value) topic.there ∙ of_kind p q.topic x.message fit.1) fit.2
+      of_its_kind : test p (part_id p q) (rec_of x) ≡ true
+      of_its_kind = tested p (part_id p q) (rec_of x) (ap (λ o. is_of p o (rec_of x).key (rec_of x).value) topic.there ∙ of_kind p q.topic x.message fit.1) fit.2 (omega (arith, fit.0.part, whole.few q.topic))
 
       held_after : Held rules p t after.store
       held_after = (
-        bytes_held p rules good whole.spelled t stores held.0 (part_id p q) (rec_of x) of_its_kind,
+        bytes_held p rules good whole.spelled whole.few t stores held.0 (part_id p q) (rec_of x) same of_its_kind,
         λ n k y e. stored_after rules p whole has_parts have good t stores q x takes held fit (step_key x.message) n k y (ap (λ (m : FinMap by_bytes Stored). fin.get m k) (tables_are n) ∙ e),
+        λ n b k y e. kept_join rules p whole has_parts have good t stores q x takes held fit n b k y (ap (λ (m : FinMap by_bytes Subscriber). fin.get m k) (hashes_are n b) ∙ e),
       )
 
       step_agrees : StepAgrees rules p (FitsItem rules p) (IsKept rules p) (Held rules p) t stores q x
@@ -439,12 +442,16 @@ module _ (rules : Rules) (p : Plan) where
     -- the runs of a plan agree
     pub all_agree : Agrees rules p (FitsItem rules p) (IsKept rules p) (Held rules p)
     all_agree = record {
-      start = λ t. (λ n. ap (are_pairs_of p (topic_at p n)) no_entries, λ n k y e. absurd (nothing_there (sym (ap (λ (m : FinMap by_bytes Stored). fin.get m k) (table_none t.sub (λ m. no_bytes) n refl) ∙ fin.get-empty by_bytes k) ∙ e)));
+      start = λ t. (
+        λ n. ap (are_pairs_of p (topic_at p n)) no_entries,
+        λ n k y e. absurd (nothing_there (sym (ap (λ (m : FinMap by_bytes Stored). fin.get m k) (table_none t.sub (λ m. no_bytes) n refl) ∙ fin.get-empty by_bytes k) ∙ e)),
+        λ n b k y e. absurd (nothing_there (sym (ap (λ (m : FinMap by_bytes Subscriber). fin.get m k) (hashes_none t.sub (λ m. no_bytes) n b refl) ∙ fin.get-empty by_bytes k) ∙ e)),
+      );
       begin = λ sub i. record {
         tables = λ n. sym (table_none sub (λ m. no_bytes) n refl) i;
         counts = λ n. sym (counts_none sub (λ m. no_bytes) n refl) i;
         times = λ n. sym (time_none sub (λ m. no_bytes) n refl) i;
         hashes = λ n k. sym (hashes_none sub (λ m. no_bytes) n k refl) i;
       };
-      each = λ t stores q x topic takes same neat held fit. step_agrees t stores q x topic takes neat held fit;
+      each = λ t stores q x topic takes same neat held fit. step_agrees t stores q x topic takes same neat held fit;
     }

@@ -28,7 +28,7 @@ use Rattle.ks_def_tasks.specs.Messages.{Place, Item, Store, Rules}
 use Rattle.ks_def_tasks.specs.Messages.Message.{KeptCount}
 use Rattle.ks_def_tasks.specs.Windowed.{Counted, greater, count_window, time_changes, count_group, count_item}
 use Rattle.ks_def_tasks.specs.Step.{Arrival, items_from, item_into, counted_at, late_over}
-use Rattle.ks_def_tasks.specs.Tasks.{machine, step, inputs_of}
+use Rattle.ks_def_tasks.specs.Tasks.{arrival, machine, step, inputs_of}
 use Rattle.ks_law_quiescence.specs.States.{State, state_of}
 
 -- ---- windows of one time
@@ -210,7 +210,7 @@ module _ (rules : Rules) (p : Plan) (fit : AllByRecursion FitsWindow p.kinds) wh
   module _ (few : length p.kinds ≤ 64) where
     step_late : (u : TaskId) (st : Store) (q : Place) (x : Item) → (step rules p u st q x).late ≤ 64000
     step_late u st q x =
-        let a : Arrival = record { topic = q.topic; item = x } in
+        let a : Arrival = arrival p q x in
         omega (arith, nodes_late a (items_from a (λ n. None) 0 p.kinds) st 0 p.kinds fit, few)
 
     abbrev net : Machine TaskId Place Store Item

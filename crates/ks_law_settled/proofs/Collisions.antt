@@ -14,7 +14,8 @@ use Rattle.ks_row.specs.Parts.{same_part}
 use Rattle.ks_expr.specs.declared.terms.JoinKind.{JoinKind}
 use Rattle.ks_expr.specs.Terms.{Set}
 use Rattle.ks_expr.specs.Eval.{Row, same_bytes}
-use Rattle.ks_plan.specs.Drafts.{Name, DraftView}
+use Rattle.ks_expr.specs.declared.terms.Fk.{Fk}
+use Rattle.ks_plan.specs.Drafts.{DraftView}
 use Rattle.ks_plan.specs.Plan.{Plan, Kind, plan_of, is_stream, is_windowed}
 use Rattle.ks_plan.specs.Plan.Kind.{ForeignKeyJoin}
 use Rattle.ks_plan.specs.declared.node.Topic.TheVariants.{Input as InputTopic, Changelog}
@@ -36,12 +37,12 @@ use Rattle.ks_def_tasks.specs.Collision.{past, had_in, rows_had, In, NoneCollide
 use Rattle.ks_def_tasks.proofs.Same.{bytes-is, row-is}
 use Rattle.ks_def_tasks.proofs.Each.{AllOf, all_left, all_right}
 use Rattle.ks_law_quiescence.specs.States.{State as RunOf}
-use Rattle.ks_plan.specs.Layout.{parts_of_topic, input_topics, by_node, through_topics, changelogs_of}
+use Rattle.ks_plan.specs.Layout.{spread_of, spread_of_topic, input_topics, by_node, through_topics, changelogs_of}
 use Rattle.ks_def_tasks.proofs.Numbered.{length_up_to, get_first, get_up_to, get_map}
 use Rattle.std.proofs.lemmas.List.{length-map}
 use Rattle.std.proofs.lemmas.Bool.{eq-eqb}
 use Rattle.ks_wire.specs.Reading.{long_key_at}
-use Rattle.ks_law_topology.specs.Placing.{is_at_group, placed_by}
+use Rattle.ks_law_topology.specs.Placing.{is_at_group, is_placed, placed_by}
 use Rattle.ks_law_settled.specs.Jobs.{produced_part, produced_rec}
 use Rattle.ks_law_fk_quiescence.specs.AtRest.{is_table}
 use Rattle.ks_law_fk_quiescence.proofs.TableInputs.{is_table_at, TableInputs, EachInputs, table_inputs}
@@ -313,7 +314,7 @@ table_before [] ys l e = absurd (true≢false (sym e))
 table_before (x ∷ xs) ys zero e = refl
 table_before (x ∷ xs) ys (suc l) e = table_before xs ys l e
 
-left_among : (before ks : List Kind) → EachInputs before ks → (n l r : ℕ) (fk : Name) (kind : JoinKind) (set : Set) → slice_get ks n ≡ Some (ForeignKeyJoin l r fk kind set) → is_table_at (before ++ ks) l ≡ true
+left_among : (before ks : List Kind) → EachInputs before ks → (n l r : ℕ) (fk : Fk) (kind : JoinKind) (set : Set) → slice_get ks n ≡ Some (ForeignKeyJoin l r fk kind set) → is_table_at (before ++ ks) l ≡ true
 left_among before [] h n l r fk kind set e = absurd (none_some e)
 left_among before (k ∷ ks) h zero l r fk kind set e =
     let is : k ≡ ForeignKeyJoin l r fk kind set = same_some e in
@@ -335,7 +336,7 @@ module _ (rules : Rules) (d : DraftView) (records : List Input) (journal : List 
   whole : Whole p
   whole = answer.whole rules d records journal ended
 
-  module _ (n l r : ℕ) (fk : Name) (kind : JoinKind) (set : Set) (is : IsNode p n (ForeignKeyJoin l r fk kind set)) where
+  module _ (n l r : ℕ) (fk : Fk) (kind : JoinKind) (set : Set) (is : IsNode p n (ForeignKeyJoin l r fk kind set)) where
     pub left_is : is_table (kind_at p l) ≡ true
     left_is = left_among [] p.kinds (table_inputs d ended.job.well) n l r fk kind set is
 
@@ -403,11 +404,11 @@ module _ (rules : Rules) (d : DraftView) (records : List Input) (journal : List 
       ∙ get_map InputTopic (up_to (length p.counts)) t t (get_up_to (length p.counts) t lt)
 
   one_stands : (r : Input) → FitsInput p r → stands rules p (produced_part rules p r) (produced_rec r) ≡ true
-  one_stands r h = ap (placed_by rules p (part_of_key rules p (InputTopic r.topic) r.key) r.key) (input_at r.topic h.topic) ∙ by r.key
+  one_stands r h = ap (placed_by rules p (part_of_key rules p (InputTopic r.topic) r.key) (produced_rec r)) (input_at r.topic h.topic) ∙ by r.key
     where
-      by : (o : Option Key) → placed_by rules p (part_of_key rules p (InputTopic r.topic) o) o (Some (InputTopic r.topic)) ≡ true
+      by : (o : Option Key) → is_placed rules p (InputTopic r.topic) (part_of_key rules p (InputTopic r.topic) o) o (produced_rec r).value ≡ true
       by None = refl
-      by (Some k) = eq-eqb (rules.part k (parts_of_topic p (InputTopic r.topic))) (rules.part k (parts_of_topic p (InputTopic r.topic))) refl
+      by (Some k) = eq-eqb (rules.part k (spread_of_topic p (InputTopic r.topic))) (rules.part k (spread_of_topic p (InputTopic r.topic))) refl
 
   all_stand : (q : PartId) (rs : List Input) → FitInputs p rs → FitIn (stands rules p) q (records_at q (map (produced_of rules p) rs))
   all_stand q [] h = tt
@@ -419,7 +420,7 @@ module _ (rules : Rules) (d : DraftView) (records : List Input) (journal : List 
       by false e more = more
 
   decided_stands : (q : PartId) → FitIn (stands rules p) q (recs (decided s q))
-  decided_stands = decided_stand rules d journal ended.job.well ended.done.history
+  decided_stands = decided_stand rules d journal ended.job.well (record { keys = ended.job.parts; nodes = ended.job.have }) ended.done.history
       (λ q. subst (FitIn (stands rules p) q) (sym (produced_is journal q ∙ ap (records_at q) ended.done.produced)) (all_stand q records ended.job.inputs))
 
   none_beyond : (l : ℕ) → l < length p.kinds → is_stream (kind_at p l) ≡ false → is_windowed (kind_at p l) ≡ false → (part : ℕ) → parts_of p l ≤ part → decided_records s (log_part p l part) ≡ []
@@ -428,16 +429,16 @@ module _ (rules : Rules) (d : DraftView) (records : List Input) (journal : List 
       there : topic_at p (number_of p (Changelog l)) ≡ Some (Changelog l)
       there = (table_owned rules p whole ended.job.parts ended.job.have ended.job.hashes l within table).there
 
-      at_key : (o : Option Key) → placed_by rules p part o (Some (Changelog l)) ≡ true → ⊥
-      at_key None e = absurd (true≢false (sym e))
-      at_key (Some k) e =
-          let is : part ≡ rules.part k (parts_of p l) = eqb-true part (rules.part k (parts_of p l)) (sym (ap (λ w. cond w (is_at_group rules p l part k (long_key_at k)) (part == rules.part k (parts_of p l))) plain) ∙ e) in
-          let below : rules.part k (parts_of p l) < parts_of p l = ended.job.parts k (parts_of p l) (ended.job.have l within) in
+      at_key : (o value : Option (List ℕ)) → is_placed rules p (Changelog l) part o value ≡ true → ⊥
+      at_key None value e = absurd (true≢false (sym e))
+      at_key (Some k) value e =
+          let is : part ≡ rules.part k (spread_of p l) = eqb-true part (rules.part k (spread_of p l)) (sym (ap (λ w. cond w (is_at_group rules p l part k (long_key_at k)) (part == rules.part k (spread_of p l))) plain) ∙ e) in
+          let below : rules.part k (spread_of p l) < parts_of p l = ended.job.parts k (spread_of p l) (ended.job.have l within) in
           absurd (omega (arith, is, below, le))
 
       by : (xs : List Logged) → FitIn (stands rules p) (log_part p l part) (recs xs) → xs ≡ []
       by [] h = refl
-      by (x ∷ xs) h = absurd (at_key x.rec.key (sym (ap (placed_by rules p part x.rec.key) there) ∙ h.0))
+      by (x ∷ xs) h = absurd (at_key x.rec.key x.rec.value (sym (ap (placed_by rules p part x.rec) there) ∙ h.0))
 
   -- ---- where the search finds nothing there is nothing
   none_in_parts : (l : ℕ) (parts : List ℕ) → in_parts rules.hash p s l parts ≡ None → AllOf (λ part. NonePaired rules.hash (kind_at p l) (decided_records s (log_part p l part))) parts
@@ -446,7 +447,7 @@ module _ (rules : Rules) (d : DraftView) (records : List Input) (journal : List 
       let both = none_of (first_in rules.hash (kind_at p l) (decided_records s (log_part p l part))) (in_parts rules.hash p s l parts) e in
       (none_first rules.hash (kind_at p l) (decided_records s (log_part p l part)) both.0, none_in_parts l parts both.1)
 
-  none_of_nodes : (m : ℕ) (ks : List Kind) → of_nodes rules.hash p s m ks ≡ None → (i l r : ℕ) (fk : Name) (kind : JoinKind) (set : Set) → slice_get ks i ≡ Some (ForeignKeyJoin l r fk kind set) → in_parts rules.hash p s l (up_to (parts_of p l)) ≡ None
+  none_of_nodes : (m : ℕ) (ks : List Kind) → of_nodes rules.hash p s m ks ≡ None → (i l r : ℕ) (fk : Fk) (kind : JoinKind) (set : Set) → slice_get ks i ≡ Some (ForeignKeyJoin l r fk kind set) → in_parts rules.hash p s l (up_to (parts_of p l)) ≡ None
   none_of_nodes m [] e i l r fk kind set is = absurd (none_some is)
   none_of_nodes m (k ∷ ks) e zero l r fk kind set is =
       let both = none_of (of_node rules.hash p s m k) (of_nodes rules.hash p s (suc m) ks) e in
@@ -475,7 +476,7 @@ module _ (rules : Rules) (d : DraftView) (records : List Input) (journal : List 
     pub i : ℕ
     pub l : ℕ
     pub r : ℕ
-    pub fk : Name
+    pub fk : Fk
     pub kind : JoinKind
     pub set : Set
     pub is : slice_get ks i ≡ Some (ForeignKeyJoin l r fk kind set)

@@ -5,7 +5,8 @@ use Rattle.ks_row.specs.declared.record.TaskId.{TaskId}
 use Rattle.ks_row.specs.Parts.{same_task}
 use Rattle.ks_expr.specs.declared.terms.JoinKind.{JoinKind}
 use Rattle.ks_expr.specs.Terms.{Set}
-use Rattle.ks_plan.specs.Drafts.{DraftView, Name}
+use Rattle.ks_expr.specs.declared.terms.Fk.{Fk}
+use Rattle.ks_plan.specs.Drafts.{DraftView}
 use Rattle.ks_plan.specs.Plan.{Plan, plan_of}
 use Rattle.ks_plan.specs.Plan.Kind.{ForeignKeyJoin}
 use Rattle.ks_def_runs.specs.FinMap as fin
@@ -24,7 +25,7 @@ use Rattle.ks_law_quiescence.specs.States.{row_at, home_task, State as RunOf}
 use Rattle.ks_law_quiescence.specs.AtRest.{IsQuery}
 use Rattle.ks_law_quiescence.proofs.Fits.{Fits, node_stands}
 use Rattle.ks_law_quiescence.proofs.WellFormed.{well_formed_fits}
-use Rattle.ks_law_fk_quiescence.specs.AtRest.{hash_for}
+use Rattle.ks_law_fk_quiescence.specs.AtRest.{subscriber_for}
 use Rattle.ks_law_fk_quiescence.proofs.TableInputs.{table_inputs}
 use Rattle.ks_law_fk_quiescence.proofs.TablesRest.{tables_rest}
 use Rattle.ks_law_fk_quiescence.proofs.JoinsRest.{hashes_rest}
@@ -65,7 +66,7 @@ module _ (rules : Rules) (d : DraftView) (records : List Input) (journal : List 
   }
 
   -- ---- subscription stores
-  module _ (found : first_pair rules.hash p s ≡ None) (n l r : ℕ) (fk : Name) (kind : JoinKind) (set : Set) (is : IsNode p n (ForeignKeyJoin l r fk kind set)) where
+  module _ (found : first_pair rules.hash p s ≡ None) (n l r : ℕ) (fk : Fk) (kind : JoinKind) (set : Set) (is : IsNode p n (ForeignKeyJoin l r fk kind set)) where
     alone : NoCollision rules p run
     alone = collisions.none_in_run rules d records journal ended (collisions.none_found rules d records journal ended found)
 
@@ -80,11 +81,11 @@ module _ (rules : Rules) (d : DraftView) (records : List Input) (journal : List 
         left_rests home k ∙ ap (λ c. cond c (fin.get ((query p records).tables l) k) None) ((same_task-is home home).1 refl)
 
     pub hashes_are : (u : TaskId) (b k : Key) → fin.get ((store_from p u.sub (folds setup s u)).hashes n b) k
-        ≡ cond (same_task u (home_task rules p r b)) (option_and_then (hash_for rules fk b) (fin.get ((query p records).tables l) k)) None
+        ≡ cond (same_task u (home_task rules p r b)) (option_and_then (subscriber_for rules p n fk b k) (fin.get ((query p records).tables l) k)) None
     hashes_are u b k =
         ap (λ (st : Store). fin.get (st.hashes n b) k) (sym (stores_are_folds u))
         ∙ hashes_rest rules p fits n l r fk kind set (node_stands p n (ForeignKeyJoin l r fk kind set) is) records (tables.choices rules d records journal ended) (tables.drained rules d records journal ended) alone u b k
-        ∙ ap (λ o. cond (same_task u (home_task rules p r b)) (option_and_then (hash_for rules fk b) o) None) (left_row k)
+        ∙ ap (λ o. cond (same_task u (home_task rules p r b)) (option_and_then (subscriber_for rules p n fk b k) o) None) (left_row k)
 
 pub runs_have_ended : RunsHaveEnded
 runs_have_ended rules d records journal ended = at_its_end rules d records journal ended

@@ -57,10 +57,10 @@ then_some : {A B : Type 0} (h : A → Option B) (o : Option A) (y : B) → optio
 then_some h None y e = absurd cc
 then_some h (Some x) y e = (x, refl, e)
 
--- ---- of one record: each node's item is among the query's
-module _ (records : List Input) (r : Input) (there : In r records) where
+-- ---- of one record, whatever partition its task's subscriptions name: each node's item is among the query's
+module _ (records : List Input) (r : Input) (names : ℕ → Option ℕ) (there : In r records) where
   abbrev a : Arrival
-  a = record { topic = InputTopic r.topic; item = item_of_input r }
+  a = record { topic = InputTopic r.topic; item = item_of_input r; names = names }
 
   abbrev AmongThese : (ℕ → Option StreamItem) → (ℕ → List StreamItem) → Type 0
   AmongThese items lists = (c : ℕ) (y : StreamItem) → items c ≡ Some y → In y (lists c)

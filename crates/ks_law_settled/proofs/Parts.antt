@@ -8,17 +8,11 @@ use Rattle.std.proofs.lemmas.Bool.{cases_lt}
 use Rattle.std.proofs.lemmas.List.Sums.{fold-append}
 use Rattle.ks_expr.specs.Eval.{same_bytes}
 use Rattle.ks_plan.specs.declared.fault.TopoFault.TheVariants.{UnknownInput}
-use Rattle.ks_plan.specs.Drafts.{Name, OpView, StreamOf, TableOf, FilterOf, MapOf, KeyOf, CountOf, SumOf, WindowedOf, JoinOf, FkJoinOf, NodeView, DraftView}
+use Rattle.ks_plan.specs.Drafts.{Topics, Name, OpView, StreamOf, TableOf, FilterOf, MapOf, KeyOf, CountOf, SumOf, WindowedOf, JoinOf, FkJoinOf, NodeView, DraftView}
 use Rattle.ks_plan.specs.Plan.{Kind, Known, is_stream, wiring_of, known_of, learn, known_from, known_at, known_nodes, node_number, topic_number, plan_of}
 use Rattle.ks_plan.specs.Plan.Kind.{StreamSource, TableSource, StreamFilter, TableFilter, StreamMap, TableMap, KeySelected, StreamAggregate, TableAggregate, Windowed, KeyJoin, ForeignKeyJoin}
 use Rattle.ks_plan.specs.Layout.{at, wired_parts, node_parts}
 use Rattle.ks_plan.specs.Faults.{Line, first_fitting, first_of, has_name, names_of, names_of_topics, inputs_in, topics_in, unknown_lines, node_table, nodes_fault, size_lines, print_fault}
-use Rattle.std.specs.Prelude.{slice_get, Some}
-use Rattle.ks_expr.specs.declared.terms.JoinKind.{JoinKind}
-use Rattle.ks_expr.specs.Terms.{Set}
-use Rattle.ks_plan.specs.Layout.{parts_of}
-use Rattle.ks_law_quiescence.proofs.Fits.{each_at, node_stands}
-use Rattle.ks_law_quiescence.proofs.WellFormed.{well_formed_fits}
 use Rattle.ks_law_quiescence.specs.WellFormed.{IsWellFormed}
 use Rattle.ks_def_tasks.proofs.Same.{bytes-is}
 use Rattle.ks_law_settled.specs.Jobs.{NodesHaveParts}
@@ -40,7 +34,7 @@ group_none (g ∷ gs) e zero = (none_of (first_fitting g) (first_of gs) e).0
 group_none (g ∷ gs) e (suc i) = group_none gs (none_of (first_fitting g) (first_of gs) e).1 i
 
 -- ---- numbers of topics
-number_most : (ts : List (Name × ℤ)) (t : Name) → topic_number ts t ≤ length ts
+number_most : (ts : Topics) (t : Name) → topic_number ts t ≤ length ts
 number_most [] t = omega arith
 number_most (x ∷ xs) t = by (is_lt (slice_cmp nat_cmp x.0 t)) (number_most xs t)
   where
@@ -48,7 +42,7 @@ number_most (x ∷ xs) t = by (is_lt (slice_cmp nat_cmp x.0 t)) (number_most xs 
     by true e = omega (arith, e)
     by false e = omega (arith, e)
 
-topic_within : (ts : List (Name × ℤ)) (t : Name) → has_name (names_of_topics ts) t ≡ true → topic_number ts t < length ts
+topic_within : (ts : Topics) (t : Name) → has_name (names_of_topics ts) t ≡ true → topic_number ts t < length ts
 topic_within [] t e = cc
 topic_within (x ∷ xs) t e = by (same_bytes x.0 t) refl e (λ f. topic_within xs t f)
   where
@@ -172,17 +166,3 @@ module _ (d : DraftView) (some : (t : ℕ) → t < length d.topics → 1 ≤ at 
       let rest = (none_of (first_fitting (size_lines d)) _ well).1 in
       let nodes = (none_of (nodes_fault d [] d.nodes) (print_fault d [] d.print) rest).0 in
       nodes_have [] d.nodes nodes (λ i lt. absurd (omega (arith, lt))) n (omega (arith, lt, map_length (λ (k : Known). k.kind) (known_nodes d)))
-
-within_there : (ks : List Kind) (i : ℕ) (k : Kind) → slice_get ks i ≡ Some k → i < length ks
-within_there [] i k e = absurd cc
-within_there (x ∷ ks) zero k e = omega arith
-within_there (x ∷ ks) (suc i) k e = omega (arith, within_there ks i k e)
-
--- so have both sides of a join on a foreign key: what the ways of a record through a plan ask of it
-pub joins_have : (d : DraftView) → IsWellFormed d → NodesHaveParts (plan_of d) → (n l r : ℕ) (fk : Name) (kind : JoinKind) (set : Set) → slice_get (plan_of d).kinds n ≡ Some (ForeignKeyJoin l r fk kind set) →
-    (1 ≤ parts_of (plan_of d) n) × (1 ≤ parts_of (plan_of d) r)
-joins_have d well have n l r fk kind set e =
-    let p = plan_of d in
-    let node = each_at p 0 p.kinds n (ForeignKeyJoin l r fk kind set) (well_formed_fits d well) (node_stands p n (ForeignKeyJoin l r fk kind set) e) in
-    let within : n < length p.kinds = within_there p.kinds n (ForeignKeyJoin l r fk kind set) e in
-    (have n within, have r (omega (arith, within, node.1)))

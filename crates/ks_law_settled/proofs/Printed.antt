@@ -5,7 +5,7 @@ use Rattle.std.specs.List.{AllByRecursion}
 use Rattle.std.specs.Option.{option_or}
 use Rattle.ks_expr.specs.Eval.{same_bytes}
 use Rattle.ks_plan.specs.declared.fault.TopoFault.TheVariants.{UnknownInput, DuplicateName, WrongKind}
-use Rattle.ks_plan.specs.Drafts.{Name, NodeView, DraftView}
+use Rattle.ks_plan.specs.Drafts.{Topics, Name, NodeView, DraftView}
 use Rattle.ks_plan.specs.Plan.{Known, gives_stream, is_stream, known_of, learn, known_from, known_names, known_nodes, name_place, node_number, plan_of, nothing_known}
 use Rattle.ks_plan.specs.Layout.{kind_at, no_kind}
 use Rattle.ks_plan.specs.Faults.{Line, first_fitting, has_name, names_of, wiring_in, nodes_fault, print_lines, printed_fault, print_fault, size_lines}
@@ -40,7 +40,7 @@ map_length f [] = refl
 map_length f (x ∷ xs) = ap (λ n. suc n) (map_length f xs)
 
 module _ (d : DraftView) where
-  abbrev ts : List (Name × ℤ)
+  abbrev ts : Topics
   ts = d.topics
 
   names_are : (ks : List Known) (ns : List NodeView) → known_names (fold (learn ts) ks ns) ≡ known_names ks ++ names_of ns

@@ -8,7 +8,7 @@ use Rattle.ks_plan.specs.Drafts.{DraftView}
 use Rattle.ks_plan.specs.Plan.{Plan, plan_of}
 use Rattle.ks_plan.specs.Layout.{drain_order}
 use Rattle.ks_def_runs.specs.Run.{RunState, run}
-use Rattle.ks_query.specs.Streams.{Input}
+use Rattle.ks_query.specs.Streams.{Input, Key}
 use Rattle.ks_history.specs.declared.journal.Entry.{Entry}
 use Rattle.ks_history.specs.Machine.{network}
 use Rattle.ks_history.specs.Machine as history
@@ -17,27 +17,31 @@ use Rattle.ks_history.specs.History.{IsHistory}
 use Rattle.ks_history.specs.Replay.{replay, produced, run_of}
 use Rattle.ks_law_exactly_once.specs.Law.{OnInputs}
 use Rattle.ks_law_exactly_once.proofs.Replays.{is_run}
-use Rattle.ks_def_tasks.specs.Messages.{Place, Message, Item, Rules}
-use Rattle.ks_def_tasks.specs.Tasks.{inputs_of}
-use Rattle.ks_def_tasks.specs.Bytes.{ByteStores, rec_of}
+use Rattle.ks_def_tasks.specs.Messages.{Place, Message, Item, Rules, Subscription}
+use Rattle.ks_def_tasks.specs.Messages.Message.{Asked}
+use Rattle.ks_def_tasks.specs.Tasks.{taker, step, inputs_of}
+use Rattle.ks_def_tasks.specs.Bytes.{ByteStores, is_sent, store_from, rec_of}
 use Rattle.ks_def_tasks.proofs.Each.{AllOf}
 use Rattle.ks_law_quiescence.specs.States.{State, state_of}
 use Rattle.ks_law_quiescence.proofs.Fits.{Fits}
 use Rattle.ks_law_quiescence.proofs.WellFormed.{well_formed_fits}
-use Rattle.ks_law_topology.specs.Work.{setup_of}
+use Rattle.ks_law_topology.specs.Work.{setup_of, IsOfJoin}
 use Rattle.ks_law_topology.proofs.Networks.{works_are_networks}
 use Rattle.ks_law_topology.proofs.Kept.{nothing_is_held_back}
 use Rattle.ks_law_settled.specs.Jobs.{produces, produced_of, IsJob}
 use Rattle.ks_law_settled.specs.Replayed.{bytes_after, decoded_after, decoded_run, decoded_choices, item_in, IsDecoded, StatesAgree}
 use Rattle.ks_law_settled.proofs.Topics.{IsTopic, drawn_topics}
 use Rattle.ks_law_settled.proofs.Inputs.{inputs_are}
-use Rattle.ks_law_settled.proofs.Spelled.{message_again}
+use Rattle.ks_law_settled.proofs.Spelled.{message_again, FitsMessage}
 use Rattle.ks_law_settled.proofs.WholeNodes.{Whole}
 use Rattle.ks_law_settled.proofs.Agreeing.{Agrees}
 use Rattle.ks_law_settled.proofs.Steps.{FitsItem, IsKept, Held}
 use Rattle.ks_law_settled.proofs.Agreement.{all_agree}
 use Rattle.ks_law_settled.proofs.Runs.{Same, same_start, same_choices}
 use Rattle.ks_law_settled.proofs.Entering.{inputs_fit, none_at_logs, none_produced}
+use Rattle.ks_law_topology.proofs.Few.{have_few}
+use Rattle.ks_plan.specs.declared.node.Topic.TheVariants.{Subscriptions}
+use Rattle.std.specs.List.{filter}
 
 -- ---- lists
 first_on : (plan : history.TaskPlan) (n : ℕ) (cs : List (Option TaskId × PartId)) → OnInputs plan cs → OnInputs plan (take n cs)
@@ -66,7 +70,7 @@ module _ (rules : Rules) (d : DraftView) (records : List Input) (journal : List 
   fits = well_formed_fits d job.well
 
   whole : Whole p
-  whole = record { spelled = job.spelled; fits = fits }
+  whole = record { spelled = job.spelled; fits = fits; few = have_few d job.well }
 
   abbrev Alike : RunState TaskId PartId ByteStores Rec → State → Type 0
   Alike b st = Same rules p (FitsItem rules p) (IsKept rules p) (Held rules p) b st
@@ -77,9 +81,18 @@ module _ (rules : Rules) (d : DraftView) (records : List Input) (journal : List 
   on_inputs : OnInputs setup.plan (replay setup journal)
   on_inputs = (is_run setup journal (works_are_networks rules p) legal).0
 
+  -- nothing that a task makes is held back
+  none_back : (t : TaskId) (stores : ByteStores) (q : Place) (x : Item) → taker p q.topic ≡ t.sub → Held rules p t stores → FitsItem rules p q x →
+      filter (is_sent p t) (step rules p t (store_from p t.sub stores) q x).made ≡ (step rules p t (store_from p t.sub stores) q x).made
+  none_back t stores q x takes held fit = nothing_is_held_back rules d job.well (record { keys = job.parts; nodes = job.have }) t (store_from p t.sub stores) q x takes
+      (record { asked = asked; kept = held.2 })
+    where
+      asked : (n : ℕ) (b k : Key) (s : Subscription) → q.topic ≡ Subscriptions n → x.message ≡ Asked b k s → IsOfJoin p n s.part
+      asked n b k s e f = (subst (FitsMessage p (Subscriptions n)) f (subst (λ u. FitsMessage p u x.message) e fit.1)).5
+
   from_start : (cs : List (Option TaskId × PartId)) → OnInputs setup.plan cs → Alike (run (network setup.plan) (produced journal) cs) (state_of rules p records (decoded_choices p cs))
-  from_start cs on = same_choices rules p (FitsItem rules p) (IsKept rules p) (Held rules p) agrees (nothing_is_held_back rules d job.well) _ _
-      (same_start rules p (FitsItem rules p) (IsKept rules p) (Held rules p) agrees (nothing_is_held_back rules d job.well) (produced journal) (inputs_of rules p records)
+  from_start cs on = same_choices rules p (FitsItem rules p) (IsKept rules p) (Held rules p) agrees none_back _ _
+      (same_start rules p (FitsItem rules p) (IsKept rules p) (Held rules p) agrees none_back (produced journal) (inputs_of rules p records)
       (inputs_are rules p journal records made job.inputs)
       (inputs_fit rules p fits journal start records legal.legal made job.inputs job.range)
       (λ q there log. none_produced rules p q there log journal records made job.inputs)

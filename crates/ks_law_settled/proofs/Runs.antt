@@ -83,7 +83,8 @@ module _ (rules : Rules) (p : Plan) where
         by false f more = more
 
     module _ (agrees : Agrees rules p Fits Kept Held)
-        (held_back : (t : TaskId) (st : Store) (q : Place) (x : Item) → taker p q.topic ≡ t.sub → filter (is_sent p t) (step rules p t st q x).made ≡ (step rules p t st q x).made) where
+        (held_back : (t : TaskId) (stores : ByteStores) (q : Place) (x : Item) → taker p q.topic ≡ t.sub → Held t stores → Fits q x →
+        filter (is_sent p t) (step rules p t (store_from p t.sub stores) q x).made ≡ (step rules p t (store_from p t.sub stores) q x).made) where
       module _ (b : ByteState) (d : State) (h : Same b d) (s : Option TaskId) (q : Place) (topic : IsTopic p q.topic) (x : Item) (rest : List Item) (there : d.waiting s q ≡ x ∷ rest) where
         abbrev t : TaskId
         t = decoded.reader q
@@ -114,7 +115,7 @@ module _ (rules : Rules) (p : Plan) where
 
         made_is : byte_out.made ≡ spelled p out.made
         made_is = ap (λ (o : Outcome PartId ByteStores Rec). o.made) (is_decoded rules p t (b.stores t) (part_id p q) (rec_of x) q.topic x.message taken)
-            ∙ ap (spelled p) (held_back t st q x refl ∙ ap (λ (o : Outcome Place Store Item). o.made) (sym same_out))
+            ∙ ap (spelled p) (held_back t (b.stores t) q x refl (h.held t) list_fits.0 ∙ ap (λ (o : Outcome Place Store Item). o.made) (sym same_out))
 
         stores : (u : TaskId) → cond (same_task u t) out.store (d.stores u) ≡ store_from p u.sub (cond (same_task u t) byte_out.store (b.stores u))
         stores u = by (same_task u t) refl

@@ -1,138 +1,101 @@
--- What a step sends goes to topics that have partitions; what it writes, to changelogs of the plan.
+-- What a step sends goes to topics of the plan; what it writes, to changelogs of it.
 use Rattle.std.proofs.Common.{◌≡◌, ℕ, suc, ◌≤◌, Bool, true, false, cond, ◌⊎◌, inl, inr, List, [], ◌∷◌, ◌++◌, Option, Some, None, slice_get, refl, sym, ap, ap₂, subst, ◌∙◌, arith, nat_eq, ⊎_elim}
-use Rattle.std.specs.Prelude.{ℤ}
-use Rattle.std.specs.Ordering.{is_eq}
-use Rattle.std.specs.Cmp.{tied_itself, int_cmp_total}
-use Rattle.std.specs.Cmp.Lexicographic.{nat_list_cmp_total}
-use Rattle.std.proofs.lemmas.Bool.{and_from, true≢false}
+use Rattle.std.proofs.lemmas.Bool.{true≢false}
 use Rattle.std.proofs.lemmas.Bool.Decides.{Decides-eqb}
-use Rattle.std.proofs.lemmas.Option.{get_or_from_slice_get}
 use Rattle.ks_wire.specs.declared.values.Delta.{Delta}
-use Rattle.ks_wire.specs.declared.values.Response.{Response}
 use Rattle.ks_expr.specs.Eval.{Row}
+use Rattle.ks_expr.specs.declared.terms.Fk.{Fk}
 use Rattle.ks_plan.specs.declared.node.Topic.{Topic}
 use Rattle.ks_plan.specs.declared.node.Topic.TheVariants.{Repartition, Subscriptions, Responses, Changelog, HashChangelog}
 use Rattle.ks_plan.specs.Plan.{Plan, Kind, is_stream}
 use Rattle.ks_plan.specs.Plan.Kind.{StreamSource, TableSource, StreamFilter, TableFilter, StreamMap, TableMap, KeySelected, StreamAggregate, TableAggregate, Windowed, KeyJoin, ForeignKeyJoin}
-use Rattle.ks_plan.specs.Layout.{same_topic, parts_of, parts_of_topic, through_topics, changelogs_of, by_node, input_topics, topics_of, kind_at, no_kind, right_of}
+use Rattle.ks_plan.specs.Layout.{same_topic, through_topics, changelogs_of, by_node, input_topics, topics_of}
 use Rattle.ks_def_runs.specs.FinMap as fin
 use Rattle.ks_query.specs.Streams.{Key, StreamItem, group_key}
 use Rattle.ks_query.specs.Query.{with_number}
-use Rattle.ks_query.specs.Aggregates.{table_parts, share_under, same_share, deltas_of}
+use Rattle.ks_query.specs.Aggregates.{table_parts}
 use Rattle.ks_def_tasks.specs.Messages.{Stored, Subscription, Message, Store, Rules}
 use Rattle.ks_def_tasks.specs.Messages.Message.{Asked}
-use Rattle.ks_def_tasks.specs.Foreign.{subscriptions, answer_all}
+use Rattle.ks_def_tasks.specs.Foreign.{Sending, subscriptions, answer_all}
 use Rattle.ks_def_tasks.specs.Step.{Arrival, Sent, Written, Values, row_in, changed, arrived, step_key, sends_at, join_sends, regroup, keyed_to, send_deltas, send_subscriptions, send_responses, answer_one, write_all, value_changes, counted_at, hash_changes, changes_at, over_nodes, items_from, olds_at, news_at, value_at, values_from}
 use Rattle.ks_def_tasks.specs.Tasks.{is_changelog}
 use Rattle.ks_def_tasks.proofs.Names.{topic-is}
 use Rattle.ks_law_quiescence.proofs.Each.{Each, each_nothing, each_first, Each-append, Each-cond}
-use Rattle.ks_law_quiescence.proofs.Fits.{Fits, NodeFits, EachFits}
-use Rattle.ks_law_quiescence.proofs.Placed.{Owned, ItemsOwned, items_owned, values_owned}
 use Rattle.ks_law_topology.proofs.Writes.{nothing_changes}
-use Rattle.ks_law_settled.specs.Routes.{JoinsHaveParts}
-use Rattle.ks_law_settled.proofs.Nodes.{Among, among_left, among_right, Located, located, parts_from, subscribed_keeps}
+use Rattle.ks_law_settled.proofs.Nodes.{Among, among_left, among_right, Located, located, subscribed_keeps}
 
-share_itself : (s : Option (Key × ℤ)) → same_share s s ≡ true
-share_itself None = refl
-share_itself (Some a) = and_from _ _ (ap is_eq (tied_itself nat_list_cmp_total a.0)) (ap is_eq (tied_itself int_cmp_total a.1))
-
-no_parts : (by : List ℕ) (field : Option (List ℕ)) (row : Option Row) → table_parts by field row row ≡ []
-no_parts by field row = let s = share_under by field row in ap (λ c. cond c [] (deltas_of false s ++ deltas_of true s)) (share_itself s)
-
-module _ (rules : Rules) (p : Plan) (fits : Fits p) (joins : JoinsHaveParts p) (a : Arrival) (there : Among a.topic (topics_of p)) (some : 1 ≤ parts_of_topic p a.topic) (st : Store) where
+module _ (rules : Rules) (p : Plan) (a : Arrival) (there : Among a.topic (topics_of p)) (st : Store) where
   abbrev pub Goes : Sent → Type 0
-  Goes s = Among s.topic (topics_of p) × (1 ≤ parts_of_topic p s.topic)
+  Goes s = Among s.topic (topics_of p)
 
   abbrev items : ℕ → Option StreamItem
   items = items_from a (λ n. None) 0 p.kinds
 
-  owned : ItemsOwned rules p a (items_from a (λ n. None) 0 p.kinds)
-  owned = items_owned rules p a (λ n. None) 0 p.kinds (λ c. inl refl) fits
-
   -- ---- what is sent
-  deltas_go : (n : ℕ) (ds : List (Key × Delta)) → Among (Repartition n) (topics_of p) → 1 ≤ parts_of p n → Each Goes (send_deltas n ds)
-  deltas_go n [] h e = each_nothing Goes
-  deltas_go n (d ∷ ds) h e = each_first Goes _ _ (h, e) (deltas_go n ds h e)
+  deltas_go : (n : ℕ) (ds : List (Key × Delta)) → Among (Repartition n) (topics_of p) → Each Goes (send_deltas n ds)
+  deltas_go n [] h = each_nothing Goes
+  deltas_go n (d ∷ ds) h = each_first Goes _ _ h (deltas_go n ds h)
 
-  responses_go : (n : ℕ) (rs : List (Key × Response)) → Among (Responses n) (topics_of p) → 1 ≤ parts_of p n → Each Goes (send_responses n rs)
-  responses_go n [] h e = each_nothing Goes
-  responses_go n (r ∷ rs) h e = each_first Goes _ _ (h, e) (responses_go n rs h e)
+  responses_go : (n : ℕ) (rs : List Sending) → Among (Responses n) (topics_of p) → Each Goes (send_responses n rs)
+  responses_go n [] h = each_nothing Goes
+  responses_go n (r ∷ rs) h = each_first Goes _ _ h (responses_go n rs h)
 
-  subscriptions_go : (n : ℕ) (k : Key) (ss : List (Key × Subscription)) → Among (Subscriptions n) (topics_of p) → 1 ≤ parts_of p (right_of (kind_at p n)) → Each Goes (send_subscriptions n k ss)
-  subscriptions_go n k [] h e = each_nothing Goes
-  subscriptions_go n k (s ∷ ss) h e = each_first Goes _ _ (h, e) (subscriptions_go n k ss h e)
+  subscriptions_go : (n : ℕ) (k : Key) (ss : List (Key × Subscription)) → Among (Subscriptions n) (topics_of p) → Each Goes (send_subscriptions n k ss)
+  subscriptions_go n k [] h = each_nothing Goes
+  subscriptions_go n k (s ∷ ss) h = each_first Goes _ _ h (subscriptions_go n k ss h)
 
-  keyed_goes : (n : ℕ) (row : Row) (g : Option Key) → Among (Repartition n) (topics_of p) → 1 ≤ parts_of p n → Each Goes (keyed_to n row g)
-  keyed_goes n row None h e = each_nothing Goes
-  keyed_goes n row (Some g) h e = each_first Goes _ _ (h, e) (each_nothing Goes)
+  keyed_goes : (n : ℕ) (row : Row) (g : Option Key) → Among (Repartition n) (topics_of p) → Each Goes (keyed_to n row g)
+  keyed_goes n row None h = each_nothing Goes
+  keyed_goes n row (Some g) h = each_first Goes _ _ h (each_nothing Goes)
 
-  regroup_goes : (by : Option (List ℕ)) (n : ℕ) (x : Option StreamItem) → Among (Repartition n) (topics_of p) → (x ≡ None) ⊎ (1 ≤ parts_of p n) → Each Goes (regroup by n x)
-  regroup_goes by n None h e = each_nothing Goes
-  regroup_goes by n (Some x) h (inl e) = absurd cc
-  regroup_goes by n (Some x) h (inr e) = keyed_goes n x.row (group_key by x) h e
+  regroup_goes : (by : Option (List ℕ)) (n : ℕ) (x : Option StreamItem) → Among (Repartition n) (topics_of p) → Each Goes (regroup by n x)
+  regroup_goes by n None h = each_nothing Goes
+  regroup_goes by n (Some x) h = keyed_goes n x.row (group_key by x) h
 
-  answers_go : (n r : ℕ) (m : Option Message) → Among (Responses n) (topics_of p) → 1 ≤ parts_of p n → Each Goes (answer_one n st r m)
-  answers_go n r None h e = each_nothing Goes
-  answers_go n r (Some (Asked b k s)) h e = responses_go n _ h e
-  answers_go n r (Some _) h e = each_nothing Goes
+  answers_go : (n r : ℕ) (m : Option Message) → Among (Responses n) (topics_of p) → Each Goes (answer_one n st r m)
+  answers_go n r None h = each_nothing Goes
+  answers_go n r (Some (Asked b k s)) h = responses_go n _ h
+  answers_go n r (Some _) h = each_nothing Goes
 
-  -- a node before this one that the arrival reached has partitions
-  owned_some : (f : ℕ) → Owned rules p a.topic f → 1 ≤ parts_of p f
-  owned_some f o = omega (arith, some, o.parts)
+  module _ (olds news : Values) where
+    through_goes : (by : Option (List ℕ)) (f n : ℕ) (through : Bool) → (through ≡ true → Among (Repartition n) (topics_of p)) → Each Goes (cond through (regroup by n (items f)) [])
+    through_goes by f n true h = regroup_goes by n (items f) (h refl)
+    through_goes by f n false h = each_nothing Goes
 
-  module _ (olds news : Values) (kept : (c : ℕ) → (news c ≡ olds c) ⊎ Owned rules p a.topic c) where
-    through_goes : (by : Option (List ℕ)) (f n : ℕ) (through : Bool) → (through ≡ true → Among (Repartition n) (topics_of p)) → parts_of p n ≡ parts_of p f → Each Goes (cond through (regroup by n (items f)) [])
-    through_goes by f n true h same = regroup_goes by n (items f) (h refl) (⊎_elim (λ (e : items f ≡ None). inl e) (λ (o : Owned rules p a.topic f). inr (omega (arith, same, owned_some f o))) (owned f))
-    through_goes by f n false h same = each_nothing Goes
+    join_goes : (fk : Fk) (part : Option ℕ) (n l r : ℕ) (key : Option Key) → Among (Subscriptions n) (topics_of p) → Among (Responses n) (topics_of p) → Each Goes (join_sends rules fk part n l r st olds news key)
+    join_goes fk part n l r None hs hr = each_nothing Goes
+    join_goes fk part n l r (Some k) hs hr = Each-append Goes _ _
+        (Each-cond Goes (changed olds news l) _ _ (subscriptions_go n k (subscriptions rules.hash fk k part (row_in olds l) (row_in news l)) hs) (each_nothing Goes))
+        (Each-cond Goes (changed olds news r) _ _ (responses_go n (answer_all (row_in news r) (fin.entries (st.hashes n k))) hr) (each_nothing Goes))
 
-    table_goes : (by : List ℕ) (field : Option (List ℕ)) (f n : ℕ) → Among (Repartition n) (topics_of p) → parts_of p n ≡ parts_of p f → Each Goes (send_deltas n (table_parts by field (row_in olds f) (row_in news f)))
-    table_goes by field f n h same = ⊎_elim
-        (λ (e : news f ≡ olds f). subst (λ (w : Option Stored). Each Goes (send_deltas n (table_parts by field (row_in olds f) (row_in (λ m. w) f)))) (sym e)
-        (subst (λ ds. Each Goes (send_deltas n ds)) (sym (no_parts by field (row_in olds f))) (each_nothing Goes)))
-        (λ (o : Owned rules p a.topic f). deltas_go n (table_parts by field (row_in olds f) (row_in news f)) h (omega (arith, same, owned_some f o)))
-        (kept f)
+    node_goes : (n : ℕ) (k : Kind) → ((t : Topic) → Among t (through_topics n k) → Among t (topics_of p)) → Each Goes (sends_at rules a items st olds news n k)
+    node_goes n (StreamAggregate f by field through) into =
+        through_goes by f n through (λ e. into (Repartition n) (subst (λ b. Among (Repartition n) (cond b (Repartition n ∷ []) [])) (sym e) (inl refl)))
+    node_goes n (Windowed f by w through) into =
+        through_goes by f n through (λ e. into (Repartition n) (subst (λ b. Among (Repartition n) (cond b (Repartition n ∷ []) [])) (sym e) (inl refl)))
+    node_goes n (TableAggregate f by field) into = deltas_go n (table_parts by field (row_in olds f) (row_in news f)) (into (Repartition n) (inl refl))
+    node_goes n (ForeignKeyJoin l r fk kind s) into = Each-append Goes _ _
+        (join_goes fk (a.names n) n l r (step_key a.item.message) (into (Subscriptions n) (inl refl)) (into (Responses n) (inr (inl refl))))
+        (answers_go n r (arrived a (Subscriptions n)) (into (Responses n) (inr (inl refl))))
+    node_goes n (StreamSource t) into = each_nothing Goes
+    node_goes n (TableSource t) into = each_nothing Goes
+    node_goes n (StreamFilter f x) into = each_nothing Goes
+    node_goes n (TableFilter f x) into = each_nothing Goes
+    node_goes n (StreamMap f s) into = each_nothing Goes
+    node_goes n (TableMap f s) into = each_nothing Goes
+    node_goes n (KeySelected f c) into = each_nothing Goes
+    node_goes n (KeyJoin l r kind s) into = each_nothing Goes
 
-    join_goes : (fk : List ℕ) (n l r : ℕ) (key : Option Key) → Among (Subscriptions n) (topics_of p) → Among (Responses n) (topics_of p) → 1 ≤ parts_of p (right_of (kind_at p n)) → 1 ≤ parts_of p n → Each Goes (join_sends rules fk n l r st olds news key)
-    join_goes fk n l r None hs hr es er = each_nothing Goes
-    join_goes fk n l r (Some k) hs hr es er = Each-append Goes _ _
-        (Each-cond Goes (changed olds news l) _ _ (subscriptions_go n k (subscriptions rules.hash fk (row_in olds l) (row_in news l)) hs es) (each_nothing Goes))
-        (Each-cond Goes (changed olds news r) _ _ (responses_go n (answer_all (row_in news r) (fin.entries (st.hashes n k))) hr er) (each_nothing Goes))
-
-    node_goes : (n : ℕ) (k : Kind) → slice_get p.kinds n ≡ Some k → NodeFits p n k → ((t : Topic) → Among t (through_topics n k) → Among t (topics_of p)) → Each Goes (sends_at rules a items st olds news n k)
-    node_goes n (StreamAggregate f by field through) at fit into =
-        through_goes by f n through (λ e. into (Repartition n) (subst (λ b. Among (Repartition n) (cond b (Repartition n ∷ []) [])) (sym e) (inl refl))) (parts_from p n f (StreamAggregate f by field through) at (λ l. refl) fit.0)
-    node_goes n (Windowed f by w through) at fit into =
-        through_goes by f n through (λ e. into (Repartition n) (subst (λ b. Among (Repartition n) (cond b (Repartition n ∷ []) [])) (sym e) (inl refl))) (parts_from p n f (Windowed f by w through) at (λ l. refl) fit.0)
-    node_goes n (TableAggregate f by field) at fit into = table_goes by field f n (into (Repartition n) (inl refl)) (parts_from p n f (TableAggregate f by field) at (λ l. refl) fit)
-    node_goes n (ForeignKeyJoin l r fk kind s) at fit into =
-        let sides = joins n l r fk kind s at in
-        let is : kind_at p n ≡ ForeignKeyJoin l r fk kind s = get_or_from_slice_get p.kinds n (ForeignKeyJoin l r fk kind s) no_kind at in
-        let right : 1 ≤ parts_of p (right_of (kind_at p n)) = subst (λ k. 1 ≤ parts_of p (right_of k)) (sym is) sides.1 in
-        Each-append Goes _ _ (join_goes fk n l r (step_key a.item.message) (into (Subscriptions n) (inl refl)) (into (Responses n) (inr (inl refl))) right sides.0)
-        (answers_go n r (arrived a (Subscriptions n)) (into (Responses n) (inr (inl refl))) sides.0)
-    node_goes n (StreamSource t) at fit into = each_nothing Goes
-    node_goes n (TableSource t) at fit into = each_nothing Goes
-    node_goes n (StreamFilter f x) at fit into = each_nothing Goes
-    node_goes n (TableFilter f x) at fit into = each_nothing Goes
-    node_goes n (StreamMap f s) at fit into = each_nothing Goes
-    node_goes n (TableMap f s) at fit into = each_nothing Goes
-    node_goes n (KeySelected f c) at fit into = each_nothing Goes
-    node_goes n (KeyJoin l r kind s) at fit into = each_nothing Goes
-
-    nodes_go : (n : ℕ) (ks : List Kind) → Located p n ks → EachFits p n ks → ((t : Topic) → Among t (by_node through_topics n ks) → Among t (topics_of p)) → Each Goes (over_nodes (sends_at rules a items st olds news) n ks)
-    nodes_go n [] at fit into = each_nothing Goes
-    nodes_go n (k ∷ ks) at fit into = Each-append Goes _ _
-        (node_goes n k at.0 fit.0 (λ t h. into t (among_left t (through_topics n k) (by_node through_topics (suc n) ks) h)))
-        (nodes_go (suc n) ks at.1 fit.1 (λ t h. into t (among_right t (through_topics n k) (by_node through_topics (suc n) ks) h)))
-
-  kept_at : (key : Option Key) (c : ℕ) → (news_at rules p a items (olds_at st key) key c ≡ olds_at st key c) ⊎ Owned rules p a.topic c
-  kept_at None c = inl refl
-  kept_at (Some k) c = values_owned rules p a items owned (olds_at st (Some k)) (olds_at st (Some k)) 0 p.kinds (λ c. inl refl) fits c
+    nodes_go : (n : ℕ) (ks : List Kind) → ((t : Topic) → Among t (by_node through_topics n ks) → Among t (topics_of p)) → Each Goes (over_nodes (sends_at rules a items st olds news) n ks)
+    nodes_go n [] into = each_nothing Goes
+    nodes_go n (k ∷ ks) into = Each-append Goes _ _
+        (node_goes n k (λ t h. into t (among_left t (through_topics n k) (by_node through_topics (suc n) ks) h)))
+        (nodes_go (suc n) ks (λ t h. into t (among_right t (through_topics n k) (by_node through_topics (suc n) ks) h)))
 
   pub sent_goes : Each Goes (over_nodes (sends_at rules a (items_from a (λ n. None) 0 p.kinds) st (olds_at st (step_key a.item.message)) (news_at rules p a (items_from a (λ n. None) 0 p.kinds) (olds_at st (step_key a.item.message)) (step_key a.item.message))) 0 p.kinds)
   sent_goes =
       let key = step_key a.item.message in
-      nodes_go (olds_at st key) (news_at rules p a items (olds_at st key) key) (kept_at key) 0 p.kinds (located p [] p.kinds refl 0 refl) fits
+      nodes_go (olds_at st key) (news_at rules p a items (olds_at st key) key) 0 p.kinds
       (λ t h. among_left t (input_topics p ++ by_node through_topics 0 p.kinds) (by_node changelogs_of 0 p.kinds) (among_right t (input_topics p) (by_node through_topics 0 p.kinds) h))
 
   -- ---- what is written

@@ -17,6 +17,7 @@ use Rattle.ks_wire.proofs.Wired.{delta_codec, agg_codec, subscription_codec, res
 use Rattle.ks_expr.specs.declared.terms.JoinKind.{JoinKind}
 use Rattle.ks_expr.specs.Terms.{Set}
 use Rattle.ks_expr.specs.Eval.{Row, joined}
+use Rattle.ks_expr.specs.declared.terms.Fk.{Fk}
 use Rattle.ks_plan.specs.declared.node.Topic.{Topic}
 use Rattle.ks_plan.specs.declared.node.Topic.TheVariants.{Input, Repartition, Subscriptions, Responses}
 use Rattle.ks_plan.specs.Plan.{Plan, Kind}
@@ -37,6 +38,8 @@ use Rattle.ks_law_kinds.specs.OfKind.{spells, may_have, is_regrouped, is_of_topi
 use Rattle.ks_law_kinds.proofs.Spells.{spells_key, spells_row, spells_subscription, spells_response, spells_delta}
 use Rattle.ks_law_kinds.proofs.Arriving.{MessageFits}
 use Rattle.ks_law_kinds.proofs.Values.{if_some}
+use Rattle.ks_wire.specs.Values.{IsPart}
+use Rattle.ks_law_topology.specs.Work.{IsOfJoin}
 
 -- ---- what a message of a topic is
 abbrev pub TakesDeltas : Kind → Type 0
@@ -56,7 +59,7 @@ abbrev pub FitsMessage : Plan → Topic → Message → Type 0
 FitsMessage p (Input t) (Given k v) = IfThere IsKey k × IfThere FitsRow v
 FitsMessage p (Repartition n) (Moved g d) = TakesDeltas (kind_at p n) × IsKey g × FitsDelta d
 FitsMessage p (Repartition n) (Keyed g row) = TakesRows (kind_at p n) × IsKey g × FitsRow row
-FitsMessage p (Subscriptions n) (Asked b k s) = Joins (kind_at p n) × IsKey b × IsKey k × FitsHash s.hash
+FitsMessage p (Subscriptions n) (Asked b k s) = Joins (kind_at p n) × IsKey b × IsKey k × FitsHash s.hash × IsPart s.part × IsOfJoin p n s.part
 FitsMessage p (Responses n) (Answered k r) = IsKey k × FitsResponse r
 FitsMessage p t m = ⊥
 
@@ -91,12 +94,12 @@ instruction_again Answer = refl
 instruction_again AnswerIfThere = refl
 
 subscription_again : (k : Key) (s : Subscription) → subscription_of (value_of k s) ≡ s
-subscription_again k s = λ i. record { hash = s.hash; instruction = instruction_again s.instruction i }
+subscription_again k s = λ i. record { hash = s.hash; instruction = instruction_again s.instruction i; part = s.part }
 
-asked_again : (b k : Key) (s : Subscription) (time : ℕ) → IsKey b → IsKey k → FitsHash s.hash →
+asked_again : (b k : Key) (s : Subscription) (time : ℕ) → IsKey b → IsKey k → FitsHash s.hash → IsPart s.part →
     of_both key_from subscription_from (λ b v. Asked b v.left (subscription_of v)) (rec_of (record { message = Asked b k s; time = time })) ≡ Some (Asked b k s)
-asked_again b k s time is left hash =
-    let read : subscription_from (subscription_bytes (value_of k s)) ≡ Some (value_of k s) = subscription_codec.again (value_of k s) (record { hash = hash; instruction = few s.instruction; left = left }) in
+asked_again b k s time is left hash part =
+    let read : subscription_from (subscription_bytes (value_of k s)) ≡ Some (value_of k s) = subscription_codec.again (value_of k s) (record { hash = hash; instruction = few s.instruction; left = left; part = part }) in
     rw (key_again b is, read) (ap (λ (x : Subscription). Some (Asked b k x)) (subscription_again k s))
 
 answered_again : (k : Key) (r : Response) (time : ℕ) → IsKey k → FitsResponse r → of_both key_from response_from Answered (rec_of (record { message = Answered k r; time = time })) ≡ Some (Answered k r)
@@ -106,7 +109,7 @@ pub message_again : (p : Plan) (t : Topic) (m : Message) (time : ℕ) → FitsMe
 message_again p (Input t) (Given k v) time h = rw (key_there k h.0, row_there v h.1) refl
 message_again p (Repartition n) (Moved g d) time h = moved_again (kind_at p n) h.0 g d time h.1 h.2
 message_again p (Repartition n) (Keyed g row) time h = keyed_again (kind_at p n) h.0 g row time h.1 h.2
-message_again p (Subscriptions n) (Asked b k s) time h = asked_again b k s time h.1 h.2 h.3
+message_again p (Subscriptions n) (Asked b k s) time h = asked_again b k s time h.1 h.2 h.3 h.4
 message_again p (Responses n) (Answered k r) time h = answered_again k r time h.0 h.1
 message_again p _ _ time h = absurd h
 
@@ -133,7 +136,7 @@ of_kind p (Input t) (Given k v) h = and_from (may_have (spells key_from) k) (may
 of_kind p (Repartition n) (Moved g d) h = and_from (spells key_from g) (is_regrouped (kind_at p n) (delta_bytes d)) (spells_key g h.1) (delta_of_kind (kind_at p n) h.0 d h.2)
 of_kind p (Repartition n) (Keyed g row) h = and_from (spells key_from g) (is_regrouped (kind_at p n) (spelling row)) (spells_key g h.1) (keyed_of_kind (kind_at p n) h.0 row h.2)
 of_kind p (Subscriptions n) (Asked b k s) h = and_from (spells key_from b) (spells subscription_from (subscription_bytes (value_of k s))) (spells_key b h.1)
-    (spells_subscription (value_of k s) (record { hash = h.3; instruction = few s.instruction; left = h.2 }))
+    (spells_subscription (value_of k s) (record { hash = h.3; instruction = few s.instruction; left = h.2; part = h.4 }))
 of_kind p (Responses n) (Answered k r) h = and_from (spells key_from k) (spells response_from (response_bytes r)) (spells_key k h.0) (spells_response r h.1)
 of_kind p _ _ h = absurd h
 
@@ -142,7 +145,7 @@ pub parts_fit : (p : Plan) (t : Topic) (m : Message) → FitsMessage p t m → M
 parts_fit p (Input t) (Given k v) h = h
 parts_fit p (Repartition n) (Moved g d) h = h.1
 parts_fit p (Repartition n) (Keyed g row) h = (h.1, h.2)
-parts_fit p (Subscriptions n) (Asked b k s) h = (h.1, h.2, h.3)
+parts_fit p (Subscriptions n) (Asked b k s) h = (h.1, h.2, h.3, h.4)
 parts_fit p (Responses n) (Answered k r) h = h
 parts_fit p _ _ h = absurd h
 
@@ -240,7 +243,7 @@ test_fits true row h = h
 test_fits false row h = tt
 
 -- of a join on a foreign key
-module _ (l r : ℕ) (fk : List ℕ) (kind : JoinKind) (set : Set) (fits : FitsSet set) where
+module _ (l r : ℕ) (fk : Fk) (kind : JoinKind) (set : Set) (fits : FitsSet set) where
   abbrev this : Kind
   this = ForeignKeyJoin l r fk kind set
 
@@ -252,8 +255,9 @@ module _ (l r : ℕ) (fk : List ℕ) (kind : JoinKind) (set : Set) (fits : FitsS
   of_direct None h = tt
   of_direct (Some v) h = joined_fits kind set (Some v) None fits h tt
 
-  pub direct_fits : (old new : Option Row) (result : Option Stored) → IfThere FitsRow new → IfThere (FitsStored this) result → IfThere (FitsStored this) (direct fk kind set old new result)
-  direct_fits old new result h g = either (is_direct fk old new) (of_row (direct_row kind set new)) result (rows_fit (FitsStored this) (λ row e. e) (direct_row kind set new) (of_direct new h)) g
+  pub direct_fits : (key : Option Key) (old new : Option Row) (result : Option Stored) → IfThere FitsRow new → IfThere (FitsStored this) result → IfThere (FitsStored this) (direct fk key kind set old new result)
+  direct_fits None old new result h g = g
+  direct_fits (Some k) old new result h g = either (is_direct fk k old new) (of_row (direct_row kind set new)) result (rows_fit (FitsStored this) (λ row e. e) (direct_row kind set new) (of_direct new h)) g
 
   set_to : (b : Bool) (row : Option Row) (result : Option Stored) → IfThere FitsRow row → IfThere (FitsStored this) result → IfThere (FitsStored this) (set_result (cond b (Some row) None) result)
   set_to true row result h g = rows_fit (FitsStored this) (λ row e. e) row h

@@ -1,5 +1,5 @@
 -- What one step of a plan makes: all of it fits, and so does what is stored.
-use Rattle.std.proofs.Common.{◌≡◌, ℕ, zero, suc, ◌+◌, ◌<◌, ◌^◌, Bool, true, false, cond, List, length, [], ◌∷◌, ◌++◌, ◌||◌, map, slice_get, Option, Some, None, fold, refl, sym, ap, subst, ◌∙◌, arith, nat_eq, ◌⊎◌}
+use Rattle.std.proofs.Common.{◌≡◌, ℕ, zero, suc, ◌+◌, ◌<◌, ◌^◌, Bool, true, false, cond, List, length, [], ◌∷◌, ◌++◌, ◌||◌, map, slice_get, Option, Some, None, fold, refl, sym, ap, subst, ◌∙◌, arith, nat_eq, ◌⊎◌, not, inl, inr, ⊎_elim}
 use Rattle.std.specs.Prelude.{option_map}
 use Rattle.std.specs.Ordering.{eq_by_cmp}
 use Rattle.std.specs.Cmp.Lexicographic.{nat_list_cmp_total}
@@ -11,12 +11,13 @@ use Rattle.ks_row.specs.declared.record.TaskId.{TaskId}
 use Rattle.ks_wire.specs.declared.values.Delta.{Delta}
 use Rattle.ks_wire.specs.declared.values.Response.{Response}
 use Rattle.ks_wire.specs.declared.values.Agg.{Agg}
-use Rattle.ks_expr.specs.Eval.{Row, holds, project, joined}
+use Rattle.ks_expr.specs.Eval.{Row, holds, project, joined, same_bytes}
+use Rattle.ks_expr.specs.declared.terms.Fk.{Fk}
 use Rattle.ks_plan.specs.declared.node.Topic.{Topic}
 use Rattle.ks_plan.specs.declared.node.Topic.TheVariants.{Input, Repartition, Subscriptions, Responses, Changelog, HashChangelog}
 use Rattle.ks_plan.specs.Plan.{Plan, Kind, Window, is_windowed, is_stream}
 use Rattle.ks_plan.specs.Plan.Kind.{StreamSource, TableSource, StreamFilter, TableFilter, StreamMap, TableMap, KeySelected, StreamAggregate, TableAggregate, Windowed, KeyJoin, ForeignKeyJoin}
-use Rattle.ks_plan.specs.Layout.{same_topic, parts_of, parts_of_topic, sub_of, kind_at, reads, tasks, is_drained, through_topics, right_of}
+use Rattle.ks_plan.specs.Layout.{same_topic, parts_of, parts_of_topic, sub_of, kind_at, reads, tasks, is_drained, through_topics, right_of, before_of, spread_of_topic}
 use Rattle.ks_def_runs.specs.FinMap as fin
 use Rattle.ks_def_runs.specs.FinMap.{FinMap}
 use Rattle.ks_def_runs.specs.Bytes.{by_bytes}
@@ -28,21 +29,22 @@ use Rattle.ks_query.specs.Grace.{is_open}
 use Rattle.ks_query.specs.Aggregates.{table_parts, stream_add}
 use Rattle.ks_history.specs.State.{has_task}
 use Rattle.ks_law_exactly_once.specs.Keeping.{AreHeld}
-use Rattle.ks_def_tasks.specs.Messages.{Place, Stored, shown, Message, Subscription, Item, Store, Rules}
+use Rattle.ks_def_tasks.specs.Messages.{Place, Stored, shown, Message, Subscription, Item, Store, Rules, same_row, same_option}
 use Rattle.ks_def_tasks.specs.Messages.Message.{Given, Keyed, Moved, Asked, Answered, Kept, KeptCount, KeptTime, KeptHash}
 use Rattle.ks_def_tasks.specs.Windowed.{Counted, greater, count_window, time_changes, count_group, count_item}
-use Rattle.ks_def_tasks.specs.Foreign.{subscriptions, answer_all, answer_to}
-use Rattle.ks_def_tasks.specs.Step.{Arrival, Sent, Written, Values, row_in, changed, arrived, step_key, sends_at, send_deltas, send_subscriptions, send_responses, answer_of, answer_one, join_sends, regroup, keyed_to, write_all, value_changes, hash_changes, changes_at, over_nodes, whole_step, items_from, item_into, olds_at, news_at, value_at, values_from, tables_after, counted_at}
-use Rattle.ks_def_tasks.specs.Tasks.{step, taker, sent_item, written_item}
-use Rattle.ks_def_tasks.specs.Bytes.{ByteStores, store_from, table_from}
+use Rattle.ks_def_tasks.specs.Foreign.{subscriptions, answer_all, answer_to, Sending, subscribe, key_of_row, subscribed, hash_by}
+use Rattle.ks_def_tasks.specs.Step.{Arrival, Sent, Written, Values, row_in, changed, arrived, step_key, sends_at, send_deltas, send_subscriptions, send_responses, answer_of, answer_one, join_sends, regroup, keyed_to, write_all, value_changes, hash_changes, changes_at, over_nodes, whole_step, items_from, item_into, olds_at, news_at, value_at, values_from, tables_after, counted_at, subscribe_at}
+use Rattle.ks_def_tasks.specs.Tasks.{arrival, step, taker, sent_item, written_item, to_part}
+use Rattle.ks_def_tasks.specs.Bytes.{ByteStores, store_from, table_from, hashes_from}
 use Rattle.ks_def_tasks.proofs.Each.{AllOf, all_append, all_cond}
 use Rattle.ks_def_tasks.proofs.Names.{topic-is}
 use Rattle.ks_law_quiescence.proofs.Placed.{Owned}
 use Rattle.ks_law_topology.specs.Spelled.{IfThere}
 use Rattle.ks_law_topology.proofs.Rows.{project_fits, joined_fits}
-use Rattle.ks_law_topology.proofs.Writes.{kept, OfSub, written_all}
+use Rattle.ks_law_topology.proofs.Writes.{kept, OfSub, written_all, row_itself}
 use Rattle.ks_law_kinds.specs.OfKind.{is_in_range}
-use Rattle.ks_law_kinds.specs.Fitting.{FitsKind, FitsRules, holds_kind}
+use Rattle.ks_law_topology.specs.Work.{FitsRules, IsOfJoin}
+use Rattle.ks_law_kinds.specs.Fitting.{FitsKind, holds_kind, FitsFk}
 use Rattle.ks_law_kinds.proofs.Stores.{StoreFits, store_fits}
 use Rattle.ks_law_kinds.proofs.Arriving.{MessageFits}
 use Rattle.ks_law_kinds.proofs.Values.{ItemFits, ItemsFit, items_fit}
@@ -56,6 +58,17 @@ use Rattle.ks_law_settled.specs.Jobs.{NodesHaveParts}
 use Rattle.ks_law_settled.proofs.Spelled.{TakesDeltas, TakesRows, Joins, FitsMessage, parts_fit, FitsStored, shown_fits, taken_fits, applied_fits, added_fits, rows_fit, kept_fits, test_fits, direct_fits, responded_fits}
 use Rattle.ks_law_settled.proofs.WholeNodes.{Whole, NodeIs, nodes_are}
 use Rattle.ks_law_settled.proofs.Agreeing.{MadeFits}
+use Rattle.ks_wire.specs.Values.{IsPart}
+use Rattle.ks_wire.specs.declared.values.Subscriber.{Subscriber}
+use Rattle.ks_plan.specs.declared.node.Spread.{Spread}
+use Rattle.ks_plan.specs.Drafts.{Name}
+use Rattle.ks_expr.specs.Keys.{fk_of}
+use Rattle.ks_law_quiescence.proofs.Each.{Each, each_parts}
+use Rattle.ks_law_quiescence.proofs.Entries.{each_entry}
+use Rattle.ks_law_quiescence.proofs.Fits.{Beside}
+use Rattle.ks_def_tasks.specs.Messages.Instruction.{Delete, DeleteAndAnswer, Answer}
+use Rattle.ks_def_tasks.specs.Step.To.{Named}
+use Rattle.ks_def_runs.specs.Table.{write}
 
 numbered : {A : Type 0} (P : ℕ → A → Type 0) (values : ℕ → A) (n : ℕ) (v : A) → ((c : ℕ) → P c (values c)) → P n v → (c : ℕ) → P c (with_number values n v c)
 numbered P values n v h new c = elim (nat_eq c n) as (λ b. nat_eq c n ≡ b → P c (cond b v (values c))) [
@@ -71,6 +84,28 @@ get_within (k ∷ ks) (suc n) lt = get_within ks n (omega (arith, lt))
 pub same_some : {A : Type 0} {x y : A} → Some x ≡ Some y → x ≡ y
 same_some e = cc
 
+rows_themselves : (r : Option Row) → same_option same_row r r ≡ true
+rows_themselves None = refl
+rows_themselves (Some r) = row_itself r
+
+-- each subscription of a change names what it is told to
+module _ (P : Option ℕ → Type 0) (hash : Row → ℕ) (fk : Fk) (k : Key) (part : Option ℕ) (one : P part) where
+  abbrev Names : Key × Subscription → Type 0
+  Names s = P s.1.part
+
+  one_of : (b : Option Key) (s : Subscription) → P s.part → AllOf Names (subscribe b s)
+  one_of None s h = tt
+  one_of (Some b) s h = (h, tt)
+
+  asks_of : (old new : Option Row) → AllOf Names (subscriptions hash fk k part old new)
+  asks_of old None = one_of (key_of_row fk k old) (record { hash = None; instruction = DeleteAndAnswer; part = part }) one
+  asks_of old (Some v) =
+      let gone = subscribe (key_of_row fk k old) (record { hash = Some (hash v); instruction = Delete; part = part }) in
+      let new = subscribe (fk_of fk k v) (record { hash = Some (hash v); instruction = Answer; part = part }) in
+      let same = same_option same_bytes (key_of_row fk k old) (fk_of fk k v) in
+      all_append Names (cond same [] gone) new (all_cond Names same [] gone tt (one_of (key_of_row fk k old) (record { hash = Some (hash v); instruction = Delete; part = part }) one))
+      (one_of (fk_of fk k v) (record { hash = Some (hash v); instruction = Answer; part = part }) one)
+
 module _ (rules : Rules) (p : Plan) where
   abbrev pub FitsItem : Place → Item → Type 0
   FitsItem q x = IsPlace p q × FitsMessage p q.topic x.message × (is_in_range x.time ≡ true)
@@ -84,9 +119,11 @@ module _ (rules : Rules) (p : Plan) where
   abbrev pub IsKept : Place → Item → Type 0
   IsKept q x = FitsLog q.topic x.message
 
-  -- the bytes are of their kinds, and what is stored has a spelling
+  -- the bytes are of their kinds, what is stored has a spelling, and what a subscription store keeps names partitions of its join
   abbrev pub Held : TaskId → ByteStores → Type 0
-  Held t stores = AreHeld (holds_kind p) t stores × ((n : ℕ) (k : Key) (x : Stored) → fin.get (table_from p t.sub stores n) k ≡ Some x → FitsStored (kind_at p n) x)
+  Held t stores = AreHeld (holds_kind p) t stores
+      × ((n : ℕ) (k : Key) (x : Stored) → fin.get (table_from p t.sub stores n) k ≡ Some x → FitsStored (kind_at p n) x)
+      × ((n : ℕ) (b k : Key) (x : Subscriber) → fin.get (hashes_from p t.sub stores n b) k ≡ Some x → IsOfJoin p n x.part)
 
   module _ (whole : Whole p) (has_parts : HasParts rules) (have : NodesHaveParts p) (good : FitsRules rules) where
     abbrev Nodes : ℕ → Kind → Type 0
@@ -98,22 +135,32 @@ module _ (rules : Rules) (p : Plan) where
     pub node_at : (n : ℕ) → n < length p.kinds → (k : Kind) × Nodes n k
     node_at n lt = let k = get_within p.kinds n lt in (k.0, at_node Nodes p.kinds all_nodes n k.0 k.1)
 
-    -- the partition of a key of a topic that a node's tasks read
-    place_at_key : (u : Topic) (m : ℕ) → m < length p.kinds → reads p u ≡ sub_of p m → parts_of_topic p u ≡ parts_of p m → IsTopic p u → (k : Key) → IsPlace p (record { topic = u; part = rules.part k (parts_of_topic p u) })
+    -- a partition of a topic that a node's tasks read
+    place_below : (u : Topic) (m : ℕ) → m < length p.kinds → reads p u ≡ sub_of p m → parts_of_topic p u ≡ parts_of p m → IsTopic p u → (part : ℕ) → part < parts_of_topic p u → IsPlace p (record { topic = u; part = part })
+    place_below u m within sub parts topic part below = record {
+      topic = topic;
+      task = subst (λ s. has_task (record { sub = s; part = part }) (tasks p) ≡ true) (sym sub) (has_node_task p whole.fits m part within (omega (arith, below, parts)));
+      part = below;
+    }
+
+    -- that of a key
+    place_at_key : (u : Topic) (m : ℕ) → m < length p.kinds → reads p u ≡ sub_of p m → parts_of_topic p u ≡ parts_of p m → IsTopic p u → (k : Key) → IsPlace p (record { topic = u; part = rules.part k (spread_of_topic p u) })
     place_at_key u m within sub parts topic k =
-        let below : rules.part k (parts_of_topic p u) < parts_of_topic p u = has_parts k (parts_of_topic p u) (omega (arith, have m within, parts)) in
-        record {
-          topic = topic;
-          task = subst (λ s. has_task (record { sub = s; part = rules.part k (parts_of_topic p u) }) (tasks p) ≡ true) (sym sub) (has_node_task p whole.fits m (rules.part k (parts_of_topic p u)) within (omega (arith, below, parts)));
-          part = below;
-        }
+        place_below u m within sub parts topic (rules.part k (spread_of_topic p u)) (has_parts k (spread_of_topic p u) (omega (arith, have m within, parts)))
+
+    -- and one that is named
+    place_named : (n : ℕ) → n < length p.kinds → IsTopic p (Responses n) → (k : Key) (part : Option ℕ) → IsOfJoin p n part → IsPlace p (record { topic = Responses n; part = to_part rules p (Responses n) k (Named part) })
+    place_named n within topic k None h =
+        let whole_key : Spread = record { parts = parts_of p n; before = None } in
+        place_below (Responses n) n within refl refl topic (rules.part k whole_key) (has_parts k whole_key (have n within))
+    place_named n within topic k (Some i) h = place_below (Responses n) n within refl refl topic i h
 
     module _ (t : TaskId) (stores : ByteStores) (q : Place) (x : Item) (takes : taker p q.topic ≡ t.sub) (held : Held t stores) (fit : FitsItem q x) where
       abbrev st : Store
       st = store_from p t.sub stores
 
       abbrev a : Arrival
-      a = record { topic = q.topic; item = x }
+      a = arrival p q x
 
       abbrev items : ℕ → Option StreamItem
       items = items_from a (λ n. None) 0 p.kinds
@@ -189,8 +236,8 @@ module _ (rules : Rules) (p : Plan) where
       value_fits k new h n (KeyJoin l r kind set) f old = acts (KeyJoin l r kind set) (changed (olds_at st k) new l || changed (olds_at st k) new r) _ (olds_at st k n)
           (rows_fit (FitsStored (KeyJoin l r kind set)) (λ row e. e) (joined kind set (row_in new l) (row_in new r)) (joined_fits kind set (row_in new l) (row_in new r) f (row_fits new h l) (row_fits new h r))) old
       value_fits k new h n (ForeignKeyJoin l r fk kind set) f old = acts (ForeignKeyJoin l r fk kind set) (changed (olds_at st k) new l) _ _
-          (direct_fits l r fk kind set f (row_in (olds_at st k) l) (row_in new l) (olds_at st k n) (row_fits new h l) old)
-          (responded_fits l r fk kind set f rules p n (row_in new l) (row_fits new h l) (arrived a (Responses n)) (arrived_fits (Responses n)) (olds_at st k n) old)
+          (direct_fits l r fk kind set f.0 key (row_in (olds_at st k) l) (row_in new l) (olds_at st k n) (row_fits new h l) old)
+          (responded_fits l r fk kind set f.0 rules p n (row_in new l) (row_fits new h l) (arrived a (Responses n)) (arrived_fits (Responses n)) (olds_at st k n) old)
       value_fits k new h n (StreamSource u) f old = old
       value_fits k new h n (StreamFilter g test) f old = old
       value_fits k new h n (StreamMap g set) f old = old
@@ -241,9 +288,30 @@ module _ (rules : Rules) (p : Plan) where
           by true g = subst (IfThere (FitsStored (kind_at p n))) g (news_fit (Some k) n)
           by false g = held.1 n c y g
 
+      -- ---- the partition that is named: the task's, if any, and one of the join's where its left row changes
+      names_few : (n : ℕ) → IsPart (a.names n)
+      names_few n = by (before_of p n)
+        where
+          by : (o : Option Name) → IsPart (option_map (λ s. q.part) o)
+          by None = tt
+          by (Some s) = omega (arith, fit.0.part, whole.few q.topic)
+
+      names_of_join : (n l : ℕ) → Beside p l n → Owned rules p q.topic l → IsOfJoin p n (a.names n)
+      names_of_join n l beside o = by (before_of p n)
+        where
+          by : (o : Option Name) → IsOfJoin p n (option_map (λ s. q.part) o)
+          by None = tt
+          by (Some s) = omega (arith, fit.0.part, ap (λ (s : Spread). s.parts) o.spread, beside.parts)
+
+      unchanged : (n : ℕ) → news key n ≡ olds_at st key n → changed (olds_at st key) (news key) n ≡ false
+      unchanged n e = ap (λ w. not (same_option same_row (row_in (olds_at st key) n) (row_in (λ m. w) n))) e ∙ ap not (rows_themselves (row_in (olds_at st key) n))
+
+      left_names : (n l : ℕ) → Beside p l n → (changed (olds_at st key) (news key) l ≡ false) ⊎ IsOfJoin p n (a.names n)
+      left_names n l beside = ⊎_elim (λ (e : news key l ≡ olds_at st key l). inl (unchanged l e)) (λ (o : Owned rules p q.topic l). inr (names_of_join n l beside o)) (keeps key l)
+
       -- ---- what is sent
       abbrev SentFits : Sent → Type 0
-      SentFits s = FitsItem (record { topic = s.topic; part = rules.part s.key (parts_of_topic p s.topic) }) (record { message = s.message; time = x.time })
+      SentFits s = FitsItem (record { topic = s.topic; part = to_part rules p s.topic s.key s.to }) (record { message = s.message; time = x.time })
 
       deltas_sent : (n : ℕ) → n < length p.kinds → IsTopic p (Repartition n) → TakesDeltas (kind_at p n) → (ds : List (Key × Delta)) → AllDeltas p ds → AllOf SentFits (send_deltas n ds)
       deltas_sent n within topic kind [] h = tt
@@ -261,39 +329,87 @@ module _ (rules : Rules) (p : Plan) where
       through_sent n within true topic kind by o h = regroup_sent n within (topic refl) kind by o h
       through_sent n within false topic kind by o h = tt
 
-      module _ (n l r : ℕ) (fk : List ℕ) (node : _) (within : n < length p.kinds) (is : kind_at p n ≡ node) (joins : Joins node) (right : right_of node ≡ r) (before : r < n) (asking : IsTopic p (Subscriptions n)) (answering : IsTopic p (Responses n)) where
+      module _ (n l r : ℕ) (fk : Fk) (node : _) (within : n < length p.kinds) (is : kind_at p n ≡ node) (joins : Joins node) (right : right_of node ≡ r) (before : r < n) (asking : IsTopic p (Subscriptions n)) (answering : IsTopic p (Responses n)) where
         right_is : right_of (kind_at p n) ≡ r
         right_is = ap right_of is ∙ right
 
-        asked_sent : (k : Key) → IsKey k → (ss : List (Key × Subscription)) → AllAsked p ss → AllOf SentFits (send_subscriptions n k ss)
-        asked_sent k left [] h = tt
-        asked_sent k left (s ∷ ss) h = (
-          (place_at_key (Subscriptions n) r (omega (arith, before, within)) (ap (sub_of p) right_is) (ap (parts_of p) right_is) asking s.0, (subst Joins (sym is) joins, h.0.0, left, h.0.1), fit.2),
-          asked_sent k left ss h.1,
+        asked_sent : (k : Key) → IsKey k → (ss : List (Key × Subscription)) → AllAsked p ss → AllOf (λ (s : Key × Subscription). IsOfJoin p n s.1.part) ss → AllOf SentFits (send_subscriptions n k ss)
+        asked_sent k left [] h g = tt
+        asked_sent k left (s ∷ ss) h g = (
+          (place_at_key (Subscriptions n) r (omega (arith, before, within)) (ap (sub_of p) right_is) (ap (parts_of p) right_is) asking s.0, (subst Joins (sym is) joins, h.0.0, left, h.0.1, h.0.2, g.0), fit.2),
+          asked_sent k left ss h.1 g.1,
         )
 
-        answers_sent : (rs : List (Key × Response)) → AllAnswers p rs → AllOf SentFits (send_responses n rs)
-        answers_sent [] h = tt
-        answers_sent (y ∷ ys) h = ((place_at_key (Responses n) n within refl refl answering y.0, (h.0.0, h.0.1), fit.2), answers_sent ys h.1)
+        answers_sent : (rs : List Sending) → AllAnswers p rs → AllOf (λ (r : Sending). IsOfJoin p n r.2) rs → AllOf SentFits (send_responses n rs)
+        answers_sent [] h g = tt
+        answers_sent (y ∷ ys) h g = ((place_named n within answering y.0 y.2 g.0, (h.0.0, h.0.1), fit.2), answers_sent ys h.1 g.1)
 
-        join_sent : (olds new : Values) → IfThere FitsRow (row_in olds l) → IfThere FitsRow (row_in new l) → IfThere FitsRow (row_in new r) → (k : Option Key) → IfThere IsKey k → AllOf SentFits (join_sends rules fk n l r st olds new k)
-        join_sent olds new f g h None e = tt
-        join_sent olds new f g h (Some k) e =
-            let ss = send_subscriptions n k (subscriptions rules.hash fk (row_in olds l) (row_in new l)) in
-            let rs = send_responses n (answer_all (row_in new r) (fin.entries (st.hashes n k))) in
+        -- the answers to all that is kept at a foreign key go to partitions of the join
+        each_answer : (row : Option Row) (es : List (Key × Subscriber)) → Each (λ (e : Key × Subscriber). IsOfJoin p n e.1.part) es → AllOf (λ (r : Sending). IsOfJoin p n r.2) (answer_all row es)
+        each_answer row [] h = tt
+        each_answer row (e ∷ es) h = let parts = each_parts (λ (e : Key × Subscriber). IsOfJoin p n e.1.part) e es h in (parts.0, each_answer row es parts.1)
+
+        kept_answers : (row : Option Row) (b : Key) → AllOf (λ (r : Sending). IsOfJoin p n r.2) (answer_all row (fin.entries (st.hashes n b)))
+        kept_answers row b = each_answer row (fin.entries (st.hashes n b))
+            (each_entry (λ (e : Key × Subscriber). IsOfJoin p n e.1.part) (fin.entries (st.hashes n b)) (fin.entries_sorted (st.hashes n b)) (λ k y f. held.2 n b k y (fin.get-entries (st.hashes n b) k ∙ f)))
+
+        join_sent : FitsFk fk → (olds new : Values) → (changed olds new l ≡ false) ⊎ IsOfJoin p n (a.names n) → IfThere FitsRow (row_in olds l) → IfThere FitsRow (row_in new l) → IfThere FitsRow (row_in new r) → (k : Option Key) → IfThere IsKey k →
+            AllOf SentFits (join_sends rules fk (a.names n) n l r st olds new k)
+        join_sent foreign olds new left f g h None e = tt
+        join_sent foreign olds new left f g h (Some k) e =
+            let asks = subscriptions rules.hash fk k (a.names n) (row_in olds l) (row_in new l) in
+            let answers = answer_all (row_in new r) (fin.entries (st.hashes n k)) in
+            let ss = send_subscriptions n k asks in
+            let rs = send_responses n answers in
             all_append SentFits (cond (changed olds new l) ss []) (cond (changed olds new r) rs [])
-            (all_cond SentFits (changed olds new l) ss [] (asked_sent k e (subscriptions rules.hash fk (row_in olds l) (row_in new l)) (asked_fit p rules good fk (row_in olds l) (row_in new l) f g)) tt)
-            (all_cond SentFits (changed olds new r) rs [] (answers_sent (answer_all (row_in new r) (fin.entries (st.hashes n k))) (all_answers p (row_in new r) h (fin.entries (st.hashes n k)) (st_fits.hashes n k))) tt)
+            (⊎_elim
+            (λ (no : changed olds new l ≡ false). subst (λ b. AllOf SentFits (cond b ss [])) (sym no) tt)
+            (λ (one : IsOfJoin p n (a.names n)). all_cond SentFits (changed olds new l) ss []
+            (asked_sent k e asks (asked_fit p rules good fk foreign k e (a.names n) (names_few n) (row_in olds l) (row_in new l) f g) (asks_of (IsOfJoin p n) rules.hash fk k (a.names n) one (row_in olds l) (row_in new l))) tt)
+            left)
+            (all_cond SentFits (changed olds new r) rs [] (answers_sent answers (all_answers p (row_in new r) h (fin.entries (st.hashes n k)) (st_fits.hashes n k)) (kept_answers (row_in new r) k)) tt)
 
         right_row : (b : Key) → IfThere FitsRow (option_map shown (fin.get (st.tables r) b))
         right_row b = row_there r (fin.get (st.tables r) b) (olds_fit (Some b) r)
+
+        one_of_join : (k : Key) (part : Option ℕ) → IsOfJoin p n part → (y : Option Response) → AllOf (λ (r : Sending). IsOfJoin p n r.2) (answer_of k part y)
+        one_of_join k part h None = tt
+        one_of_join k part h (Some y) = (h, tt)
 
         answer_sent : (m : Option Message) → IfThere (FitsMessage p (Subscriptions n)) m → AllOf SentFits (answer_one n st r m)
         answer_sent None h = tt
         answer_sent (Some (Asked b k s)) h =
             let right = option_map shown (fin.get (st.tables r) b) in
-            answers_sent (answer_of k (answer_to s right)) (one_answer p k h.2 (answer_to s right) (answer_fits p s h.3 right (right_row b)))
+            answers_sent (answer_of k s.part (answer_to s right)) (one_answer p k h.2 s.part (answer_to s right) (answer_fits p s h.3 right (right_row b))) (one_of_join k s.part h.5 (answer_to s right))
         answer_sent (Some _) h = absurd h
+
+      -- what a subscription store keeps after the step
+      pub kept_join : (n : ℕ) (b k : Key) (y : Subscriber) → fin.get ((whole_step rules p st a).store.hashes n b) k ≡ Some y → IsOfJoin p n y.part
+      kept_join n b k y = elim (same_topic q.topic (Subscriptions n)) as (λ t. same_topic q.topic (Subscriptions n) ≡ t → fin.get (subscribe_at (cond t (Some x.message) None) (st.hashes n) b) k ≡ Some y → IsOfJoin p n y.part) [
+        | true ↦ λ t. by_message x.message (subst (λ v. FitsMessage p v x.message) (topic-is q.topic (Subscriptions n) t) fit.1)
+        | false ↦ λ t e. held.2 n b k y e
+      ] refl
+        where
+          of_hash : (s : Subscription) → IsOfJoin p n s.part → (h : Option ℕ) → option_map (λ h. record { hash = h; part = s.part }) h ≡ Some y → IsOfJoin p n y.part
+          of_hash s e None f = absurd cc
+          of_hash s e (Some h) f = subst (IsOfJoin p n) (ap (λ (w : Subscriber). w.part) (same_some {x = record { hash = h; part = s.part }} {y = y} f)) e
+
+          by_message : (m : Message) → FitsMessage p (Subscriptions n) m → fin.get (subscribe_at (Some m) (st.hashes n) b) k ≡ Some y → IsOfJoin p n y.part
+          by_message (Asked c m s) e = elim (same_bytes b c) as (λ t. fin.get (cond t (write by_bytes (st.hashes n b) m (subscribed s)) (st.hashes n b)) k ≡ Some y → IsOfJoin p n y.part) [
+            | true ↦ λ f. (elim (eq_by_cmp by_bytes k m) as (λ t. cond t (subscribed s) (fin.get (st.hashes n b) k) ≡ Some y → IsOfJoin p n y.part) [
+              | true ↦ λ g. of_hash s e.5 (hash_by s.instruction s.hash) g
+              | false ↦ λ g. held.2 n b k y g
+            ]) (sym (get-write nat_list_cmp_total (st.hashes n b) m (subscribed s) k) ∙ f)
+            | false ↦ λ f. held.2 n b k y f
+          ]
+          by_message (Given g v) e = absurd e
+          by_message (Keyed g v) e = absurd e
+          by_message (Moved g v) e = absurd e
+          by_message (Answered g v) e = absurd e
+          by_message (Kept g v) e = absurd e
+          by_message (KeptCount g v) e = absurd e
+          by_message (KeptTime v) e = absurd e
+          by_message (KeptHash g m v) e = absurd e
 
       abbrev Sends : ℕ → Kind → Type 0
       Sends n kind = Nodes n kind × AllOf (λ u. is_drained p u ≡ true → IsTopic p u) (through_topics n kind)
@@ -312,8 +428,8 @@ module _ (rules : Rules) (p : Plan) where
           drawn true g e = g.0 refl
           drawn false g e = absurd (true≢false (sym e))
       node_sends n (ForeignKeyJoin l r fk kind set) h =
-          all_append SentFits (join_sends rules fk n l r st (olds_at st key) (news key) key) (answer_one n st r (arrived a (Subscriptions n)))
-          (join_sent n l r fk (ForeignKeyJoin l r fk kind set) h.0.within h.0.kind tt refl h.0.fits.1 (h.1.0 refl) (h.1.1.0 refl) (olds_at st key) (news key)
+          all_append SentFits (join_sends rules fk (a.names n) n l r st (olds_at st key) (news key) key) (answer_one n st r (arrived a (Subscriptions n)))
+          (join_sent n l r fk (ForeignKeyJoin l r fk kind set) h.0.within h.0.kind tt refl h.0.fits.1 (h.1.0 refl) (h.1.1.0 refl) h.0.spelled.1 (olds_at st key) (news key) (left_names n l h.0.fits.0)
           (row_fits (olds_at st key) (olds_fit key) l) (row_fits (news key) (news_fit key) l) (row_fits (news key) (news_fit key) r) key key_fits)
           (answer_sent n l r fk (ForeignKeyJoin l r fk kind set) h.0.within h.0.kind tt refl h.0.fits.1 (h.1.0 refl) (h.1.1.0 refl) (arrived a (Subscriptions n)) (arrived_fits (Subscriptions n)))
       node_sends n (StreamSource u) h = tt

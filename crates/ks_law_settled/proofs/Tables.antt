@@ -16,7 +16,7 @@ use Rattle.ks_plan.specs.Drafts.{Name, DraftView}
 use Rattle.ks_plan.specs.Plan.{Plan, Kind, Window, plan_of, known_nodes, node_number, is_stream, is_windowed}
 use Rattle.ks_plan.specs.Plan.Kind.{StreamSource, TableSource, StreamFilter, TableFilter, StreamMap, TableMap, KeySelected, StreamAggregate, TableAggregate, Windowed, KeyJoin, ForeignKeyJoin}
 use Rattle.ks_plan.specs.declared.node.Topic.TheVariants.{Changelog}
-use Rattle.ks_plan.specs.Layout.{parts_of, kind_at, number_of, sub_of, reads}
+use Rattle.ks_plan.specs.Layout.{parts_of, kind_at, number_of, sub_of, reads, spread_of}
 use Rattle.ks_def_runs.specs.FinMap as fin
 use Rattle.ks_def_runs.specs.FinMap.{FinMap}
 use Rattle.ks_def_runs.specs.Bytes.{by_bytes, Store, empty_store}
@@ -77,6 +77,7 @@ use Rattle.ks_law_settled.proofs.Bounded.{windows_fit, nodes_few, run_late}
 use Rattle.ks_law_settled.proofs.Runs.{Same}
 use Rattle.ks_law_settled.proofs.WindowRows as windows
 use Rattle.ks_law_settled.proofs.Printed.{prints_tables}
+use Rattle.ks_law_topology.proofs.Few.{have_few}
 
 shown_members : (n : ℕ) → members_in (option_map (agg_row true) (exactly n)) ≡ n
 shown_members zero = refl
@@ -96,7 +97,7 @@ module _ (rules : Rules) (d : DraftView) (records : List Input) (journal : List 
   fits = well_formed_fits d ended.job.well
 
   abbrev pub whole : Whole p
-  whole = record { spelled = ended.job.spelled; fits = fits }
+  whole = record { spelled = ended.job.spelled; fits = fits; few = have_few d ended.job.well }
 
   abbrev pub choices : List (Option TaskId × Place)
   choices = decoded_choices p (replay setup journal)
@@ -158,7 +159,7 @@ module _ (rules : Rules) (d : DraftView) (records : List Input) (journal : List 
 
     -- a key's row stands in a partition that there is
     home_below : (k : Key) → home rules p n k < parts_of p n
-    home_below k = ended.job.parts k (parts_of p n) (ended.job.have n lt)
+    home_below k = ended.job.parts k (spread_of p n) (ended.job.have n lt)
 
     -- ---- a table
     module _ (plain : is_windowed (kind_at p n) ≡ false) where

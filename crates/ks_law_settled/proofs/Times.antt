@@ -6,14 +6,14 @@ use Rattle.std.proofs.lemmas.Bool.{and_parts}
 use Rattle.ks_row.specs.declared.record.TaskId.{TaskId}
 use Rattle.ks_row.specs.Parts.{same_task}
 use Rattle.ks_expr.specs.Eval.{Row}
+use Rattle.ks_expr.specs.declared.terms.Fk.{Fk}
 use Rattle.ks_plan.specs.Drafts.{Name}
 use Rattle.ks_plan.specs.Plan.{Plan, Kind, Window, plan_of}
 use Rattle.ks_plan.specs.Plan.Kind.{StreamSource, TableSource, StreamFilter, TableFilter, StreamMap, TableMap, KeySelected, StreamAggregate, TableAggregate, Windowed, KeyJoin, ForeignKeyJoin}
-use Rattle.ks_plan.specs.Layout.{same_topic, kind_at, no_kind, is_read, parts_of_topic}
+use Rattle.ks_plan.specs.Layout.{same_topic, kind_at, no_kind, is_read}
 use Rattle.ks_plan.specs.declared.node.Topic.{Topic}
 use Rattle.ks_plan.specs.declared.node.Topic.TheVariants.{Input as InputTopic, Repartition, Subscriptions, Changelog, HashChangelog}
 use Rattle.ks_wire.specs.declared.values.Delta.{Delta}
-use Rattle.ks_wire.specs.declared.values.Response.{Response}
 use Rattle.ks_def_runs.specs.FinMap as fin
 use Rattle.ks_def_runs.specs.Run.{Machine, sent_to, is_from, same_channel, of_input, take_first, initial}
 use Rattle.ks_def_runs.proofs.Runs.{kept_by_run}
@@ -25,9 +25,9 @@ use Rattle.ks_def_tasks.specs.Messages.{Place, same_place, Message, Item, Store,
 use Rattle.ks_def_tasks.specs.Messages.Message.{Given, Keyed, Moved, Asked, Answered, Kept, KeptCount, KeptTime, KeptHash}
 use Rattle.ks_def_tasks.specs.Collision.{In}
 use Rattle.ks_def_tasks.specs.Windowed.{Counted}
-use Rattle.ks_def_tasks.specs.Foreign.{subscriptions, answer_all}
+use Rattle.ks_def_tasks.specs.Foreign.{subscriptions, answer_all, Sending}
 use Rattle.ks_def_tasks.specs.Step.{Arrival, Sent, Written, Values, arrived, step_key, item_given, item_keyed, item_at, items_from, item_into, row_in, changed, sends_at, join_sends, regroup, keyed_to, send_deltas, send_subscriptions, send_responses, answer_one, write_all, changes_at, counted_at, over_nodes, late_over, olds_at, news_at, whole_step, value_changes, hash_changes}
-use Rattle.ks_def_tasks.specs.Tasks.{machine, step, inputs_of, item_of_input, stands_at, part_of_key, sent_item, written_item}
+use Rattle.ks_def_tasks.specs.Tasks.{arrival, machine, step, inputs_of, item_of_input, stands_at, part_of_key, sent_item, written_item, names_at, to_part}
 use Rattle.ks_def_tasks.proofs.Each.{AllOf, all_append, all_cond}
 use Rattle.ks_def_tasks.proofs.Names.{same_place-is}
 use Rattle.ks_law_quiescence.specs.States.{State, state_of}
@@ -96,11 +96,8 @@ module _ (rules : Rules) (p : Plan) (fits : Fits p) (records : List Input) where
   abbrev items_of : ℕ → List StreamItem
   items_of f = (query p records).items f
 
-  abbrev arrival : Place → Item → Arrival
-  arrival q x = record { topic = q.topic; item = x }
-
   abbrev its : Place → Item → ℕ → Option StreamItem
-  its q x = items_from (arrival q x) (λ m. None) 0 p.kinds
+  its q x = items_from (arrival p q x) (λ m. None) 0 p.kinds
 
   -- a record whose items at a windowed count have times of its grouped items
   pub record OnTime (q : Place) (x : Item) : Type 0 where
@@ -111,7 +108,7 @@ module _ (rules : Rules) (p : Plan) (fits : Fits p) (records : List Input) where
   away : (q : Place) (x : Item) → (IsInput q.topic → ⊥) →
       ((n f : ℕ) (by : Option Name) (w : Window) (through : Bool) → kind_at p n ≡ Windowed f by w through → q.topic ≡ Repartition n → (g : Key) (row : Row) → x.message ≡ Keyed g row → HasTime by (items_of f) x.time) → OnTime q x
   away q x input h = record {
-    passed = λ n f by w through is y g e k. none (sym (no_items (arrival q x) input (λ m. None) (λ c. refl) 0 p.kinds f) ∙ e);
+    passed = λ n f by w through is y g e k. none (sym (no_items (arrival p q x) input (λ m. None) (λ c. refl) 0 p.kinds f) ∙ e);
     regrouped = h;
   }
     where
@@ -133,7 +130,7 @@ module _ (rules : Rules) (p : Plan) (fits : Fits p) (records : List Input) where
   -- ---- the job's records
   given_on_time : (q : Place) (r : Input) → In r records → InputTopic r.topic ≡ q.topic → OnTime q (item_of_input r)
   given_on_time q r there is = subst (λ (t : Topic). OnTime (record { topic = t; part = q.part }) (item_of_input r)) is (record {
-    passed = λ n f by w through k y g e group. has_time by (items_of f) y g (item_in records r there p f y e) group;
+    passed = λ n f by w through k y g e group. has_time by (items_of f) y g (item_in records r (names_at p q.part) there p f y e) group;
     regrouped = λ n f by w through k e. absurd (not_regrouped e);
   })
     where
@@ -172,7 +169,7 @@ module _ (rules : Rules) (p : Plan) (fits : Fits p) (records : List Input) where
   -- ---- what a step makes
   module _ (q : Place) (x : Item) (here : OnTime q x) (st : Store) where
     abbrev a : Arrival
-    a = arrival q x
+    a = arrival p q x
 
     abbrev items : ℕ → Option StreamItem
     items = its q x
@@ -199,7 +196,7 @@ module _ (rules : Rules) (p : Plan) (fits : Fits p) (records : List Input) where
 
     -- what it sends
     abbrev SentOnTime : Sent → Type 0
-    SentOnTime s = OnTime (record { topic = s.topic; part = rules.part s.key (parts_of_topic p s.topic) }) (record { message = s.message; time = x.time })
+    SentOnTime s = OnTime (record { topic = s.topic; part = to_part rules p s.topic s.key s.to }) (record { message = s.message; time = x.time })
 
     deltas : (n : ℕ) (ds : List (Key × Delta)) → AllOf SentOnTime (send_deltas n ds)
     deltas n [] = tt
@@ -212,7 +209,7 @@ module _ (rules : Rules) (p : Plan) (fits : Fits p) (records : List Input) where
     asked n k [] = tt
     asked n k (s ∷ ss) = (goes_away _ _ tt, asked n k ss)
 
-    answered : (n : ℕ) (rs : List (Key × Response)) → AllOf SentOnTime (send_responses n rs)
+    answered : (n : ℕ) (rs : List Sending) → AllOf SentOnTime (send_responses n rs)
     answered n [] = tt
     answered n (r ∷ rs) = (goes_away _ _ tt, answered n rs)
 
@@ -221,10 +218,10 @@ module _ (rules : Rules) (p : Plan) (fits : Fits p) (records : List Input) where
     one_answer n r (Some (Asked b l s)) = answered n _
     one_answer n r (Some _) = tt
 
-    joined : (fk : List ℕ) (n l r : ℕ) (olds news : Values) (k : Option Key) → AllOf SentOnTime (join_sends rules fk n l r st olds news k)
+    joined : (fk : Fk) (n l r : ℕ) (olds news : Values) (k : Option Key) → AllOf SentOnTime (join_sends rules fk (a.names n) n l r st olds news k)
     joined fk n l r olds news None = tt
     joined fk n l r olds news (Some k) =
-        let ss = send_subscriptions n k (subscriptions rules.hash fk (row_in olds l) (row_in news l)) in
+        let ss = send_subscriptions n k (subscriptions rules.hash fk k (a.names n) (row_in olds l) (row_in news l)) in
         let rs = send_responses n (answer_all (row_in news r) (fin.entries (st.hashes n k))) in
         all_append SentOnTime (cond (changed olds news l) ss []) (cond (changed olds news r) rs [])
         (all_cond SentOnTime (changed olds news l) ss [] (asked n k _) tt)
@@ -261,7 +258,7 @@ module _ (rules : Rules) (p : Plan) (fits : Fits p) (records : List Input) where
         own : {g : ℕ} {hy : Option Name} {v : Window} {t : Bool} → kind_at p n ≡ Windowed g hy v t → (g ≡ f) × (hy ≡ by)
         own {g} {hy} {v} {t} e = let same : Windowed g hy v t ≡ Windowed f by w through = sym e ∙ is in (cc, cc)
     sends olds news n (TableAggregate f by field) is = deltas n (table_parts by field (row_in olds f) (row_in news f))
-    sends olds news n (ForeignKeyJoin l r fk kind s) is = all_append SentOnTime (join_sends rules fk n l r st olds news (step_key x.message)) (answer_one n st r (arrived a (Subscriptions n)))
+    sends olds news n (ForeignKeyJoin l r fk kind s) is = all_append SentOnTime (join_sends rules fk (a.names n) n l r st olds news (step_key x.message)) (answer_one n st r (arrived a (Subscriptions n)))
         (joined fk n l r olds news (step_key x.message)) (one_answer n r (arrived a (Subscriptions n)))
     sends olds news n (StreamSource t) is = tt
     sends olds news n (TableSource t) is = tt

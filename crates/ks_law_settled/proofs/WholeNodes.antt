@@ -17,11 +17,13 @@ use Rattle.ks_law_kinds.specs.Fitting.{FitsKind, FitsPlan}
 use Rattle.ks_law_settled.proofs.Lists.{EachNode, each_node, each_both, each_map, of_nodes, by_nodes, all_numbered, Numbered, numbered}
 use Rattle.ks_law_settled.proofs.Topics.{At, found_logs, same_number, number_is}
 use Rattle.ks_law_settled.proofs.Spelled.{Joins}
+use Rattle.ks_law_topology.specs.Work.{HaveFewParts}
 
--- what a plan must be: shaped as a well-formed draft's, with names and constants that can be spelled
+-- what a plan must be: shaped as a well-formed draft's, with names and constants that can be spelled, and at most 64 partitions of each topic
 pub record Whole (p : Plan) : Type 0 where
   pub spelled : FitsPlan p
   pub fits : Fits p
+  pub few : HaveFewParts p
 
 get_end : (xs : List Kind) (x : Kind) (ys : List Kind) → get_or (xs ++ x ∷ ys) (length xs) no_kind ≡ x
 get_end [] x ys = refl

@@ -4,9 +4,9 @@ use Rattle.std.specs.Prelude.{◌≡◌, ℕ, suc, ◌&&◌, not, Bool, false, L
 use Rattle.std.specs.Option.{option_or}
 use Rattle.ks_row.specs.declared.record.Rec.{Rec}
 use Rattle.ks_expr.specs.declared.terms.JoinKind.{JoinKind}
+use Rattle.ks_expr.specs.declared.terms.Fk.{Fk}
 use Rattle.ks_expr.specs.Terms.{Set}
 use Rattle.ks_expr.specs.Eval.{Row, same_bytes}
-use Rattle.ks_plan.specs.Drafts.{Name}
 use Rattle.ks_plan.specs.Plan.{Plan, Kind}
 use Rattle.ks_plan.specs.Plan.Kind.{ForeignKeyJoin}
 use Rattle.ks_plan.specs.Layout.{up_to, parts_of, kind_at}
@@ -92,4 +92,4 @@ NonePaired hash kind (x ∷ xs) = NoneWith hash kind x xs × NonePaired hash kin
 
 -- in no changelog of a join's left node
 abbrev pub NoneInJournal : (Row → ℕ) → Plan → State → Type 0
-NoneInJournal hash p s = (n l r : ℕ) (fk : Name) (kind : JoinKind) (set : Set) → IsNode p n (ForeignKeyJoin l r fk kind set) → (part : ℕ) → NonePaired hash (kind_at p l) (decided_records s (log_part p l part))
+NoneInJournal hash p s = (n l r : ℕ) (fk : Fk) (kind : JoinKind) (set : Set) → IsNode p n (ForeignKeyJoin l r fk kind set) → (part : ℕ) → NonePaired hash (kind_at p l) (decided_records s (log_part p l part))

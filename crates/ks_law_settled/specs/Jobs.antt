@@ -7,6 +7,7 @@ use Rattle.ks_row.specs.declared.record.Rec.{Rec}
 use Rattle.ks_row.specs.declared.record.PartId.{PartId}
 use Rattle.ks_plan.specs.Drafts.{DraftView}
 use Rattle.ks_plan.specs.Plan.{Plan, plan_of}
+use Rattle.ks_plan.specs.declared.node.Spread.{Spread}
 use Rattle.ks_plan.specs.Layout.{parts_of}
 use Rattle.ks_plan.specs.declared.node.Topic.TheVariants.{Input as InputTopic}
 use Rattle.ks_query.specs.Streams.{Key, Input}
@@ -23,7 +24,8 @@ use Rattle.ks_law_quiescence.specs.WellFormed.{IsWellFormed}
 use Rattle.ks_law_topology.specs.Spelled.{IfThere}
 use Rattle.ks_law_topology.specs.Work.{setup_of}
 use Rattle.ks_law_kinds.specs.OfKind.{is_in_range}
-use Rattle.ks_law_kinds.specs.Fitting.{FitsPlan, FitsRules}
+use Rattle.ks_law_topology.specs.Work.{FitsRules}
+use Rattle.ks_law_kinds.specs.Fitting.{FitsPlan}
 
 -- ---- the job's records, as they are produced
 -- in the partition of its key, without a key in partition 0
@@ -57,7 +59,7 @@ FitInputs p records = AllByRecursion (FitsInput p) records
 
 -- each key has one of the partitions, where there is one
 abbrev pub HasParts : Rules → Type 0
-HasParts rules = (k : Key) (n : ℕ) → 1 ≤ n → rules.part k n < n
+HasParts rules = (k : Key) (s : Spread) → 1 ≤ s.parts → rules.part k s < s.parts
 
 -- each node has a partition
 abbrev pub NodesHaveParts : Plan → Type 0

@@ -1,13 +1,10 @@
 -- Where the records of a topology's tasks go, as their transactions want it: each input is named once, and all that a task makes goes
 -- to partitions of the cluster.
-use Rattle.std.specs.Prelude.{◌≡◌, ℕ, ◌≤◌, ◌<◌, true, Some, List, slice_get}
-use Rattle.ks_expr.specs.declared.terms.JoinKind.{JoinKind}
-use Rattle.ks_expr.specs.Terms.{Set}
+use Rattle.std.specs.Prelude.{◌≡◌, ℕ, ◌<◌, true, Some, List, slice_get}
 use Rattle.ks_plan.specs.Drafts.{DraftView}
 use Rattle.ks_plan.specs.Plan.{Plan, plan_of}
-use Rattle.ks_plan.specs.Plan.Kind.{ForeignKeyJoin}
 use Rattle.ks_plan.specs.declared.node.Topic.{Topic}
-use Rattle.ks_plan.specs.Layout.{parts_of, parts_of_topic, number_of, drain_order, reads, tasks}
+use Rattle.ks_plan.specs.Layout.{parts_of_topic, number_of, drain_order, reads, tasks}
 use Rattle.ks_plan.specs.Infos.{input_numbers}
 use Rattle.ks_history.specs.Machine.{has_topic}
 use Rattle.ks_history.specs.State.{has_task}
@@ -15,19 +12,14 @@ use Rattle.ks_def_tasks.specs.Messages.{Rules}
 use Rattle.ks_law_quiescence.specs.WellFormed.{IsWellFormed}
 use Rattle.ks_law_topology.specs.Work.{setup_of}
 use Rattle.ks_law_restore.specs.Views.{are_topics_once, SendsInside}
-use Rattle.ks_law_settled.specs.Jobs.{HasParts}
 
 -- no subtopology has an input twice
 abbrev pub InputsAreOnce : Type 0
 InputsAreOnce = (p : Plan) (sub : ℕ) → are_topics_once (input_numbers p sub) ≡ true
 
--- the sides of each foreign-key join have partitions
-abbrev pub JoinsHaveParts : Plan → Type 0
-JoinsHaveParts p = (n l r : ℕ) (fk : List ℕ) (kind : JoinKind) (set : Set) → slice_get p.kinds n ≡ Some (ForeignKeyJoin l r fk kind set) → (1 ≤ parts_of p n) × (1 ≤ parts_of p r)
-
 -- the tasks of a well-formed topology send to partitions of its cluster alone
 abbrev pub TopologiesSendInside : Type 0
-TopologiesSendInside = (rules : Rules) (d : DraftView) → IsWellFormed d → HasParts rules → JoinsHaveParts (plan_of d) → SendsInside (setup_of rules (plan_of d))
+TopologiesSendInside = (rules : Rules) (d : DraftView) → IsWellFormed d → SendsInside (setup_of rules (plan_of d))
 
 -- each partition of each topic of the drain order is an input of one task: that of this partition, of the subtopology that reads the
 -- topic

@@ -5,6 +5,7 @@ use Rattle.std.specs.List.{AllByRecursion}
 use Rattle.ks_row.specs.declared.record.TaskId.{TaskId}
 use Rattle.ks_row.specs.Parts.{same_task}
 use Rattle.ks_expr.specs.declared.terms.JoinKind.{JoinKind}
+use Rattle.ks_expr.specs.declared.terms.Fk.{Fk}
 use Rattle.ks_expr.specs.Terms.{Set}
 use Rattle.ks_plan.specs.Drafts.{DraftView, Name}
 use Rattle.ks_plan.specs.Plan.{Plan, Kind, Window, plan_of, known_nodes, node_number, is_windowed}
@@ -26,7 +27,7 @@ use Rattle.ks_history.specs.Faithful.{folds}
 use Rattle.ks_history.specs.History.{at}
 use Rattle.ks_law_quiescence.specs.States.{home_task}
 use Rattle.ks_law_fk_quiescence.specs.Windows.{members_in}
-use Rattle.ks_law_fk_quiescence.specs.AtRest.{hash_for}
+use Rattle.ks_law_fk_quiescence.specs.AtRest.{subscriber_for}
 use Rattle.ks_law_topology.specs.Work.{setup_of}
 use Rattle.ks_law_settled.specs.Jobs.{IsJob, IsDone}
 use Rattle.ks_law_settled.specs.Folded.{node_windows, folded_table, folded_tables}
@@ -106,13 +107,13 @@ pub record IsAtItsEnd (rules : Rules) (d : DraftView) (records : List Input) (jo
 abbrev pub RunsHaveEnded : Type 0
 RunsHaveEnded = (rules : Rules) (d : DraftView) (records : List Input) (journal : List Entry) → IsRunOf rules d records journal → IsAtItsEnd rules d records journal
 
--- without a hash collision each subscription store, by the fold of its changelog, has exactly the hash of the left row of the query, at
--- the row's foreign key and its own key, in the task of the foreign key
+-- without a hash collision each subscription store, by the fold of its changelog, has exactly the hash of the left row of the query, with the
+-- partition of the left key's task where subscriptions name it, at the foreign key and the left key, in the task of the foreign key
 abbrev pub SubscriptionsAreTheQuery : Type 0
 SubscriptionsAreTheQuery = (rules : Rules) (d : DraftView) (records : List Input) (journal : List Entry) → IsRunOf rules d records journal →
     let p = plan_of d in
     let s = end_of rules d journal in
     first_pair rules.hash p s ≡ None →
-    (n l r : ℕ) (fk : Name) (kind : JoinKind) (set : Set) → IsNode p n (ForeignKeyJoin l r fk kind set) → (u : TaskId) (b k : Key) →
+    (n l r : ℕ) (fk : Fk) (kind : JoinKind) (set : Set) → IsNode p n (ForeignKeyJoin l r fk kind set) → (u : TaskId) (b k : Key) →
     fin.get (hashes_from p u.sub (folds (setup_of rules p) s u) n b) k
-    ≡ cond (same_task u (home_task rules p r b)) (option_and_then (hash_for rules fk b) (fin.get ((query p records).tables l) k)) None
+    ≡ cond (same_task u (home_task rules p r b)) (option_and_then (subscriber_for rules p n fk b k) (fin.get ((query p records).tables l) k)) None

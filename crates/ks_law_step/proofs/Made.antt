@@ -1,7 +1,7 @@
 -- A whole step over bytes, piece by piece: items, stored values, what is sent, what changelogs are told.
 use Rattle.std.proofs.Common.{◌≡◌, ℕ, suc, ◌+◌, ◌<◌, ◌^◌, Bool, true, false, cond, ◌⊎◌, inl, inr, List, length, [], ◌∷◌, ◌++◌, map, Option, Some, None, refl, sym, ap, ap₂, subst, ◌∙◌, arith, nat_eq, append_assoc, length-append, get_or, ⊎_elim}
-use Rattle.std.specs.Prelude.{option_map, option_and_then}
-use Rattle.std.specs.List.{filter}
+use Rattle.std.specs.Prelude.{option_map, option_and_then, ◌&&◌, ◌==◌, nat_lt}
+use Rattle.std.specs.List.{filter, flat_map}
 use Rattle.std.proofs.Math.Path.{fun_ext}
 use Rattle.std.proofs.lemmas.Bool.{true≢false}
 use Rattle.std.proofs.lemmas.Bool.Decides.{Decides-eqb}
@@ -22,19 +22,20 @@ use Rattle.ks_plan.specs.declared.node.Topic.{Topic}
 use Rattle.ks_plan.specs.declared.node.Topic.TheVariants.{Input, Repartition, Subscriptions, Responses, Changelog, HashChangelog}
 use Rattle.ks_plan.specs.Plan.{Plan, Kind, Window, plan_of, is_windowed}
 use Rattle.ks_plan.specs.Plan.Kind.{StreamSource, TableSource, StreamFilter, TableFilter, StreamMap, TableMap, KeySelected, StreamAggregate, TableAggregate, Windowed, KeyJoin, ForeignKeyJoin}
-use Rattle.ks_plan.specs.Layout.{same_topic, number_of, reads, sub_of, kind_at, no_kind}
+use Rattle.ks_plan.specs.Layout.{same_topic, number_of, parts_of_topic, reads, sub_of, kind_at, no_kind}
 use Rattle.ks_row.specs.FieldKeys.{field_key}
 use Rattle.ks_expr.specs.Eval.{Row, holds, project}
+use Rattle.ks_expr.specs.declared.terms.Fk.{Fk}
 use Rattle.ks_query.specs.Streams.{Key, StreamItem, filter_item, map_item, rekey_item}
 use Rattle.ks_query.specs.Query.{with_number}
 use Rattle.ks_query.specs.Windows.{by_window, windows}
 use Rattle.ks_def_runs.specs.Run.{Outcome}
-use Rattle.ks_def_tasks.specs.Messages.{Message, Place, Item, Store, Rules, shown, same_option}
+use Rattle.ks_def_tasks.specs.Messages.{Message, Place, Item, Store, Rules, shown, same_option, same_subscriber}
 use Rattle.ks_def_tasks.specs.Messages.Message.{Given, Keyed, Moved, Asked, Answered, Kept, KeptCount, KeptTime, KeptHash}
 use Rattle.ks_def_tasks.specs.Foreign.{subscriptions, subscribed, answer_to, answer_all}
 use Rattle.ks_def_tasks.specs.Windowed.{Counted, greater, not_counted, count_group, count_item}
-use Rattle.ks_def_tasks.specs.Step.{Arrival, Values, Written, arrived, step_key, item_given, item_keyed, item_at, items_from, item_into, row_in, changed, values_from, counted_at, hash_changes, send_subscriptions, send_responses, answer_of, answer_one, join_sends, sends_at, write_all, value_changes, changes_at, over_nodes, late_over, olds_at, news_at}
-use Rattle.ks_def_tasks.specs.Tasks.{step, taker, sent_item, written_item}
+use Rattle.ks_def_tasks.specs.Step.{Arrival, Values, Written, arrived, step_key, item_given, item_keyed, item_at, items_from, item_into, row_in, changed, values_from, counted_at, hash_changes, send_subscriptions, send_responses, answer_of, answer_one, join_sends, sends_at, write_all, value_changes, changes_at, over_nodes, late_over, olds_at, news_at, Sent}
+use Rattle.ks_def_tasks.specs.Tasks.{arrival, step, taker, to_part, sent_item, written_item}
 use Rattle.ks_def_tasks.specs.Bytes.{ByteStores, outcome_of, is_own, is_sent, pairs_of, own_bytes, rec_of, part_id, spelled, message_in, store_from, stores_after, map_from}
 use Rattle.ks_def_tasks.specs.Laws.{AreBytes, AllBelow}
 use Rattle.ks_def_tasks.proofs.Keys.{key_read}
@@ -43,8 +44,8 @@ use Rattle.ks_law_quiescence.proofs.Fits.{Fits, NodeFits, EachFits}
 use Rattle.ks_law_quiescence.proofs.Placed.{Owned}
 use Rattle.ks_law_quiescence.proofs.WellFormed.{well_formed_fits}
 use Rattle.ks_law_topology.specs.Spelled.{IfThere}
-use Rattle.ks_law_topology.proofs.Kept.{nothing_is_held_back}
-use Rattle.ks_law_topology.proofs.Writes.{comes, owned as items_owned}
+use Rattle.ks_law_topology.proofs.Kept.{filter-append, writes_kept}
+use Rattle.ks_law_topology.proofs.Writes.{Through, through_all, written_all, comes, owned as items_owned}
 use Rattle.ks_def_lookups.specs.Windows.{CountedBytes, counted, time_in}
 use Rattle.ks_def_lookups.specs.WindowsDecoded.{counts_in}
 use Rattle.ks_def_lookups.proofs.WindowsDecoded.{counts_agree}
@@ -56,7 +57,7 @@ use Rattle.ks_def_lookups.specs.Stores.{LooksUp}
 use Rattle.ks_def_lookups.proofs.Lists.{nodes_act_as_lists}
 use Rattle.ks_def_lookups.proofs.Stores.{stores_are_looked_up}
 use Rattle.ks_def_lookups.specs.Counts.{nothing_counted, counted_key, counted_item}
-use Rattle.ks_law_step.specs.Whole.{items_by, olds_by, news_by, answer_by, join_by, sends_by, send, at_log, tell, hash_by, counts_by, recs_by, made_by, late_from, AreStores, StepsAreMade}
+use Rattle.ks_law_step.specs.Whole.{items_by, olds_by, news_by, answer_by, join_by, sends_by, send_to, send, at_log, tell, hash_by, counts_by, recs_by, made_by, late_from, AreStores, StepsAreMade}
 use Rattle.ks_law_step.proofs.Reading.{read_fits, keys_are, time_fits}
 
 -- ---- lists
@@ -170,10 +171,10 @@ module _ (a : Arrival) where
   into_timed items h n f false = h f
 
 -- ---- one step
-module _ (rules : Rules) (p : Plan) (fits : Fits p) (names : FitsPlan p) (t : TaskId) (stores : ByteStores) (topic : Topic) (message : Message) (time : ℕ)
+module _ (rules : Rules) (p : Plan) (fits : Fits p) (names : FitsPlan p) (t : TaskId) (stores : ByteStores) (topic : Topic) (part : ℕ) (message : Message) (time : ℕ)
     (takes : taker p topic ≡ t.sub) (key_is : (k : Key) → step_key message ≡ Some k → key_from k ≡ Some k) (arrives : MessageFits message) (in_time : time < 2 ^ 64) (held : AreStores stores) where
   abbrev a : Arrival
-  a = record { topic = topic; item = record { message = message; time = time } }
+  a = arrival p (record { topic = topic; part = part }) (record { message = message; time = time })
 
   abbrev st : Store
   st = store_from p t.sub stores
@@ -216,7 +217,7 @@ module _ (rules : Rules) (p : Plan) (fits : Fits p) (names : FitsPlan p) (t : Ta
   answer_is : (n r : ℕ) (o : Option Message) → ((m : Message) → o ≡ Some m → MessageFits m) → answer_one n st r o ≡ answer_by rules p t stores a n r o
   answer_is n r (Some (Asked b k s)) h =
       let f = h (Asked b k s) refl in
-      ap (λ v. send_responses n (answer_of k (answer_to s (option_map shown v)))) (looked.tables r b (key_again b f.0))
+      ap (λ v. send_responses n (answer_of k s.part (answer_to s (option_map shown v)))) (looked.tables r b (key_again b f.0))
   answer_is n r None h = refl
   answer_is n r (Some (Given k v)) h = refl
   answer_is n r (Some (Keyed g row)) h = refl
@@ -227,10 +228,10 @@ module _ (rules : Rules) (p : Plan) (fits : Fits p) (names : FitsPlan p) (t : Ta
   answer_is n r (Some (KeptTime u)) h = refl
   answer_is n r (Some (KeptHash b l g)) h = refl
 
-  join_is : (fk : List ℕ) (n l r : ℕ) (olds news : Values) (key : Option Key) → ((k : Key) → key ≡ Some k → IsKey k) → join_sends rules fk n l r st olds news key ≡ join_by rules p t stores a fk n l r olds news key
+  join_is : (fk : Fk) (n l r : ℕ) (olds news : Values) (key : Option Key) → ((k : Key) → key ≡ Some k → IsKey k) → join_sends rules fk (a.names n) n l r st olds news key ≡ join_by rules p t stores a fk n l r olds news key
   join_is fk n l r olds news None h = refl
   join_is fk n l r olds news (Some k) h =
-      ap (λ es. cond (changed olds news l) (send_subscriptions n k (subscriptions rules.hash fk (row_in olds l) (row_in news l))) []
+      ap (λ es. cond (changed olds news l) (send_subscriptions n k (subscriptions rules.hash fk k (a.names n) (row_in olds l) (row_in news l))) []
       ++ cond (changed olds news r) (send_responses n (answer_all (row_in news r) es)) [])
       (looked.kept n (keys_held (number_of p (HashChangelog n))) k (h k refl))
 
@@ -253,7 +254,7 @@ module _ (rules : Rules) (p : Plan) (fits : Fits p) (names : FitsPlan p) (t : Ta
   hash_is : (n : ℕ) (o : Option Message) → ((m : Message) → o ≡ Some m → MessageFits m) → hash_changes st n o ≡ hash_by rules p t stores a n o
   hash_is n (Some (Asked b k s)) h =
       let f = h (Asked b k s) refl in
-      ap (λ v. cond (same_option nat_eq v (subscribed s)) [] (KeptHash b k (subscribed s) ∷ [])) (looked.hashes n (keys_held (number_of p (HashChangelog n))) b k f.0 f.1)
+      ap (λ v. cond (same_option same_subscriber v (subscribed s)) [] (KeptHash b k (subscribed s) ∷ [])) (looked.hashes n (keys_held (number_of p (HashChangelog n))) b k f.0 f.1)
   hash_is n None h = refl
   hash_is n (Some (Given k v)) h = refl
   hash_is n (Some (Keyed g row)) h = refl
@@ -410,28 +411,41 @@ module _ (rules : Rules) (p : Plan) (fits : Fits p) (names : FitsPlan p) (t : Ta
   late_same n [] = refl
   late_same n (k ∷ ks) = ap (λ v. (counts_by rules p t stores a by_list n k).late + v) (late_same (suc n) ks)
 
-  module _ (q : PartId) where
-    abbrev decoded : Outcome Place Store Item
-    decoded = step rules p t st (record { topic = topic; part = q.part }) (record { message = message; time = time })
+  abbrev decoded : Outcome Place Store Item
+  decoded = step rules p t st (record { topic = topic; part = part }) (record { message = message; time = time })
 
-    abbrev spell : Place × Item → PartId × Rec
-    spell e = (part_id p e.0, rec_of e.1)
+  abbrev spell : Place × Item → PartId × Rec
+  spell e = (part_id p e.0, rec_of e.1)
 
-    made_is : spelled p decoded.made ≡ made_by rules p t stores a
-    made_is =
-        let sends = over_nodes (sends_at rules a items st (olds_at st key) (news_at rules p a items (olds_at st key) key)) 0 p.kinds in
-        let changes = over_nodes (changes_at a items st (olds_at st key) (news_at rules p a items (olds_at st key) key)) 0 p.kinds in
-        map-append spell (map (sent_item rules p time) sends) (map (written_item t.part time) changes)
-        ∙ ap₂ (λ xs ys. xs ++ ys)
-        (map-map spell (sent_item rules p time) (send rules p t stores a) (λ s. refl) sends ∙ ap (map (send rules p t stores a)) sends_are)
-        (map-map spell (written_item t.part time) written (λ w. refl) changes ∙ changes_are)
+  -- what is sent, of which a record for a partition that its topic hasn't is held back
+  sent_inside : (ss : List Sent) → Through ss → spelled p (filter (is_sent p t) (map (sent_item rules p time) ss)) ≡ flat_map (send rules p t stores a) ss
+  sent_inside [] h = refl
+  sent_inside (s ∷ ss) h =
+      let place = to_part rules p s.topic s.key s.to in
+      ap (λ b. spelled p (cond (cond b (is_own p t.sub s.topic && (place == t.part)) (nat_lt place (parts_of_topic p s.topic))) (sent_item rules p time s ∷ filter (is_sent p t) (map (sent_item rules p time) ss)) (filter (is_sent p t) (map (sent_item rules p time) ss)))) h.0.0
+      ∙ by (nat_lt place (parts_of_topic p s.topic)) (sent_inside ss h.1)
+    where
+      by : (b : Bool) → spelled p (filter (is_sent p t) (map (sent_item rules p time) ss)) ≡ flat_map (send rules p t stores a) ss →
+          spelled p (cond b (sent_item rules p time s ∷ filter (is_sent p t) (map (sent_item rules p time) ss)) (filter (is_sent p t) (map (sent_item rules p time) ss)))
+          ≡ cond b (send_to rules p t stores a s (to_part rules p s.topic s.key s.to) ∷ []) [] ++ flat_map (send rules p t stores a) ss
+      by true e = ap (λ l. send_to rules p t stores a s (to_part rules p s.topic s.key s.to) ∷ l) e
+      by false e = e
 
-    late_is : decoded.late ≡ late_from rules p t stores a 0 p.kinds
-    late_is = nodes_late 0 p.kinds fits (at_places p [] p.kinds refl 0 refl) ∙ ap (λ (i : ℕ → Option StreamItem). late_all i 0 p.kinds) items_are ∙ late_same 0 p.kinds
+  made_is : spelled p (filter (is_sent p t) decoded.made) ≡ made_by rules p t stores a
+  made_is =
+      let sends = over_nodes (sends_at rules a items st (olds_at st key) (news_at rules p a items (olds_at st key) key)) 0 p.kinds in
+      let changes = over_nodes (changes_at a items st (olds_at st key) (news_at rules p a items (olds_at st key) key)) 0 p.kinds in
+      ap (spelled p) (filter-append (is_sent p t) (map (sent_item rules p time) sends) (map (written_item t.part time) changes))
+      ∙ (map-append spell (filter (is_sent p t) (map (sent_item rules p time) sends)) (filter (is_sent p t) (map (written_item t.part time) changes))
+      ∙ ap₂ (λ xs ys. xs ++ ys)
+      (sent_inside sends (through_all rules a items st (olds_at st key) (news_at rules p a items (olds_at st key) key) 0 p.kinds) ∙ ap (flat_map (send rules p t stores a)) sends_are)
+      (ap (spelled p) (writes_kept rules p t time changes (written_all rules p fits a t.sub takes st 0 p.kinds fits)) ∙ (map-map spell (written_item t.part time) written (λ w. refl) changes ∙ changes_are)))
 
-    outcome_is : filter (is_sent p t) decoded.made ≡ decoded.made → outcome_of p t stores decoded ≡ record { store = stores_after p t stores (made_by rules p t stores a); made = made_by rules p t stores a; late = late_from rules p t stores a 0 p.kinds }
-    outcome_is all =
-        ap₂ (λ (ms : List (PartId × Rec)) (l : ℕ). record { store = stores_after p t stores ms; made = ms; late = l }) (ap (spelled p) all ∙ made_is) late_is
+  late_is : decoded.late ≡ late_from rules p t stores a 0 p.kinds
+  late_is = nodes_late 0 p.kinds fits (at_places p [] p.kinds refl 0 refl) ∙ ap (λ (i : ℕ → Option StreamItem). late_all i 0 p.kinds) items_are ∙ late_same 0 p.kinds
+
+  outcome_is : outcome_of p t stores decoded ≡ record { store = stores_after p t stores (made_by rules p t stores a); made = made_by rules p t stores a; late = late_from rules p t stores a 0 p.kinds }
+  outcome_is = ap₂ (λ (ms : List (PartId × Rec)) (l : ℕ). record { store = stores_after p t stores ms; made = ms; late = l }) made_is late_is
 
 -- a topic that tasks take is no changelog
 taken_by : (p : Plan) (topic : Topic) (r : Rec) (message : Message) (sub : ℕ) → message_in p topic r ≡ Some message → nat_eq (reads p topic) sub ≡ true → taker p topic ≡ sub
@@ -450,7 +464,7 @@ steps_are_made rules d well names t stores q r topic message taken is held =
     let key_is : (k : Key) → step_key message ≡ Some k → key_from k ≡ Some k = λ k e. key_read p topic r message k taken.spelled e in
     let arrives = read_fits p topic r message is taken.spelled in
     let same = is_decoded rules p t stores q r topic message taken
-    ∙ outcome_is rules p fits names t stores topic message r.ts takes key_is arrives is.time held q (nothing_is_held_back rules d well t (store_from p t.sub stores) (record { topic = topic; part = q.part }) (record { message = message; time = r.ts }) takes) in
+    ∙ outcome_is rules p fits names t stores topic q.part message r.ts takes key_is arrives is.time held in
     record {
       made = ap (λ (o : Outcome PartId ByteStores Rec). o.made) same;
       store = ap (λ (o : Outcome PartId ByteStores Rec). o.store) same;

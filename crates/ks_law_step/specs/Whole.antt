@@ -1,5 +1,6 @@
 -- A task's whole step over the bytes of its stores, as code makes it: lists that grow node by node, stores that are looked up.
-use Rattle.std.specs.Prelude.{◌≡◌, ◌<◌, ◌+◌, ◌^◌, ℕ, suc, List, [], ◌∷◌, ◌++◌, map, cond, Option, Some, None, option_map, nat_eq}
+use Rattle.std.specs.Prelude.{◌≡◌, ◌<◌, ◌+◌, ◌^◌, ℕ, suc, List, [], ◌∷◌, ◌++◌, map, cond, Option, Some, None, option_map, nat_lt}
+use Rattle.std.specs.List.{flat_map}
 use Rattle.ks_row.specs.declared.record.Rec.{Rec}
 use Rattle.ks_row.specs.declared.record.PartId.{PartId}
 use Rattle.ks_row.specs.declared.record.TaskId.{TaskId}
@@ -12,12 +13,14 @@ use Rattle.ks_plan.specs.declared.node.Topic.TheVariants.{Subscriptions, Changel
 use Rattle.ks_plan.specs.Plan.{Plan, Kind, Window, plan_of}
 use Rattle.ks_plan.specs.Plan.Kind.{StreamAggregate, TableAggregate, Windowed, ForeignKeyJoin}
 use Rattle.ks_plan.specs.Layout.{number_of, parts_of_topic}
+use Rattle.ks_expr.specs.declared.terms.Fk.{Fk}
 use Rattle.ks_query.specs.Streams.{Key, StreamItem}
-use Rattle.ks_def_tasks.specs.Messages.{Message, Rules, shown, same_option}
+use Rattle.ks_def_tasks.specs.Messages.{Message, Place, Rules, shown, same_option, same_subscriber}
 use Rattle.ks_def_tasks.specs.Messages.Message.{Asked, KeptHash}
 use Rattle.ks_def_tasks.specs.Foreign.{subscriptions, subscribed, answer_to, answer_all}
 use Rattle.ks_def_tasks.specs.Step.{Arrival, Values, Sent, arrived, step_key, item_into, row_in, changed, regroup, regroup_rows, send_subscriptions, send_responses, answer_of, over_nodes, value_changes}
 use Rattle.ks_def_tasks.specs.Bytes.{ByteStores, byte_step, is_own, rec_of, stores_after}
+use Rattle.ks_def_tasks.specs.Tasks.{arrival, to_part}
 use Rattle.ks_def_tasks.specs.Laws.{IsTakenBy}
 use Rattle.ks_law_quiescence.specs.WellFormed.{IsWellFormed}
 use Rattle.ks_law_topology.specs.Spelled.{IfThere}
@@ -25,7 +28,7 @@ use Rattle.ks_def_runs.specs.Pairs.{ArePairs}
 use Rattle.ks_def_lookups.specs.Windows.{CountedBytes}
 use Rattle.ks_law_kinds.specs.Fitting.{FitsPlan}
 use Rattle.ks_def_lookups.specs.Lists.{item_in, all_items, value_in, all_values}
-use Rattle.ks_def_lookups.specs.Stores.{table_at, hash_at, kept_at}
+use Rattle.ks_def_lookups.specs.Stores.{table_at, subscriber_at, kept_at}
 use Rattle.ks_def_lookups.specs.Counts.{nothing_counted, counted_item}
 
 module _ (rules : Rules) (p : Plan) (t : TaskId) (stores : ByteStores) (a : Arrival) where
@@ -44,13 +47,13 @@ module _ (rules : Rules) (p : Plan) (t : TaskId) (stores : ByteStores) (a : Arri
   -- ---- what is sent
   -- the answer to a subscription, with the right row of the moment
   abbrev pub answer_by : ℕ → ℕ → Option Message → List Sent
-  answer_by n r (Some (Asked b k s)) = send_responses n (answer_of k (answer_to s (option_map shown (table_at p t.sub stores r b))))
+  answer_by n r (Some (Asked b k s)) = send_responses n (answer_of k s.part (answer_to s (option_map shown (table_at p t.sub stores r b))))
   answer_by n r _ = []
 
-  abbrev pub join_by : List ℕ → ℕ → ℕ → ℕ → Values → Values → Option Key → List Sent
+  abbrev pub join_by : Fk → ℕ → ℕ → ℕ → Values → Values → Option Key → List Sent
   join_by fk n l r olds news None = []
   join_by fk n l r olds news (Some k) =
-      cond (changed olds news l) (send_subscriptions n k (subscriptions rules.hash fk (row_in olds l) (row_in news l))) []
+      cond (changed olds news l) (send_subscriptions n k (subscriptions rules.hash fk k (a.names n) (row_in olds l) (row_in news l))) []
       ++ cond (changed olds news r) (send_responses n (answer_all (row_in news r) (kept_at p t.sub stores n k))) []
 
   abbrev pub sends_by : (ℕ → Option StreamItem) → Values → Values → ℕ → Kind → List Sent
@@ -60,8 +63,15 @@ module _ (rules : Rules) (p : Plan) (t : TaskId) (stores : ByteStores) (a : Arri
   sends_by items olds news n (ForeignKeyJoin l r fk kind s) = join_by fk n l r olds news (step_key a.item.message) ++ answer_by n r (arrived a (Subscriptions n))
   sends_by items olds news n _ = []
 
-  abbrev pub send : Sent → PartId × Rec
-  send s = (record { topic = number_of p s.topic; part = rules.part s.key (parts_of_topic p s.topic) }, rec_of (record { message = s.message; time = a.item.time }))
+  -- to the place of its key; to a partition that was named, where its topic has it
+  abbrev pub place : Sent → Place
+  place s = record { topic = s.topic; part = to_part rules p s.topic s.key s.to }
+
+  abbrev pub send_to : Sent → ℕ → PartId × Rec
+  send_to s part = (record { topic = number_of p s.topic; part = part }, rec_of (record { message = s.message; time = a.item.time }))
+
+  abbrev pub send : Sent → List (PartId × Rec)
+  send s = cond (nat_lt (place s).part (parts_of_topic p s.topic)) (send_to s (place s).part ∷ []) []
 
   -- ---- what changelogs are told
   abbrev pub at_log : Topic → PartId
@@ -71,7 +81,7 @@ module _ (rules : Rules) (p : Plan) (t : TaskId) (stores : ByteStores) (a : Arri
   tell u m = (at_log u, rec_of (record { message = m; time = a.item.time }))
 
   abbrev pub hash_by : ℕ → Option Message → List Message
-  hash_by n (Some (Asked b k s)) = cond (same_option nat_eq (hash_at p t.sub stores n b k) (subscribed s)) [] (KeptHash b k (subscribed s) ∷ [])
+  hash_by n (Some (Asked b k s)) = cond (same_option same_subscriber (subscriber_at p t.sub stores n b k) (subscribed s)) [] (KeptHash b k (subscribed s) ∷ [])
   hash_by n _ = []
 
   -- of a windowed count that the task keeps
@@ -91,7 +101,7 @@ module _ (rules : Rules) (p : Plan) (t : TaskId) (stores : ByteStores) (a : Arri
   abbrev pub made_by : List (PartId × Rec)
   made_by =
       let key = step_key a.item.message in
-      map send (over_nodes (sends_by items_by (olds_by key) (news_by key)) 0 p.kinds) ++ over_nodes (recs_by items_by (olds_by key) (news_by key)) 0 p.kinds
+      flat_map send (over_nodes (sends_by items_by (olds_by key) (news_by key)) 0 p.kinds) ++ over_nodes (recs_by items_by (olds_by key) (news_by key)) 0 p.kinds
 
   abbrev pub late_from : ℕ → List Kind → ℕ
   late_from n [] = 0
@@ -113,4 +123,4 @@ pub record IsMade (rules : Rules) (p : Plan) (t : TaskId) (stores : ByteStores) 
 
 abbrev pub StepsAreMade : Type 0
 StepsAreMade = (rules : Rules) (d : DraftView) → IsWellFormed d → let p = plan_of d in FitsPlan p → (t : TaskId) (stores : ByteStores) (q : PartId) (r : Rec) (topic : Topic) (message : Message) →
-    IsTakenBy p t q r topic message → IsRecord r → AreStores stores → IsMade rules p t stores q r (record { topic = topic; item = record { message = message; time = r.ts } })
+    IsTakenBy p t q r topic message → IsRecord r → AreStores stores → IsMade rules p t stores q r (arrival p (record { topic = topic; part = q.part }) (record { message = message; time = r.ts }))

@@ -1,5 +1,5 @@
 -- What a task makes of a record goes to topics that come after the record's own.
-use Rattle.std.proofs.Common.{◌≡◌, ℕ, suc, ◌+◌, ◌≤◌, ◌<◌, Bool, true, false, cond, not, ◌||◌, List, length, [], ◌∷◌, ◌++◌, Option, Some, None, refl, sym, ap, ap₂, subst, ◌∙◌, ◌⊎◌, inl, inr, ⊎_elim, arith, nat_eq}
+use Rattle.std.proofs.Common.{◌≡◌, ℕ, suc, ◌+◌, ◌≤◌, ◌<◌, Bool, true, false, cond, not, ◌||◌, List, length, [], ◌∷◌, ◌++◌, map, Option, Some, None, refl, sym, ap, ap₂, subst, ◌∙◌, ◌⊎◌, inl, inr, ⊎_elim, arith, nat_eq}
 use Rattle.std.specs.Prelude.{◌==◌, ℤ, option_and_then}
 use Rattle.std.specs.List.{filter}
 use Rattle.std.specs.Ordering.{is_eq}
@@ -14,8 +14,8 @@ use Rattle.ks_row.specs.declared.record.PartId.{PartId}
 use Rattle.ks_row.specs.declared.record.TaskId.{TaskId}
 use Rattle.ks_row.specs.Parts.{same_part}
 use Rattle.ks_wire.specs.declared.values.Delta.{Delta}
-use Rattle.ks_wire.specs.declared.values.Response.{Response}
 use Rattle.ks_expr.specs.Eval.{Row, joined, same_field}
+use Rattle.ks_expr.specs.declared.terms.Fk.{Fk}
 use Rattle.ks_plan.specs.declared.node.Topic.{Topic}
 use Rattle.ks_plan.specs.declared.node.Topic.TheVariants.{Input as InputTopic, Repartition, Subscriptions, Responses, Changelog, HashChangelog}
 use Rattle.ks_plan.specs.Plan.{Plan, Kind, plan_of}
@@ -28,9 +28,9 @@ use Rattle.ks_query.specs.Aggregates.{table_parts, share_under, same_share, delt
 use Rattle.ks_def_runs.specs.Run.{sent_to}
 use Rattle.ks_def_tasks.specs.Messages.{Place, Stored, Subscription, Message, Item, Store, Rules, same_row, same_option}
 use Rattle.ks_def_tasks.specs.Messages.Message.{Asked}
-use Rattle.ks_def_tasks.specs.Foreign.{subscriptions, answer_all}
-use Rattle.ks_def_tasks.specs.Step.{Arrival, Sent, Written, Values, row_in, changed, arrived, step_key, sends_at, changes_at, join_sends, regroup, keyed_to, send_deltas, send_subscriptions, send_responses, answer_one, write_all, over_nodes, items_from, item_at, item_into, item_given, item_keyed, taken_row, added, applied, responded, direct, of_row, olds_at, news_at, value_at, values_from}
-use Rattle.ks_def_tasks.specs.Tasks.{step, sent_item, written_item, is_changelog}
+use Rattle.ks_def_tasks.specs.Foreign.{Sending, subscriptions, answer_all}
+use Rattle.ks_def_tasks.specs.Step.{Arrival, Sent, Written, Values, whole_step, row_in, changed, arrived, step_key, sends_at, changes_at, join_sends, regroup, keyed_to, send_deltas, send_subscriptions, send_responses, answer_one, write_all, over_nodes, items_from, item_at, item_into, item_given, item_keyed, taken_row, added, applied, responded, direct, of_row, olds_at, news_at, value_at, values_from}
+use Rattle.ks_def_tasks.specs.Tasks.{arrival, step, sent_item, written_item, is_changelog}
 use Rattle.ks_def_tasks.specs.Bytes.{ByteStores, step_at, step_read, nothing_made, message_in, store_from, spelled, part_id, is_sent}
 use Rattle.ks_history.specs.Machine.{network}
 use Rattle.ks_law_quiescence.proofs.Each.{Each, each_nothing, each_first, each_parts, Each-append, Each-map}
@@ -148,7 +148,7 @@ module _ (rules : Rules) (p : Plan) (a : Arrival) (within : IsWithin p a.topic) 
     value_reached news n (ForeignKeyJoin l r fk kind s) h f =
         ⊎_elim
         (λ (e : news l ≡ olds l). ⊎_elim
-        (λ (g : responded rules kind s (row_in news l) (arrived a (Responses n)) (olds n) ≡ olds n). inl (ap (λ c. cond c (direct fk kind s (row_in olds l) (row_in news l) (olds n)) (responded rules kind s (row_in news l) (arrived a (Responses n)) (olds n))) (unchanged_row news l e) ∙ g))
+        (λ (g : responded rules kind s (row_in news l) (arrived a (Responses n)) (olds n) ≡ olds n). inl (ap (λ c. cond c (direct fk (step_key a.item.message) kind s (row_in olds l) (row_in news l) (olds n)) (responded rules kind s (row_in news l) (arrived a (Responses n)) (olds n))) (unchanged_row news l e) ∙ g))
         (λ o. inr o)
         (at_responses n (λ m. responded rules kind s (row_in news l) m (olds n)) (olds n) refl))
         (λ (o : Reaches l). inr (reaches_later l n f.0.before o)) (h l)
@@ -176,7 +176,7 @@ module _ (rules : Rules) (p : Plan) (a : Arrival) (within : IsWithin p a.topic) 
     later_subscriptions n k [] lt = each_nothing IsLater
     later_subscriptions n k (s ∷ ss) lt = each_first IsLater _ _ lt (later_subscriptions n k ss lt)
 
-    later_responses : (n : ℕ) (rs : List (Key × Response)) → rank p a.topic < rank p (Responses n) → Each IsLater (send_responses n rs)
+    later_responses : (n : ℕ) (rs : List Sending) → rank p a.topic < rank p (Responses n) → Each IsLater (send_responses n rs)
     later_responses n [] lt = each_nothing IsLater
     later_responses n (r ∷ rs) lt = each_first IsLater _ _ lt (later_responses n rs lt)
 
@@ -208,10 +208,10 @@ module _ (rules : Rules) (p : Plan) (a : Arrival) (within : IsWithin p a.topic) 
           by true g = g
           by false g = each_nothing IsLater
 
-      later_join : (fk : List ℕ) (n l r : ℕ) (st : Store) (k : Option Key) → l < n → r < n → Each IsLater (join_sends rules fk n l r st olds news k)
-      later_join fk n l r st None ll rl = each_nothing IsLater
-      later_join fk n l r st (Some k) ll rl = Each-append IsLater _ _
-          (where_changed l n _ ll (λ lt. later_subscriptions n k (subscriptions rules.hash fk (row_in olds l) (row_in news l)) lt))
+      later_join : (fk : Fk) (part : Option ℕ) (n l r : ℕ) (st : Store) (k : Option Key) → l < n → r < n → Each IsLater (join_sends rules fk part n l r st olds news k)
+      later_join fk part n l r st None ll rl = each_nothing IsLater
+      later_join fk part n l r st (Some k) ll rl = Each-append IsLater _ _
+          (where_changed l n _ ll (λ lt. later_subscriptions n k (subscriptions rules.hash fk k part (row_in olds l) (row_in news l)) lt))
           (where_changed r n _ rl (λ lt. later_responses n (answer_all (row_in news r) (fin.entries (st.hashes n k))) (omega (arith, lt))))
 
       later_answer : (n : ℕ) (st : Store) (r : ℕ) (m : Option Message) → rank p a.topic < rank p (Responses n) → Each IsLater (answer_one n st r m)
@@ -232,7 +232,7 @@ module _ (rules : Rules) (p : Plan) (a : Arrival) (within : IsWithin p a.topic) 
           (λ (e : news f ≡ olds f). subst (λ (w : Option Stored). Each IsLater (send_deltas n (table_parts by field (row_in olds f) (row_in (λ m. w) f)))) (sym e)
           (subst (λ ds. Each IsLater (send_deltas n ds)) (sym (no_parts by field (row_in olds f))) (each_nothing IsLater)))
           (λ (o : Reaches f). later_deltas n (table_parts by field (row_in olds f) (row_in news f)) (omega (arith, fit, o))) (h f)
-      later_sends st n (ForeignKeyJoin l r fk kind s) fit = Each-append IsLater _ _ (later_join fk n l r st (step_key a.item.message) fit.0.before fit.1) (later_one n st r)
+      later_sends st n (ForeignKeyJoin l r fk kind s) fit = Each-append IsLater _ _ (later_join fk (a.names n) n l r st (step_key a.item.message) fit.0.before fit.1) (later_one n st r)
       later_sends st n (StreamSource t) fit = each_nothing IsLater
       later_sends st n (TableSource t) fit = each_nothing IsLater
       later_sends st n (StreamFilter f x) fit = each_nothing IsLater
@@ -265,8 +265,9 @@ module _ (rules : Rules) (p : Plan) (a : Arrival) (within : IsWithin p a.topic) 
     abbrev Follows : Place × Item → Type 0
     Follows x = rank p a.topic < rank p x.0.topic
 
-    pub step_follows : Fits p → (t : TaskId) (st : Store) (part : ℕ) → Each Follows (step rules p t st (record { topic = a.topic; part = part }) a.item).made
-    step_follows fits t st part =
+    pub step_follows : Fits p → (t : TaskId) (st : Store) →
+        Each Follows (map (sent_item rules p a.item.time) (whole_step rules p st a).sends ++ map (written_item t.part a.item.time) (whole_step rules p st a).changes)
+    step_follows fits t st =
         let key = step_key a.item.message in
         let items = items_from a (λ n. None) 0 p.kinds in
         let olds = olds_at st key in
@@ -312,8 +313,8 @@ module _ (rules : Rules) (p : Plan) where
     of_read : (topic : Topic) (rec : Rec) → topic_at p q.topic ≡ Some topic → (m : Option Message) → message_in p topic rec ≡ m → sent_to (network (work_of rules p)) r (step_read rules p t stores q topic rec.ts m).made ≡ []
     of_read topic rec at None e = refl
     of_read topic rec at (Some m) e =
-        let a : Arrival = record { topic = topic; item = record { message = m; time = rec.ts } } in
-        let follows = step_follows rules p a (at_place p 0 _ (topics_of p) q.topic topic (all_between p) at).1 (plain_message topic rec m e) fits t (store_from p t.sub stores) q.part in
+        let a : Arrival = arrival p (record { topic = topic; part = q.part }) (record { message = m; time = rec.ts }) in
+        let follows = step_follows rules p a (at_place p 0 _ (topics_of p) q.topic topic (all_between p) at).1 (plain_message topic rec m e) fits t (store_from p t.sub stores) in
         let made = (step rules p t (store_from p t.sub stores) (record { topic = topic; part = q.part }) (record { message = m; time = rec.ts })).made in
         none_to r q.topic le (is_sent p t) made (later made follows)
       where

@@ -1,6 +1,9 @@
 pub mod Writes
 pub mod Networks
 pub mod Kept
+pub mod Few
+pub mod Every
+pub mod Naming
 pub mod Placing
 pub mod Labels
 pub mod Setups

@@ -1,5 +1,5 @@
 -- A cluster of a well-formed topology can be made.
-use Rattle.std.proofs.Common.{◌≡◌, ℕ, zero, suc, ◌+◌, ◌<◌, Bool, true, false, cond, List, length, [], ◌∷◌, ◌++◌, map, Some, refl, sym, ap, subst, ◌∙◌, arith, nat_eq, slice_get, length-append, append-nil, append_assoc, ⊎_elim, ◌⊎◌, inl, inr}
+use Rattle.std.proofs.Common.{◌≡◌, ℕ, zero, suc, ◌+◌, ◌<◌, ◌≤◌, Bool, true, false, cond, List, length, [], ◌∷◌, ◌++◌, map, Some, refl, sym, ap, subst, ◌∙◌, arith, nat_eq, slice_get, length-append, append-nil, append_assoc, ⊎_elim, ◌⊎◌, inl, inr}
 use Rattle.std.specs.Prelude.{◌==◌, slice_index}
 use Rattle.std.specs.List.{filter, flat_map}
 use Rattle.std.proofs.lemmas.List.{length-map}
@@ -11,6 +11,7 @@ use Rattle.ks_row.specs.declared.record.TaskId.{TaskId}
 use Rattle.ks_row.specs.Parts.{same_task}
 use Rattle.ks_plan.specs.declared.node.Topic.{Topic}
 use Rattle.ks_plan.specs.declared.node.Topic.TheVariants.{Input as InputTopic, Repartition, Subscriptions, Responses, Changelog, HashChangelog}
+use Rattle.ks_plan.specs.Drafts.{DraftView}
 use Rattle.ks_plan.specs.Plan.{Plan, Kind, plan_of}
 use Rattle.ks_plan.specs.Plan.Kind.{StreamSource, TableSource, StreamFilter, TableFilter, StreamMap, TableMap, KeySelected, StreamAggregate, TableAggregate, Windowed, KeyJoin, ForeignKeyJoin}
 use Rattle.ks_plan.specs.Layout.{same_topic, up_to, through_topics, changelogs_of, by_node, input_topics, topics_of, place_of, number_of, is_drained, drain_order, inputs, changelogs, reads, sub_of, sub_count, parts_of, parts_of_topic, kind_at, right_of, at, is_source_of, any_source_of, is_read, source_of, subs, first_in, sub_parts, tasks_in, tasks}
@@ -24,6 +25,8 @@ use Rattle.ks_law_quiescence.proofs.WellFormed.{well_formed_fits}
 use Rattle.ks_law_topology.specs.Work.{setup_of, SetupsAreMade}
 use Rattle.ks_law_topology.proofs.Labels.{one_count}
 use Rattle.ks_law_topology.proofs.Placing.{AtPlace, at_places}
+use Rattle.ks_law_quiescence.specs.WellFormed.{IsWellFormed}
+use Rattle.ks_law_topology.proofs.Few.{node_few}
 use Rattle.ks_def_tasks.proofs.Numbered.{length_up_to, get_up_to, get_map, first_has}
 
 -- ---- a subtopology's tasks
@@ -349,3 +352,9 @@ module _ (p : Plan) (fits : Fits p) where
 
 pub setups_are_made : SetupsAreMade
 setups_are_made rules d well = is_setup (plan_of d) (well_formed_fits d well) rules
+
+-- a task's partition is one of 64
+pub task_few : (d : DraftView) (t : TaskId) → IsWellFormed d → has_task t (tasks (plan_of d)) ≡ true → t.part ≤ 63
+task_few d t e there =
+    let p = plan_of d in
+    omega (arith, (within_tasks p t (sub_count p) there).1, node_few d e (first_in t.sub (subs p)))

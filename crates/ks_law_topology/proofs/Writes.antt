@@ -15,6 +15,7 @@ use Rattle.ks_plan.specs.Plan.{Plan, Kind}
 use Rattle.ks_plan.specs.Plan.Kind.{StreamSource, TableSource, StreamFilter, TableFilter, StreamMap, TableMap, KeySelected, StreamAggregate, TableAggregate, Windowed, KeyJoin, ForeignKeyJoin}
 use Rattle.ks_plan.specs.Layout.{same_topic, reads, sub_of}
 use Rattle.ks_expr.specs.Eval.{Row, same_field}
+use Rattle.ks_expr.specs.declared.terms.Fk.{Fk}
 use Rattle.ks_def_runs.specs.FinMap as fin
 use Rattle.ks_query.specs.Streams.{Key, StreamItem, group_key}
 use Rattle.ks_query.specs.Aggregates.{table_parts}
@@ -22,7 +23,7 @@ use Rattle.ks_def_tasks.specs.Messages.{same_row, Stored, Subscription, Message,
 use Rattle.ks_def_tasks.specs.Messages.Stored.{OfRow, OfAgg}
 use Rattle.ks_def_tasks.specs.Messages.Message.{Asked, Kept}
 use Rattle.ks_def_tasks.specs.Bytes.{key_bytes}
-use Rattle.ks_def_tasks.specs.Foreign.{subscriptions, answer_all}
+use Rattle.ks_def_tasks.specs.Foreign.{subscriptions, answer_all, Sending}
 use Rattle.ks_def_tasks.specs.Windowed.{count_item}
 use Rattle.ks_def_tasks.specs.Step.{Arrival, Sent, Written, Values, row_in, changed, arrived, step_key, sends_at, join_sends, regroup, keyed_to, send_deltas, send_subscriptions, send_responses, answer_one, write_all, value_changes, counted_at, hash_changes, changes_at, over_nodes, items_from, item_keyed, olds_at, news_at}
 use Rattle.ks_def_tasks.specs.Tasks.{taker, is_changelog}
@@ -59,10 +60,15 @@ pub nothing_changes : (key : Option Key) (w : Option Stored) → value_changes k
 nothing_changes None w = refl
 nothing_changes (Some k) w = ap (λ b. cond b [] (Kept k w ∷ [])) (option_itself w)
 
--- ---- what is sent goes to no changelog, and by its key
+-- ---- what is sent goes to no changelog, and by its key; to a topic of subscriptions, a subscription alone
+abbrev pub IsAsking : Topic → Message → Type 0
+IsAsking (Subscriptions n) (Asked b k s) = Unit {0}
+IsAsking (Subscriptions n) m = ⊥
+IsAsking t m = Unit {0}
+
 abbrev pub Through : List Sent → Type 0
 Through [] = Unit {0}
-Through (s ∷ xs) = ((is_changelog s.topic ≡ false) × (key_bytes s.message ≡ Some s.key)) × Through xs
+Through (s ∷ xs) = ((is_changelog s.topic ≡ false) × (key_bytes s.message ≡ Some s.key) × IsAsking s.topic s.message) × Through xs
 
 Through-append : (xs ys : List Sent) → Through xs → Through ys → Through (xs ++ ys)
 Through-append [] ys a b = b
@@ -74,19 +80,19 @@ Through-cond false xs h = tt
 
 through_deltas : (n : ℕ) (ds : List (Key × Delta)) → Through (send_deltas n ds)
 through_deltas n [] = tt
-through_deltas n (d ∷ ds) = ((refl, refl), through_deltas n ds)
+through_deltas n (d ∷ ds) = ((refl, refl, tt), through_deltas n ds)
 
 through_subscriptions : (n : ℕ) (k : Key) (ss : List (Key × Subscription)) → Through (send_subscriptions n k ss)
 through_subscriptions n k [] = tt
-through_subscriptions n k (s ∷ ss) = ((refl, refl), through_subscriptions n k ss)
+through_subscriptions n k (s ∷ ss) = ((refl, refl, tt), through_subscriptions n k ss)
 
-through_responses : (n : ℕ) (rs : List (Key × Response)) → Through (send_responses n rs)
+through_responses : (n : ℕ) (rs : List Sending) → Through (send_responses n rs)
 through_responses n [] = tt
-through_responses n (r ∷ rs) = ((refl, refl), through_responses n rs)
+through_responses n (r ∷ rs) = ((refl, refl, tt), through_responses n rs)
 
 through_keyed : (n : ℕ) (row : Row) (g : Option Key) → Through (keyed_to n row g)
 through_keyed n row None = tt
-through_keyed n row (Some g) = ((refl, refl), tt)
+through_keyed n row (Some g) = ((refl, refl, tt), tt)
 
 through_regroup : (by : Option (List ℕ)) (n : ℕ) (x : Option StreamItem) → Through (regroup by n x)
 through_regroup by n None = tt
@@ -97,10 +103,10 @@ through_one n st r None = tt
 through_one n st r (Some (Asked b q s)) = through_responses n _
 through_one n st r (Some _) = tt
 
-through_join : (rules : Rules) (fk : List ℕ) (n l r : ℕ) (st : Store) (olds news : Values) (k : Option Key) → Through (join_sends rules fk n l r st olds news k)
-through_join rules fk n l r st olds news None = tt
-through_join rules fk n l r st olds news (Some k) = Through-append _ _
-    (Through-cond (changed olds news l) _ (through_subscriptions n k (subscriptions rules.hash fk (row_in olds l) (row_in news l))))
+through_join : (rules : Rules) (fk : Fk) (part : Option ℕ) (n l r : ℕ) (st : Store) (olds news : Values) (k : Option Key) → Through (join_sends rules fk part n l r st olds news k)
+through_join rules fk part n l r st olds news None = tt
+through_join rules fk part n l r st olds news (Some k) = Through-append _ _
+    (Through-cond (changed olds news l) _ (through_subscriptions n k (subscriptions rules.hash fk k part (row_in olds l) (row_in news l))))
     (Through-cond (changed olds news r) _ (through_responses n (answer_all (row_in news r) (fin.entries (st.hashes n k)))))
 
 through_sends : (rules : Rules) (a : Arrival) (items : ℕ → Option StreamItem) (st : Store) (olds news : Values) (n : ℕ) (k : Kind) → Through (sends_at rules a items st olds news n k)
@@ -108,7 +114,7 @@ through_sends rules a items st olds news n (StreamAggregate f by field through) 
 through_sends rules a items st olds news n (Windowed f by w through) = Through-cond through _ (through_regroup by n (items f))
 through_sends rules a items st olds news n (TableAggregate f by field) = through_deltas n (table_parts by field (row_in olds f) (row_in news f))
 through_sends rules a items st olds news n (ForeignKeyJoin l r fk kind s) =
-    Through-append _ _ (through_join rules fk n l r st olds news (step_key a.item.message)) (through_one n st r (arrived a (Subscriptions n)))
+    Through-append _ _ (through_join rules fk (a.names n) n l r st olds news (step_key a.item.message)) (through_one n st r (arrived a (Subscriptions n)))
 through_sends rules a items st olds news n _ = tt
 
 pub through_all : (rules : Rules) (a : Arrival) (items : ℕ → Option StreamItem) (st : Store) (olds news : Values) (n : ℕ) (ks : List Kind) → Through (over_nodes (sends_at rules a items st olds news) n ks)

@@ -15,8 +15,8 @@ pub fn works_are_networks()
     ensures { WorksAreNetworks }
 {}
 
-/// Where a topology is well formed, a task that takes a record writes its own changelogs alone: that a record for another's
-/// changelog would be held back changes nothing.
+/// Where a topology is well formed, a task that takes a record writes its own changelogs alone, and answers to partitions that there are,
+/// if such were named: that a record for another's changelog, or for no partition, would be held back changes nothing.
 pub fn nothing_is_held_back()
     ensures { NothingIsHeldBack }
 {}
@@ -35,8 +35,9 @@ pub fn journals_are_runs()
 {}
 
 /// In every journal of a well-formed topology that is legal and faithful, and whose produced records stand at the partitions of
-/// their keys, each decided internal record has a key, and each table's key stands only in the task of its partition: a window's by the
-/// key of its group, and a subscription's by its foreign key, where the right row of that key stands.
+/// their keys, each decided internal record has a key, and each table's key stands only in the task of its place: a window's by the
+/// key of its group, and a subscription's by its foreign key, where the right row of that key stands. What a subscription says, and what is
+/// kept of it, names the partition of its left key's task exactly where the left side's keys are spread by their front parts.
 pub fn decided_stand()
     ensures { DecidedStand }
 {}

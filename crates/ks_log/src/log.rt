@@ -135,7 +135,7 @@ impl Log {
         seat - 1
     }
 
-    /// The same, where the log has room for so many slots more.
+    /// Where a partition stands, or how many there are, if the log has room for so many slots more; else want of memory.
     fn place_for(&self, part: PartId, count: usize) -> Result<usize, AllocError>
         ensures at { IfOk result (λ at. at ≡ place part self.now) }
         ensures below { IfOk result (λ at. at < 2 ^ 48) }

@@ -12,7 +12,7 @@ use Rattle.std.proofs.lemmas.List.Sums.{fold-append}
 use Rattle.ks_expr.specs.Eval.{same_bytes}
 use Rattle.ks_plan.specs.declared.node.Node.{Node}
 use Rattle.ks_plan.specs.declared.node.Wiring.{Wiring}
-use Rattle.ks_plan.specs.Drafts.{Name, OpView, StreamOf, TableOf, FilterOf, MapOf, KeyOf, CountOf, SumOf, WindowedOf, JoinOf, FkJoinOf, NodeView, DraftView}
+use Rattle.ks_plan.specs.Drafts.{Topics, Name, OpView, StreamOf, TableOf, FilterOf, MapOf, KeyOf, CountOf, SumOf, WindowedOf, JoinOf, FkJoinOf, NodeView, DraftView}
 use Rattle.ks_plan.specs.Plan.{Plan, Kind, Window, Known, plan_of, known_of, known_from, known_at, known_names, known_nodes, node_number, name_place, learn, is_stream, wiring_of, gives_stream, window_of, natural, or_number}
 use Rattle.ks_plan.specs.Plan.Kind.{StreamFilter, TableFilter, StreamMap, TableMap, StreamAggregate, TableAggregate, Windowed}
 use Rattle.ks_plan.specs.Layout.{kind_at, no_kind}
@@ -105,7 +105,7 @@ either : (b : Bool) (op : OpView) (x y : Kind) → kind_from op (wiring_of x) �
 either true op x y f g = f
 either false op x y f g = g
 
-kind_is : (ts : List (Name × ℤ)) (ks : List Known) (op : OpView) → WindowFits op → kind_from op (wiring_of (known_of ts ks op).0) ≡ Some (known_of ts ks op).0
+kind_is : (ts : Topics) (ks : List Known) (op : OpView) → WindowFits op → kind_from op (wiring_of (known_of ts ks op).0) ≡ Some (known_of ts ks op).0
 kind_is ts ks (StreamOf t) h = refl
 kind_is ts ks (TableOf t) h = refl
 kind_is ts ks (FilterOf f x) h = either (is_stream (known_at ks f).kind) (FilterOf f x) (StreamFilter (node_number ks f) x) (TableFilter (node_number ks f) x) refl refl
@@ -122,7 +122,7 @@ kind_is ts ks (FkJoinOf l r fk kind s) h = refl
 abbrev kinds_of : List Known → List Kind
 kinds_of ks = map (λ (k : Known). k.kind) ks
 
-abbrev rest_kinds : List (Name × ℤ) → List Known → List NodeView → List Kind
+abbrev rest_kinds : Topics → List Known → List NodeView → List Kind
 rest_kinds ts ks [] = []
 rest_kinds ts ks (n ∷ ns) = (known_of ts ks n.op).0 ∷ rest_kinds ts (learn ts ks n) ns
 
@@ -130,7 +130,7 @@ kinds-push : (ks : List Known) (k : Known) → kinds_of (ks ++ k ∷ []) ≡ kin
 kinds-push [] k = refl
 kinds-push (x ∷ ks) k = ap (λ (l : List Kind). x.kind ∷ l) (kinds-push ks k)
 
-all_kinds : (ts : List (Name × ℤ)) (ks : List Known) (ns : List NodeView) → kinds_of (fold (learn ts) ks ns) ≡ kinds_of ks ++ rest_kinds ts ks ns
+all_kinds : (ts : Topics) (ks : List Known) (ns : List NodeView) → kinds_of (fold (learn ts) ks ns) ≡ kinds_of ks ++ rest_kinds ts ks ns
 all_kinds ts ks [] = sym (append-nil (kinds_of ks))
 all_kinds ts ks (n ∷ ns) =
     all_kinds ts (learn ts ks n) ns
@@ -141,7 +141,7 @@ get_end : (xs : List Kind) (x : Kind) (ys : List Kind) → get_or (xs ++ x ∷ y
 get_end [] x ys = refl
 get_end (y ∷ xs) x ys = get_end xs x ys
 
-length_known : (ts : List (Name × ℤ)) (ks : List Known) (ns : List NodeView) → length (kinds_of (fold (learn ts) ks ns)) ≡ length (kinds_of ks) + length ns
+length_known : (ts : Topics) (ks : List Known) (ns : List NodeView) → length (kinds_of (fold (learn ts) ks ns)) ≡ length (kinds_of ks) + length ns
 length_known ts ks [] = omega arith
 length_known ts ks (n ∷ ns) =
     let more = length_known ts (learn ts ks n) ns in
@@ -218,7 +218,7 @@ names-push : (ks : List Known) (k : Known) → known_names (ks ++ k ∷ []) ≡ 
 names-push [] k = refl
 names-push (x ∷ ks) k = ap (λ (l : List Name). x.name ∷ l) (names-push ks k)
 
-all_names : (ts : List (Name × ℤ)) (ks : List Known) (ns : List NodeView) → known_names (fold (learn ts) ks ns) ≡ known_names ks ++ view_names ns
+all_names : (ts : Topics) (ks : List Known) (ns : List NodeView) → known_names (fold (learn ts) ks ns) ≡ known_names ks ++ view_names ns
 all_names ts ks [] = sym (append-nil (known_names ks))
 all_names ts ks (n ∷ ns) =
     all_names ts (learn ts ks n) ns

@@ -1,6 +1,7 @@
 -- What a built node computes, from its operation and its wiring: the node's kind in the plan.
 use Rattle.std.specs.Prelude.{[], Option, Some, None, option_map, unwrap_or, cond, ◌&&◌, nat_le}
 use Rattle.ks_expr.specs.declared.terms.JoinKind.{JoinKind}
+use Rattle.ks_expr.specs.declared.terms.Fk.{Fk}
 use Rattle.ks_expr.specs.Terms.{Test, Set}
 use Rattle.ks_plan.specs.declared.node.Wiring.{Wiring}
 use Rattle.ks_plan.specs.declared.node.Wiring.TheVariants as wired
@@ -43,7 +44,7 @@ abbrev pub join_in : OpView → Option (JoinKind × Set)
 join_in (JoinOf l r kind set) = Some (kind, set)
 join_in _ = None
 
-abbrev pub foreign_in : OpView → Option (Name × (JoinKind × Set))
+abbrev pub foreign_in : OpView → Option (Fk × (JoinKind × Set))
 foreign_in (FkJoinOf l r fk kind set) = Some (fk, (kind, set))
 foreign_in _ = None
 

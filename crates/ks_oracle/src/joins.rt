@@ -1,16 +1,16 @@
 //! Joins of two tables.
-ghost use Rattle.std.specs.Prelude.{◌≡◌, ◌++◌, Some, None, fold, map, OnOk, IfOk};
+ghost use Rattle.std.specs.Prelude.{◌≡◌, ◌++◌, Some, fold, map, OnOk, IfOk, option_copied};
 ghost use Rattle.ks_expr.specs.Terms.{set_of};
 ghost use Rattle.ks_expr.specs.Eval.{joined as joined_row};
-ghost use Rattle.ks_row.specs.FieldKeys.{field_key};
+ghost use Rattle.ks_expr.specs.Keys.{fk_of as foreign_key};
 ghost use Rattle.ks_def_runs.specs.Bytes.{by_bytes};
 ghost use Rattle.ks_def_runs.specs.FinMap as fin;
 ghost use Rattle.ks_def_runs.specs.Table.{write};
 ghost use Rattle.ks_query.specs.Query.{map_values, key_join, foreign_join, right_row};
 
 use crate::rows::Rows;
-use ks_expr::{JoinKind, Proj};
-use ks_row::{Key, Name, Row, key_of_field};
+use ks_expr::{Fk, JoinKind, Proj, fk_of};
+use ks_row::{Key, Row};
 use ks_table_ops::join_rows;
 use std::alloc::{AllocError, Global};
 
@@ -69,28 +69,27 @@ pub fn joined_rows(
     Ok(joined)
 }
 
-// The joined row of a left row, with the right row at its foreign key.
-fn foreign_row(
+// The right row at the foreign key of a left key and its row.
+fn right_at<'a>(
     alloc: Global,
-    fk: &Name,
-    kind: JoinKind,
-    set: &Proj,
+    fk: &Fk,
+    key: &Key,
     row: &Row,
-    right: &Rows,
-) -> Result<Option<Row>, AllocError>
-    ensures { IfOk result (λ o. o ≡ joined_row kind (set_of set.now) (Some row.now)
-        (right_row right.now (field_key fk.now row.now))) }
+    right: &'a Rows,
+) -> Result<Option<&'a Row>, AllocError>
+    ensures { IfOk result (λ o. option_copied o ≡ right_row right.now
+        (foreign_key fk.now key.now row.now)) }
 {
-    match key_of_field(alloc, row, fk.as_str().as_bytes())? {
-        Some(key) => join_rows(alloc, kind, set, Some(row), right.get(&key)),
-        None => join_rows(alloc, kind, set, Some(row), None),
+    match fk_of(alloc, fk, key, row)? {
+        Some(foreign) => Ok(right.get(&foreign)),
+        None => Ok(None),
     }
 }
 
-/// The join of two tables on a foreign key: the field `fk` of a left row gives the key of the right row.
+/// The join of two tables on a foreign key: `fk` gives the key of the right row, of a left key and its row.
 pub fn foreign_rows(
     alloc: Global,
-    fk: &Name,
+    fk: &Fk,
     kind: JoinKind,
     set: &Proj,
     left: &Rows,
@@ -102,7 +101,8 @@ pub fn foreign_rows(
     let mut joined = Rows::new(alloc);
     let mut rest = list.as_slice();
     while let [(key, row), more @ ..] = rest {
-        joined.set(key.clone()?, foreign_row(alloc, fk, kind, set, row, right)?)?;
+        let found = right_at(alloc, fk, key, row, right)?;
+        joined.set(key.clone()?, join_rows(alloc, kind, set, Some(row), found)?)?;
         rest = more;
     }
     Ok(joined)

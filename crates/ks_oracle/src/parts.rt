@@ -6,7 +6,7 @@ ghost use Rattle.ks_oracle.specs.Nodes.{test_in as has_test, set_in as has_set, 
 ghost use Rattle.ks_plan.specs.Plan.{natural, or_number, window_of};
 ghost use Rattle.ks_oracle.specs.Hops.{hops_view};
 
-use ks_expr::{JoinKind, Pred, Proj};
+use ks_expr::{Fk, JoinKind, Pred, Proj};
 use ks_row::Name;
 use ks_topo::Op;
 
@@ -70,8 +70,8 @@ pub fn join_in(op: &Op) -> Option<(JoinKind, &Proj)>
     }
 }
 
-/// The field of a join on a foreign key, its kind and its projection.
-pub fn foreign_in(op: &Op) -> Option<(&Name, (JoinKind, &Proj))>
+/// The foreign key of a join on one, its kind and its projection.
+pub fn foreign_in(op: &Op) -> Option<(&Fk, (JoinKind, &Proj))>
     ensures { option_map (λ j. (j.0.now, (j.1.0, set_of j.1.1.now))) result
         ≡ has_foreign (op_view op.now) }
 {

@@ -2,13 +2,19 @@
 use Rattle.std.specs.Prelude.{ℕ, ℤ, List, map, Option}
 use Rattle.ks_expr.specs.declared.terms.JoinKind.{JoinKind}
 use Rattle.ks_expr.specs.Terms.{Test, Set, test_of, set_of}
+use Rattle.ks_expr.specs.declared.terms.Fk.{Fk}
 use Rattle.ks_plan.specs.declared.draft.Op.{Op}
 use Rattle.ks_plan.specs.declared.draft.Op.TheVariants.{Stream, Table, Filter, MapValues, SelectKey, Count, Sum, WindowedCount, Join, FkJoin}
 use Rattle.ks_plan.specs.declared.draft.NodeDraft.{NodeDraft}
+use Rattle.ks_plan.specs.declared.draft.TopicDraft.{TopicDraft}
 use Rattle.ks_plan.specs.declared.draft.Draft.{Draft}
 
 abbrev pub Name : Type 0
 Name = List ℕ
+
+-- the input topics of a draft, with how the keys of each are spread
+abbrev pub Topics : Type 0
+Topics = List (Name × TopicDraft)
 
 -- what a node does; its inputs and its topic by name
 pub data OpView : Type 0 where
@@ -25,7 +31,7 @@ pub data OpView : Type 0 where
   WindowedOf : Name → Option Name → ℤ → Option ℤ → Option ℤ → OpView
   JoinOf : Name → Name → JoinKind → Set → OpView
   -- left, right, foreign key
-  FkJoinOf : Name → Name → Name → JoinKind → Set → OpView
+  FkJoinOf : Name → Name → Fk → JoinKind → Set → OpView
 
 pub record NodeView : Type 0 where
   pub name : Name
@@ -33,7 +39,7 @@ pub record NodeView : Type 0 where
 
 pub record DraftView : Type 0 where
   pub app : Name
-  pub topics : List (Name × ℤ)
+  pub topics : Topics
   pub nodes : List NodeView
   pub print : List Name
 

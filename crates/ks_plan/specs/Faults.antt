@@ -1,14 +1,15 @@
 -- The faults of a draft, in the order in which they are told: a table of lines, each with whether it fits and its fault.
-use Rattle.std.specs.Prelude.{ℕ, ℤ, pos, List, [], ◌∷◌, ◌++◌, length, map, Option, Some, None, Bool, false, ◌&&◌, ◌||◌, not, cond, nat_eq, nat_lt, int_lt, int_le, ◌*ℤ◌, is_none, codes}
+use Rattle.std.specs.Prelude.{ℕ, ℤ, pos, List, [], ◌∷◌, ◌++◌, length, map, Option, Some, None, Bool, true, false, ◌&&◌, ◌||◌, not, fold, cond, nat_eq, nat_lt, int_lt, int_le, ◌*ℤ◌, is_none, codes}
 use Rattle.std.specs.List.{flat_map}
 use Rattle.std.specs.Option.{option_or}
 use Rattle.ks_expr.specs.Eval.{same_bytes}
 use Rattle.ks_plan.specs.declared.fault.TopoFault.{TopoFault}
 use Rattle.ks_plan.specs.declared.fault.TopoFault.TheVariants.{UnknownInput, WrongKind, DuplicateName, NotCopartitioned, TooMany, BadWindow, SinkOnly}
 use Rattle.ks_plan.specs.declared.node.Wiring.{Wiring}
-use Rattle.ks_plan.specs.Drafts.{Name, OpView, StreamOf, TableOf, FilterOf, MapOf, KeyOf, CountOf, SumOf, WindowedOf, JoinOf, FkJoinOf, NodeView, DraftView}
-use Rattle.ks_plan.specs.Plan.{Known, wiring_of, gives_stream, gives_windows, known_of, known_from, known_at, node_number, plan_of}
-use Rattle.ks_plan.specs.Layout.{node_parts, at}
+use Rattle.ks_plan.specs.declared.draft.TopicDraft.{TopicDraft}
+use Rattle.ks_plan.specs.Drafts.{Name, Topics, OpView, StreamOf, TableOf, FilterOf, MapOf, KeyOf, CountOf, SumOf, WindowedOf, JoinOf, FkJoinOf, NodeView, DraftView}
+use Rattle.ks_plan.specs.Plan.{Known, wiring_of, gives_stream, gives_windows, known_of, known_from, known_at, node_number, with_topic, befores_in, plan_of}
+use Rattle.ks_plan.specs.Layout.{node_parts, at, node_origins, origin_at, stated_for}
 use Rattle.ks_plan.specs.Infos.{internal_names}
 
 -- whether it fits, and the fault
@@ -34,8 +35,8 @@ has_name (m ∷ ms) n = same_bytes m n || has_name ms n
 abbrev pub names_of : List NodeView → List Name
 names_of ns = map (λ n. n.name) ns
 
-abbrev pub names_of_topics : List (Name × ℤ) → List Name
-names_of_topics ts = map (λ (x : Name × ℤ). x.0) ts
+abbrev pub names_of_topics : Topics → List Name
+names_of_topics ts = map (λ (x : Name × TopicDraft). x.0) ts
 
 abbrev pub topic_names : DraftView → List Name
 topic_names d = names_of_topics d.topics
@@ -104,17 +105,33 @@ abbrev pub kind_lines : List Known → NodeView → List Line
 kind_lines ks n = kinds_among ks n (inputs_in n.op)
 
 -- ---- partitions
--- the partition counts of the nodes are given
-abbrev pub sides_among : List ℕ → List Known → OpView → List Line
-sides_among parts ks (JoinOf l r kind s) = one_line (not (nat_eq (at parts (node_number ks l)) (at parts (node_number ks r)))) (NotCopartitioned l r)
-sides_among parts ks _ = []
+abbrev pub same_before : Option Name → Option Name → Bool
+same_before None None = true
+same_before (Some a) (Some b) = same_bytes a b
+same_before None (Some b) = false
+same_before (Some a) None = false
+
+-- the texts that are stated for the topics, by number
+abbrev pub befores_of : Topics → List (Option Name)
+befores_of ts = befores_in (fold with_topic [] ts)
+
+abbrev pub stated_at : Topics → List (Option ℕ) → ℕ → Option Name
+stated_at ts origins n = stated_for (befores_of ts) (origin_at origins n)
+
+-- the partition counts and the origins of the nodes are given
+abbrev pub are_apart : Topics → List ℕ → List (Option ℕ) → ℕ → ℕ → Bool
+are_apart ts parts origins l r = not (nat_eq (at parts l) (at parts r) && same_before (stated_at ts origins l) (stated_at ts origins r))
+
+abbrev pub sides_among : Topics → List ℕ → List (Option ℕ) → List Known → OpView → List Line
+sides_among ts parts origins ks (JoinOf l r kind s) = one_line (are_apart ts parts origins (node_number ks l) (node_number ks r)) (NotCopartitioned l r)
+sides_among ts parts origins ks _ = []
 
 -- the partition count of these nodes' namesake
 abbrev pub parts_in : List ℕ → List Known → Name → ℕ
 parts_in counts ks n = at (node_parts counts (map (λ k. k.kind) ks)) (node_number ks n)
 
-abbrev pub side_lines : List ℕ → List Known → OpView → List Line
-side_lines counts ks op = sides_among (node_parts counts (map (λ k. k.kind) ks)) ks op
+abbrev pub side_lines : Topics → List ℕ → List Known → OpView → List Line
+side_lines ts counts ks op = sides_among ts (node_parts counts (map (λ k. k.kind) ks)) (node_origins (map (λ k. k.kind) ks)) ks op
 
 -- ---- windows
 -- from 0 to the greatest time
@@ -138,9 +155,9 @@ window_lines n (WindowedOf f by size advance grace) = one_line (not (is_window s
 window_lines n _ = []
 
 -- ---- the table of a node after those before it
--- of an application, topics, and partition counts of the nodes before
-abbrev pub node_lines : Name → List (Name × ℤ) → List ℕ → List NodeView → NodeView → List (List Line)
-node_lines app ts parts before n =
+-- of an application, topics, and partition counts and origins of the nodes before
+abbrev pub node_lines : Name → Topics → List ℕ → List (Option ℕ) → List NodeView → NodeView → List (List Line)
+node_lines app ts parts origins before n =
     let ks = known_from ts before in
     one_line (has_name (names_of before) n.name) (DuplicateName n.name)
     ∷ one_line (nat_lt 64 (set_length n.op)) (TooMany (codes "fields") 64)
@@ -149,7 +166,7 @@ node_lines app ts parts before n =
     ∷ taken_lines (sources_of before) (topics_in n.op)
     ∷ sink_lines ks n
     ∷ kind_lines ks n
-    ∷ sides_among parts ks n.op
+    ∷ sides_among ts parts origins ks n.op
     ∷ window_lines n.name n.op
     ∷ taken_lines (names_of_topics ts) (internal_names app n.name (wiring_of (known_of ts ks n.op).0))
     ∷ []
@@ -158,22 +175,25 @@ node_lines app ts parts before n =
 abbrev pub parts_before : DraftView → List NodeView → List ℕ
 parts_before d before = node_parts (plan_of d).counts (map (λ k. k.kind) (known_from d.topics before))
 
+abbrev pub origins_before : DraftView → List NodeView → List (Option ℕ)
+origins_before d before = node_origins (map (λ k. k.kind) (known_from d.topics before))
+
 abbrev pub node_table : DraftView → List NodeView → NodeView → List (List Line)
-node_table d before n = node_lines d.app d.topics (parts_before d before) before n
+node_table d before n = node_lines d.app d.topics (parts_before d before) (origins_before d before) before n
 
 abbrev pub nodes_fault : DraftView → List NodeView → List NodeView → Option TopoFault
 nodes_fault d before [] = None
 nodes_fault d before (n ∷ ns) = option_or (first_of (node_table d before n)) (nodes_fault d (before ++ n ∷ []) ns)
 
 -- ---- the table of a printed name after those before it
-abbrev pub print_lines : List (Name × ℤ) → List NodeView → List Name → Name → List Line
+abbrev pub print_lines : Topics → List NodeView → List Name → Name → List Line
 print_lines ts ns before n =
     (not (has_name (names_of ns) n), UnknownInput n)
     ∷ (has_name before n, DuplicateName n)
     ∷ (gives_stream (wiring_in (known_from ts ns) n), WrongKind n)
     ∷ []
 
-abbrev pub printed_fault : List (Name × ℤ) → List NodeView → List Name → List Name → Option TopoFault
+abbrev pub printed_fault : Topics → List NodeView → List Name → List Name → Option TopoFault
 printed_fault ts ns before [] = None
 printed_fault ts ns before (n ∷ ps) = option_or (first_fitting (print_lines ts ns before n)) (printed_fault ts ns (before ++ n ∷ []) ps)
 
@@ -184,9 +204,9 @@ print_fault d before ps = printed_fault d.topics d.nodes before ps
 abbrev pub is_past : ℤ → Bool
 is_past z = int_lt (pos 64) z
 
-abbrev pub any_past : List (Name × ℤ) → Bool
+abbrev pub any_past : Topics → Bool
 any_past [] = false
-any_past (x ∷ xs) = is_past x.1 || any_past xs
+any_past (x ∷ xs) = is_past x.1.parts || any_past xs
 
 abbrev pub size_lines : DraftView → List Line
 size_lines d =

@@ -1,5 +1,5 @@
 -- What a topology shows of its topics and nodes.
-use Rattle.std.specs.Prelude.{ℕ, ℤ, suc, List, [], ◌∷◌, ◌++◌, map, get_or, Option, Some, None, cond, codes}
+use Rattle.std.specs.Prelude.{ℕ, suc, List, [], ◌∷◌, ◌++◌, map, get_or, Option, Some, None, cond, codes}
 use Rattle.ks_plan.specs.declared.node.Role.{Role}
 use Rattle.ks_plan.specs.declared.node.Role.TheVariants as role
 use Rattle.ks_plan.specs.declared.node.Topic.{Topic}
@@ -7,9 +7,10 @@ use Rattle.ks_plan.specs.declared.node.Topic.TheVariants.{Input, Repartition, Su
 use Rattle.ks_plan.specs.declared.node.TopicInfo.{TopicInfo}
 use Rattle.ks_plan.specs.declared.node.Wiring.{Wiring}
 use Rattle.ks_plan.specs.declared.node.Node.{Node}
+use Rattle.ks_plan.specs.declared.draft.TopicDraft.{TopicDraft}
 use Rattle.ks_plan.specs.Drafts.{Name, op_view, NodeView, DraftView}
 use Rattle.ks_plan.specs.Plan.{Plan, wiring_of, is_stream, sorted_topics, plan_of}
-use Rattle.ks_plan.specs.Layout.{up_to, sub_count, topics_of, number_of, parts_of_topic, sub_of, parts_of, kind_at, inputs, changelogs, drain_order, wired_through, wired_changelogs}
+use Rattle.ks_plan.specs.Layout.{up_to, sub_count, topics_of, number_of, parts_of_topic, before_of_topic, sub_of, parts_of, kind_at, inputs, changelogs, drain_order, wired_through, wired_changelogs}
 
 -- ---- names and roles of topics
 abbrev pub role_of : Topic → Role
@@ -43,7 +44,7 @@ abbrev pub name_at : DraftView → ℕ → Name
 name_at d n = name_in d.nodes n
 
 abbrev pub topic_name : DraftView → Topic → Name
-topic_name d (Input t) = get_or (map (λ (x : Name × ℤ). x.0) (sorted_topics d)) t []
+topic_name d (Input t) = get_or (map (λ (x : Name × TopicDraft). x.0) (sorted_topics d)) t []
 topic_name d (Repartition n) = internal_name d.app (name_at d n) (Repartition n)
 topic_name d (Subscriptions n) = internal_name d.app (name_at d n) (Subscriptions n)
 topic_name d (Responses n) = internal_name d.app (name_at d n) (Responses n)
@@ -51,7 +52,7 @@ topic_name d (Changelog n) = internal_name d.app (name_at d n) (Changelog n)
 topic_name d (HashChangelog n) = internal_name d.app (name_at d n) (HashChangelog n)
 
 abbrev pub info_of : DraftView → Topic → TopicInfo
-info_of d t = record { name = topic_name d t; parts = parts_of_topic (plan_of d) t; role = role_of t }
+info_of d t = record { name = topic_name d t; parts = parts_of_topic (plan_of d) t; before = before_of_topic (plan_of d) t; role = role_of t }
 
 -- by number
 abbrev pub topic_infos : DraftView → List TopicInfo

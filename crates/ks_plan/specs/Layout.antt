@@ -1,11 +1,13 @@
 -- Where the parts of nodes lie: subtopologies, topics with their numbers, tasks.
-use Rattle.std.specs.Prelude.{ℕ, zero, suc, ◌+◌, min, max, List, [], ◌∷◌, ◌++◌, length, map, get_or, slice_get, Option, Bool, true, false, ◌||◌, fold, cond, nat_eq}
+use Rattle.std.specs.Prelude.{ℕ, zero, suc, ◌+◌, min, max, List, [], ◌∷◌, ◌++◌, length, map, get_or, slice_get, Option, Some, None, option_and_then, Bool, true, false, ◌||◌, fold, cond, nat_eq}
 use Rattle.std.specs.List.{filter, flat_map}
 use Rattle.ks_row.specs.declared.record.TaskId.{TaskId}
 use Rattle.ks_plan.specs.declared.node.Topic.{Topic}
 use Rattle.ks_plan.specs.declared.node.Topic.TheVariants.{Input, Repartition, Subscriptions, Responses, Changelog, HashChangelog}
+use Rattle.ks_plan.specs.declared.node.Spread.{Spread}
 use Rattle.ks_plan.specs.declared.node.Wiring.{Wiring}
 use Rattle.ks_plan.specs.declared.node.Wiring.TheVariants as wired
+use Rattle.ks_plan.specs.Drafts.{Name}
 use Rattle.ks_plan.specs.Plan.{Plan, Kind, wiring_of, gives_stream}
 use Rattle.ks_plan.specs.Plan.Kind.{StreamSource}
 
@@ -89,6 +91,45 @@ node_parts counts ks = fold (λ cs k. wired_parts counts cs (wiring_of k)) [] ks
 abbrev pub parts_of : Plan → ℕ → ℕ
 parts_of p n = at (node_parts p.counts p.kinds) n
 
+-- ---- the input topic as whose keys a node's are spread: that of its topic, of its input, or of its left side; none behind a
+-- repartition topic, whose keys are spread as a whole
+abbrev pub origin_at : List (Option ℕ) → ℕ → Option ℕ
+origin_at os n = get_or os n None
+
+abbrev pub wired_origin : List (Option ℕ) → Wiring → Option ℕ
+wired_origin os (wired.StreamSource t) = Some t
+wired_origin os (wired.TableSource t) = Some t
+wired_origin os (wired.StreamFilter f) = origin_at os f
+wired_origin os (wired.TableFilter f) = origin_at os f
+wired_origin os (wired.StreamMap f) = origin_at os f
+wired_origin os (wired.TableMap f) = origin_at os f
+wired_origin os (wired.KeySelected f) = origin_at os f
+wired_origin os (wired.StreamAggregate f through) = cond through None (origin_at os f)
+wired_origin os (wired.TableAggregate f) = None
+wired_origin os (wired.Windowed f through) = cond through None (origin_at os f)
+wired_origin os (wired.KeyJoin l r) = origin_at os l
+wired_origin os (wired.ForeignKeyJoin l r) = origin_at os l
+
+abbrev pub with_origin : List (Option ℕ) → Wiring → List (Option ℕ)
+with_origin os w = os ++ wired_origin os w ∷ []
+
+abbrev pub node_origins : List Kind → List (Option ℕ)
+node_origins ks = fold (λ os k. with_origin os (wiring_of k)) [] ks
+
+abbrev pub before_at : List (Option Name) → ℕ → Option Name
+before_at bs t = get_or bs t None
+
+-- the text that is stated for the topic of an origin
+abbrev pub stated_for : List (Option Name) → Option ℕ → Option Name
+stated_for bs o = option_and_then (before_at bs) o
+
+abbrev pub before_of : Plan → ℕ → Option Name
+before_of p n = stated_for p.befores (origin_at (node_origins p.kinds) n)
+
+-- how keys are spread: over how many partitions, and by which front part, if not as a whole
+abbrev pub spread_of : Plan → ℕ → Spread
+spread_of p n = record { parts = parts_of p n; before = before_of p n }
+
 abbrev pub no_kind : Kind
 no_kind = StreamSource 0
 
@@ -159,6 +200,19 @@ parts_of_topic p (Subscriptions n) = parts_of p (right_of (kind_at p n))
 parts_of_topic p (Responses n) = parts_of p n
 parts_of_topic p (Changelog n) = parts_of p n
 parts_of_topic p (HashChangelog n) = parts_of p (right_of (kind_at p n))
+
+-- a topic between nodes is spread as the node that it feeds: subscriptions as the rows of the right side, responses as those of the left
+-- one; a repartition topic by the whole key, since its node has no origin
+abbrev pub before_of_topic : Plan → Topic → Option Name
+before_of_topic p (Input t) = before_at p.befores t
+before_of_topic p (Repartition n) = before_of p n
+before_of_topic p (Subscriptions n) = before_of p (right_of (kind_at p n))
+before_of_topic p (Responses n) = before_of p n
+before_of_topic p (Changelog n) = before_of p n
+before_of_topic p (HashChangelog n) = before_of p (right_of (kind_at p n))
+
+abbrev pub spread_of_topic : Plan → Topic → Spread
+spread_of_topic p t = record { parts = parts_of_topic p t; before = before_of_topic p t }
 
 -- ---- who reads what
 abbrev pub is_source_of : ℕ → Kind → Bool

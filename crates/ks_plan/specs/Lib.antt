@@ -1,6 +1,7 @@
 pub mod Drafts
 pub mod Plan
 pub mod Layout
+pub mod Places
 pub mod Infos
 pub mod Faults
 pub mod Resolve

@@ -4,10 +4,12 @@ use Rattle.std.specs.Ordering.{nat_cmp, is_lt}
 use Rattle.std.specs.Cmp.Lexicographic.{slice_cmp}
 use Rattle.ks_expr.specs.declared.terms.JoinKind.{JoinKind}
 use Rattle.ks_expr.specs.Terms.{Test, Set}
+use Rattle.ks_expr.specs.declared.terms.Fk.{Fk}
 use Rattle.ks_expr.specs.Eval.{same_bytes}
+use Rattle.ks_plan.specs.declared.draft.TopicDraft.{TopicDraft}
 use Rattle.ks_plan.specs.declared.node.Wiring.{Wiring}
 use Rattle.ks_plan.specs.declared.node.Wiring.TheVariants as wired
-use Rattle.ks_plan.specs.Drafts.{Name, OpView, StreamOf, TableOf, FilterOf, MapOf, KeyOf, CountOf, SumOf, WindowedOf, JoinOf, FkJoinOf, NodeView, DraftView}
+use Rattle.ks_plan.specs.Drafts.{Name, Topics, OpView, StreamOf, TableOf, FilterOf, MapOf, KeyOf, CountOf, SumOf, WindowedOf, JoinOf, FkJoinOf, NodeView, DraftView}
 
 pub record Window : Type 0 where
   pub size : ℕ
@@ -28,12 +30,14 @@ pub data Kind : Type 0 where
   TableAggregate : ℕ → Name → Option Name → Kind
   Windowed : ℕ → Option Name → Window → Bool → Kind
   KeyJoin : ℕ → ℕ → JoinKind → Set → Kind
-  ForeignKeyJoin : ℕ → ℕ → Name → JoinKind → Set → Kind
+  ForeignKeyJoin : ℕ → ℕ → Fk → JoinKind → Set → Kind
 
 pub record Plan : Type 0 where
   pub kinds : List Kind
   -- the partition counts of the input topics, by number
   pub counts : List ℕ
+  -- the texts before which the front parts of their keys end, where such are stated
+  pub befores : List (Option Name)
   pub print : List ℕ
 
 -- what it is and what it reads, without what it computes
@@ -95,7 +99,7 @@ abbrev pub known_at : List Known → Name → Known
 known_at ks n = get_or ks (node_number ks n) nothing_known
 
 -- topics are numbered by name bytes
-abbrev pub topic_number : List (Name × ℤ) → Name → ℕ
+abbrev pub topic_number : Topics → Name → ℕ
 topic_number [] t = 0
 topic_number (x ∷ xs) t = cond (is_lt (slice_cmp nat_cmp x.0 t)) (suc (topic_number xs t)) (topic_number xs t)
 
@@ -132,7 +136,7 @@ abbrev pub aggregate_of : Known → ℕ → Option Name → Option Name → Kind
 aggregate_of x f by field = cond (is_stream x.kind) (StreamAggregate f by field (goes_through by x)) (TableAggregate f (unwrap_or by []) field)
 
 -- what an operation is after these nodes, and whether its items' keys are not those of its source
-abbrev pub known_of : List (Name × ℤ) → List Known → OpView → (Kind × Bool)
+abbrev pub known_of : Topics → List Known → OpView → (Kind × Bool)
 known_of ts ks (StreamOf t) = (StreamSource (topic_number ts t), false)
 known_of ts ks (TableOf t) = (TableSource (topic_number ts t), false)
 known_of ts ks (FilterOf f p) = (filter_of (known_at ks f) (node_number ks f) p, (known_at ks f).rekeyed)
@@ -144,28 +148,33 @@ known_of ts ks (WindowedOf f by size advance grace) = (Windowed (node_number ks 
 known_of ts ks (JoinOf l r kind s) = (KeyJoin (node_number ks l) (node_number ks r) kind s, false)
 known_of ts ks (FkJoinOf l r fk kind s) = (ForeignKeyJoin (node_number ks l) (node_number ks r) fk kind s, false)
 
-abbrev pub learn : List (Name × ℤ) → List Known → NodeView → List Known
+abbrev pub learn : Topics → List Known → NodeView → List Known
 learn ts ks node = let k = known_of ts ks node.op in ks ++ record { name = node.name; kind = k.0; rekeyed = k.1 } ∷ []
 
-abbrev pub known_from : List (Name × ℤ) → List NodeView → List Known
+abbrev pub known_from : Topics → List NodeView → List Known
 known_from ts ns = fold (learn ts) [] ns
 
 abbrev pub known_nodes : DraftView → List Known
 known_nodes d = known_from d.topics d.nodes
 
 -- the topics, in order of names
-abbrev pub with_topic : List (Name × ℤ) → (Name × ℤ) → List (Name × ℤ)
+abbrev pub with_topic : Topics → (Name × TopicDraft) → Topics
 with_topic [] x = x ∷ []
 with_topic (y ∷ ys) x = cond (is_lt (slice_cmp nat_cmp x.0 y.0)) (x ∷ y ∷ ys) (y ∷ with_topic ys x)
 
-abbrev pub sorted_topics : DraftView → List (Name × ℤ)
+abbrev pub sorted_topics : DraftView → Topics
 sorted_topics d = fold with_topic [] d.topics
+
+-- the texts that are stated for topics
+abbrev pub befores_in : Topics → List (Option Name)
+befores_in ts = map (λ (x : Name × TopicDraft). x.1.before) ts
 
 abbrev pub plan_of : DraftView → Plan
 plan_of d =
     let ks = known_nodes d in
     record {
       kinds = map (λ k. k.kind) ks;
-      counts = map (λ (x : Name × ℤ). natural x.1) (sorted_topics d);
+      counts = map (λ (x : Name × TopicDraft). natural x.1.parts) (sorted_topics d);
+      befores = befores_in (sorted_topics d);
       print = map (node_number ks) d.print;
     }

@@ -1,9 +1,9 @@
 -- What is known of the nodes of a draft while it is resolved, as the code keeps it.
-use Rattle.std.specs.Prelude.{ℤ, List, map, Bool, false, ◌||◌, cond}
+use Rattle.std.specs.Prelude.{List, map, Bool, false, ◌||◌, cond}
 use Rattle.ks_plan.specs.declared.node.Wiring.TheVariants as wired
 use Rattle.ks_plan.specs.declared.resolve.Resolved.{Resolved}
 use Rattle.ks_plan.specs.declared.resolve.Input.{Input}
-use Rattle.ks_plan.specs.Drafts.{Name, OpView, NodeView}
+use Rattle.ks_plan.specs.Drafts.{Name, Topics, OpView, NodeView}
 use Rattle.ks_plan.specs.Plan.{Known, Kind, wiring_of, gives_stream, known_of, known_from, known_at, node_number}
 
 abbrev pub resolved_kind : (Kind × Bool) → Resolved
@@ -12,10 +12,10 @@ resolved_kind k = record { wiring = wiring_of k.0; rekeyed = k.1 }
 abbrev pub resolved : Known → Resolved
 resolved k = record { wiring = wiring_of k.kind; rekeyed = k.rekeyed }
 
-abbrev pub resolved_from : List (Name × ℤ) → List NodeView → List Resolved
+abbrev pub resolved_from : Topics → List NodeView → List Resolved
 resolved_from ts ns = map resolved (known_from ts ns)
 
-abbrev pub resolved_op : List (Name × ℤ) → List NodeView → OpView → Resolved
+abbrev pub resolved_op : Topics → List NodeView → OpView → Resolved
 resolved_op ts ns op = resolved_kind (known_of ts (known_from ts ns) op)
 
 -- what a node's input is, by the name that the draft gives it

@@ -1,5 +1,5 @@
 -- The layout over wirings, partition counts and labels alone, as the code has them.
-use Rattle.std.specs.Prelude.{ℕ, suc, List, [], ◌∷◌, ◌++◌, length, map, get_or, Bool, true, false, ◌||◌, fold, cond, nat_eq}
+use Rattle.std.specs.Prelude.{ℕ, suc, List, [], ◌∷◌, ◌++◌, length, map, get_or, Option, Some, Bool, true, false, ◌||◌, fold, cond, nat_eq}
 use Rattle.std.specs.List.{filter, flat_map}
 use Rattle.ks_row.specs.declared.record.TaskId.{TaskId}
 use Rattle.ks_plan.specs.declared.node.Topic.{Topic}
@@ -7,13 +7,16 @@ use Rattle.ks_plan.specs.declared.node.Topic.TheVariants.{Input, Repartition, Su
 use Rattle.ks_plan.specs.declared.node.Wiring.{Wiring}
 use Rattle.ks_plan.specs.declared.node.Wiring.TheVariants.{StreamSource}
 use Rattle.ks_plan.specs.declared.shape.Shape.{Shape}
-use Rattle.ks_plan.specs.Layout.{at, up_to, firsts, first_in, wired_label, wired_parts, wired_right, wired_reads, wired_through, wired_changelogs, by_node, place_of}
+use Rattle.ks_plan.specs.Layout.{at, origin_at, with_origin, up_to, firsts, first_in, wired_label, wired_parts, wired_right, wired_reads, wired_through, wired_changelogs, by_node, place_of}
 
 abbrev pub wired_labels : List Wiring → List ℕ
 wired_labels ws = fold wired_label [] ws
 
 abbrev pub wired_counts : List ℕ → List Wiring → List ℕ
 wired_counts counts ws = fold (wired_parts counts) [] ws
+
+abbrev pub wired_origins : List Wiring → List (Option ℕ)
+wired_origins ws = fold with_origin [] ws
 
 abbrev pub sub_in : List ℕ → ℕ → ℕ
 sub_in ls n = firsts ls (at ls n)
@@ -42,6 +45,14 @@ topic_parts s (Subscriptions n) = at s.parts.items (right_in s.wirings.items n)
 topic_parts s (Responses n) = at s.parts.items n
 topic_parts s (Changelog n) = at s.parts.items n
 topic_parts s (HashChangelog n) = at s.parts.items (right_in s.wirings.items n)
+
+abbrev pub topic_origin : Shape → Topic → Option ℕ
+topic_origin s (Input t) = Some t
+topic_origin s (Repartition n) = origin_at s.origins.items n
+topic_origin s (Subscriptions n) = origin_at s.origins.items (right_in s.wirings.items n)
+topic_origin s (Responses n) = origin_at s.origins.items n
+topic_origin s (Changelog n) = origin_at s.origins.items n
+topic_origin s (HashChangelog n) = origin_at s.origins.items (right_in s.wirings.items n)
 
 abbrev pub sub_at : Shape → ℕ → ℕ
 sub_at s n = sub_in s.labels.items n

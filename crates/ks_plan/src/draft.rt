@@ -1,5 +1,5 @@
 //! A topology as a job's line gives it, before anything is resolved.
-use ks_expr::{JoinKind, Pred, Proj};
+use ks_expr::{Fk, JoinKind, Pred, Proj};
 use ks_row::{Blob, Name, Seq};
 
 /// What a node does; inputs and topics stand by name.
@@ -54,11 +54,11 @@ pub enum Op {
         kind: JoinKind,
         set: Proj,
     },
-    /// Two tables; the left row's field `fk` gives the key of the right row.
+    /// Two tables; `fk` gives the key of the right row, of the left row or of its key.
     FkJoin {
         left: Blob,
         right: Blob,
-        fk: Name,
+        fk: Fk,
         kind: JoinKind,
         set: Proj,
     },
@@ -71,13 +71,22 @@ pub struct NodeDraft {
     pub op: Op,
 }
 
+/// An input topic.
+#[derive(Drop, Debug)]
+pub struct TopicDraft {
+    /// The number of its partitions.
+    pub parts: i64,
+    /// Keys are spread by their front parts, before the first place of this text; without one by the whole key.
+    pub before: Option<Name>,
+}
+
 /// A topology by names. It may have faults.
 #[derive(Drop)]
 pub struct Draft {
     /// The names of internal topics begin with this.
     pub app: Name,
-    /// The input topics, each with its number of partitions.
-    pub topics: Seq<(Name, i64)>,
+    /// The input topics, each with how its keys are spread.
+    pub topics: Seq<(Name, TopicDraft)>,
     pub nodes: Seq<NodeDraft>,
     /// The nodes whose tables are printed at the end.
     pub print: Seq<Blob>,

@@ -1,7 +1,7 @@
 //! Subtopologies and partition counts of nodes.
-ghost use Rattle.std.specs.Prelude.{◌≡◌, ◌≤◌, ◌<◌, ◌+◌, suc, length, fold, [], IfOk, OnOk};
-ghost use Rattle.ks_plan.specs.Layout.{at, wired_parts, wired_label, relabel, firsts};
-ghost use Rattle.ks_plan.specs.Wired.{wired_labels, wired_counts, sub_in};
+ghost use Rattle.std.specs.Prelude.{◌≡◌, ◌≤◌, ◌<◌, ◌+◌, suc, length, fold, [], IfOk, OnOk, option_copied};
+ghost use Rattle.ks_plan.specs.Layout.{at, origin_at as the_origin, wired_origin, with_origin, wired_parts, wired_label, relabel, firsts};
+ghost use Rattle.ks_plan.specs.Wired.{wired_labels, wired_counts, wired_origins, sub_in};
 
 use crate::node::Wiring;
 use crate::shape::Shape;
@@ -57,6 +57,62 @@ fn parts_of(alloc: Global, counts: &[u8], wirings: &[Wiring]) -> Result<Vec<u8>,
         push_parts(counts, &mut parts, *wiring)?;
     }
     Ok(parts)
+}
+
+/// An origin of a list; none past its end.
+pub fn origin_at(origins: &[Option<u16>], i: usize) -> Option<u16>
+    ensures { result ≡ the_origin origins.now i }
+{
+    match origins.get(i) {
+        Some(origin) => *origin,
+        None => None,
+    }
+}
+
+// The input topic as whose keys a node's are spread, behind those of the nodes before it.
+fn origin_of(origins: &[Option<u16>], wiring: Wiring) -> Option<u16>
+    ensures { result ≡ wired_origin origins.now wiring }
+{
+    match wiring {
+        Wiring::StreamSource { topic } | Wiring::TableSource { topic } => Some(topic),
+        Wiring::StreamFilter { from } | Wiring::TableFilter { from } => origin_at(
+            origins,
+            from as usize,
+        ),
+        Wiring::StreamMap { from } | Wiring::TableMap { from } => origin_at(origins, from as usize),
+        Wiring::KeySelected { from } => origin_at(origins, from as usize),
+        Wiring::StreamAggregate { from, through } | Wiring::Windowed { from, through } => {
+            if through {
+                None
+            } else {
+                origin_at(origins, from as usize)
+            }
+        }
+        Wiring::TableAggregate { .. } => None,
+        Wiring::KeyJoin { left, .. } | Wiring::ForeignKeyJoin { left, .. } => origin_at(
+            origins,
+            left as usize,
+        ),
+    }
+}
+
+/// A node's origin, behind those of the nodes before it. An error only where memory runs out.
+pub fn push_origin(origins: &mut Vec<Option<u16>>, wiring: Wiring) -> Result<(), AllocError>
+    ensures { OnOk result (origins.new.items ≡ with_origin origins.old.items wiring) }
+{
+    let origin = origin_of(origins, wiring);
+    origins.push(origin)?;
+    Ok(())
+}
+
+fn origins_of(alloc: Global, wirings: &[Wiring]) -> Result<Vec<Option<u16>>, AllocError>
+    ensures { IfOk result (λ v. v.items ≡ wired_origins wirings.now) }
+{
+    let mut origins = Vec::new(alloc);
+    for wiring in wirings {
+        push_origin(&mut origins, *wiring)?;
+    }
+    Ok(origins)
 }
 
 // The labels with one of them replaced by another.
@@ -124,14 +180,17 @@ pub fn shape_of(alloc: Global, counts: Vec<u8>, wirings: Vec<Wiring>) -> Result<
     ensures wirings { IfOk result (λ s. s.wirings.items ≡ wirings.items) }
     ensures labels { IfOk result (λ s. s.labels.items ≡ wired_labels wirings.items) }
     ensures parts { IfOk result (λ s. s.parts.items ≡ wired_counts counts.items wirings.items) }
+    ensures origins { IfOk result (λ s. s.origins.items ≡ wired_origins wirings.items) }
 {
     let labels = labels_of(alloc, &wirings)?;
     let parts = parts_of(alloc, &counts, &wirings)?;
+    let origins = origins_of(alloc, &wirings)?;
     Ok(Shape {
         counts,
         wirings,
         labels,
         parts,
+        origins,
     })
 }
 

@@ -6,7 +6,7 @@ ghost use Rattle.ks_plan.specs.Drafts.{nodes_view};
 ghost use Rattle.ks_plan.specs.Plan.{name_place, topic_number as number_by_name};
 ghost use Rattle.ks_plan.specs.Faults.{has_name, names_of, sources_of, names_of_topics};
 
-use crate::draft::{NodeDraft, Op};
+use crate::draft::{NodeDraft, Op, TopicDraft};
 use ks_row::{Blob, Name, equal_bytes};
 
 /// Whether the first name stands before the second, byte by byte; of two names of which one begins the other, the shorter first.
@@ -17,7 +17,7 @@ pub fn is_before(a: &[u8], b: &[u8]) -> bool
 }
 
 /// Whether one of the topics has this name.
-pub fn is_topic(topics: &[(Name, i64)], name: &[u8]) -> bool
+pub fn is_topic(topics: &[(Name, TopicDraft)], name: &[u8]) -> bool
     ensures { result ≡ has_name (names_of_topics topics.now) name.now }
 {
     for (topic, _) in topics {
@@ -85,7 +85,7 @@ pub fn find_node(nodes: &[NodeDraft], name: &[u8]) -> usize
 }
 
 /// How many topics have a name below this one.
-pub fn topic_number(topics: &[(Name, i64)], name: &[u8]) -> usize
+pub fn topic_number(topics: &[(Name, TopicDraft)], name: &[u8]) -> usize
     ensures number { result ≡ number_by_name topics.now name.now }
     ensures within { result ≤ length topics.now }
 {

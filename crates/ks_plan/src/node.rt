@@ -33,7 +33,18 @@ pub enum Topic {
 pub struct TopicInfo {
     pub name: Blob,
     pub parts: u8,
+    /// Its keys are spread by their front parts, before the first place of this text; without one by the whole key.
+    pub before: Option<Name>,
     pub role: Role,
+}
+
+/// How keys are spread over the partitions of a topic or of a node.
+#[derive(Drop, Debug)]
+pub struct Spread {
+    /// The number of partitions.
+    pub parts: u8,
+    /// Keys are spread by their front parts, before the first place of this text; without one by the whole key.
+    pub before: Option<Name>,
 }
 
 /// What a node is and what it reads: topics and nodes by number.

@@ -4,7 +4,7 @@ ghost use Rattle.ks_plan.specs.Drafts.{nodes_view, op_view};
 ghost use Rattle.ks_plan.specs.Plan.{gives_stream as is_stream_wiring, known_from};
 ghost use Rattle.ks_plan.specs.Resolve.{resolved_from, resolved_op, input_in, aggregate_of};
 
-use crate::draft::{NodeDraft, Op};
+use crate::draft::{NodeDraft, Op, TopicDraft};
 use crate::names::{find_node, topic_number};
 use crate::node::Wiring;
 use ks_row::Name;
@@ -58,7 +58,7 @@ fn resolve_aggregate(input: Input, grouped: bool) -> Resolved
 
 /// The node of this name among those that were resolved so far, which are at most 64; past all of them, as a source, where none has it.
 pub fn find_input(
-    topics: &[(Name, i64)],
+    topics: &[(Name, TopicDraft)],
     nodes: &[NodeDraft],
     known: &[Resolved],
     name: &[u8],
@@ -84,7 +84,7 @@ pub fn find_input(
 
 /// What an operation is after these nodes, by number: at most 64 nodes and 64 topics.
 pub fn resolve_op(
-    topics: &[(Name, i64)],
+    topics: &[(Name, TopicDraft)],
     nodes: &[NodeDraft],
     known: &[Resolved],
     op: &Op,

@@ -12,4 +12,6 @@ pub struct Shape {
     pub labels: Vec<u8>,
     /// The partition counts of the nodes.
     pub parts: Vec<u8>,
+    /// The input topics as whose keys the nodes' are spread; none behind a repartition topic.
+    pub origins: Vec<Option<u16>>,
 }

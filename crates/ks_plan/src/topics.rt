@@ -2,11 +2,11 @@
 ghost use Rattle.std.specs.Prelude.{◌≡◌, ◌≤◌, ◌<◌, ◌+◌, ◌*◌, ◌++◌, suc, length, map, IfOk, OnOk};
 ghost use Rattle.ks_plan.specs.declared.node.Topic.TheVariants.{Input};
 ghost use Rattle.ks_plan.specs.Layout.{same_topic, by_node, wired_through, wired_changelogs, wired_reads, wired_right, place_of, first_in, up_to};
-ghost use Rattle.ks_plan.specs.Wired.{flowing, kept, any_wired, first_wired, right_in, topic_parts, topic_reader, subs_in, flows, read_in, subs_of, tasks_to, all_tasks, numbers_in, numbers_read, sub_at};
+ghost use Rattle.ks_plan.specs.Wired.{topic_origin, flowing, kept, any_wired, first_wired, right_in, topic_parts, topic_reader, subs_in, flows, read_in, subs_of, tasks_to, all_tasks, numbers_in, numbers_read, sub_at};
 ghost use Rattle.std.specs.List.{filter};
 
 use crate::internal::{push_changelogs, push_through};
-use crate::layout::{count_firsts, number_at, sub_of};
+use crate::layout::{count_firsts, number_at, origin_at, sub_of};
 use crate::node::{Topic, Wiring};
 use crate::shape::Shape;
 use ks_row::{Seq, TaskId};
@@ -139,6 +139,23 @@ pub fn parts_of_topic(shape: &Shape, topic: Topic) -> u8
         ),
         Topic::Subscriptions(node) | Topic::HashChangelog(node) => number_at(
             &shape.parts,
+            right_of(&shape.wirings, node),
+        ),
+    }
+}
+
+/// The input topic as whose keys a topic's are spread; none where they are spread as a whole.
+pub fn origin_of_topic(shape: &Shape, topic: Topic) -> Option<u16>
+    ensures { result ≡ topic_origin shape.now topic }
+{
+    match topic {
+        Topic::Input(number) => Some(number),
+        Topic::Repartition(node) | Topic::Responses(node) | Topic::Changelog(node) => origin_at(
+            &shape.origins,
+            node as usize,
+        ),
+        Topic::Subscriptions(node) | Topic::HashChangelog(node) => origin_at(
+            &shape.origins,
             right_of(&shape.wirings, node),
         ),
     }

@@ -8,7 +8,6 @@ use Rattle.std.specs.Cmp.{IsTotalOrder}
 use Rattle.std.specs.Cmp.Lexicographic.{nat_list_cmp_total}
 use Rattle.std.specs.FinMap.{IsAntisymmetric, slice_cmp-IsAntisymmetric, nat_cmp-IsAntisymmetric}
 use Rattle.std.specs.FinMap.Entries.{find, is_sorted, is_some-find}
-use Rattle.ks_row.specs.FieldKeys.{field_key}
 use Rattle.ks_expr.specs.declared.terms.JoinKind.{JoinKind}
 use Rattle.ks_expr.specs.declared.terms.JoinKind.TheVariants.{Inner, Left as LeftJoin, Outer}
 use Rattle.ks_expr.specs.Terms.{Set}
@@ -21,7 +20,8 @@ use Rattle.ks_def_runs.proofs.Tables.{equal, get-write, get-latest, find_below, 
 use Rattle.ks_wire.specs.declared.values.Agg.{Agg}
 use Rattle.ks_query.specs.Streams.{Key}
 use Rattle.ks_query.specs.Aggregates.{agg_row, stream_add}
-use Rattle.ks_query.specs.Query.{Table, add_to, map_values, aggregate, key_join, right_row, foreign_join}
+use Rattle.ks_expr.specs.Keys.{fk_of}
+use Rattle.ks_query.specs.Query.{Table, add_to, map_rows, map_values, aggregate, key_join, right_row, foreign_join}
 use Rattle.ks_query.specs.Laws.{LatestIsLast, ValuesAreMapped, KeysAreJoined, ForeignKeysAreJoined, rows_of, sum_of_rows, GroupsAreOfTheirRows}
 
 -- ---- rows mapped
@@ -30,26 +30,29 @@ module _ {K X Y : Type 0} {R : K → K → Ordering} (o : IsTotalOrder R) (same 
   onto f old None = old
   onto f old (Some x) = f x
 
-  values_fold : (f : X → Option Y) (acc : FinMap R Y) (es : List (K × X)) → T (is_sorted R es) → (q : K) → fin.get (fold (λ n e. write R n e.0 (f e.1)) acc es) q ≡ onto f (fin.get acc q) (find R q es)
-  values_fold f acc [] h q = refl
-  values_fold f acc (e ∷ es) h q =
-      values_fold f (write R acc e.0 (f e.1)) es (tail_of _ _ h) q
-      ∙ elim (eq_by_cmp R q e.0) as (λ b. eq_by_cmp R q e.0 ≡ b → onto f (fin.get (write R acc e.0 (f e.1)) q) (find R q es) ≡ onto f (fin.get acc q) (cond b (Some e.1) (find R q es))) [
+  rows_fold : (f : K → X → Option Y) (acc : FinMap R Y) (es : List (K × X)) → T (is_sorted R es) → (q : K) → fin.get (fold (λ n e. write R n e.0 (f e.0 e.1)) acc es) q ≡ onto (f q) (fin.get acc q) (find R q es)
+  rows_fold f acc [] h q = refl
+  rows_fold f acc (e ∷ es) h q =
+      rows_fold f (write R acc e.0 (f e.0 e.1)) es (tail_of _ _ h) q
+      ∙ elim (eq_by_cmp R q e.0) as (λ b. eq_by_cmp R q e.0 ≡ b → onto (f q) (fin.get (write R acc e.0 (f e.0 e.1)) q) (find R q es) ≡ onto (f q) (fin.get acc q) (cond b (Some e.1) (find R q es))) [
         | true ↦ λ b.
             let is : q ≡ e.0 = same q e.0 (equal _ b) in
             let none : find R q es ≡ None = ap (λ k. find R k es) is ∙ find_below o (λ x. 0) e.0 es (head_of _ _ h) in
-            ap (onto f (fin.get (write R acc e.0 (f e.1)) q)) none ∙ get-write o acc e.0 (f e.1) q ∙ ap (λ c. cond c (f e.1) (fin.get acc q)) b
-        | false ↦ λ b. ap (λ v. onto f v (find R q es)) (get-write o acc e.0 (f e.1) q ∙ ap (λ c. cond c (f e.1) (fin.get acc q)) b)
+            ap (onto (f q) (fin.get (write R acc e.0 (f e.0 e.1)) q)) none ∙ get-write o acc e.0 (f e.0 e.1) q ∙ ap (λ c. cond c (f e.0 e.1) (fin.get acc q)) b ∙ ap (λ k. f k e.1) (sym is)
+        | false ↦ λ b. ap (λ v. onto (f q) v (find R q es)) (get-write o acc e.0 (f e.0 e.1) q ∙ ap (λ c. cond c (f e.0 e.1) (fin.get acc q)) b)
       ] refl
 
-  pub get-map_values : (f : X → Option Y) (m : FinMap R X) (q : K) → fin.get (map_values f m) q ≡ option_and_then f (fin.get m q)
-  get-map_values f m q =
-      values_fold f fin.empty (fin.entries m) (fin.entries_sorted m) q ∙ ap (λ v. onto f v (find R q (fin.entries m))) (fin.get-empty R q)
-      ∙ of_found (find R q (fin.entries m)) ∙ ap (option_and_then f) (sym (fin.get-entries m q))
+  pub get-map_rows : (f : K → X → Option Y) (m : FinMap R X) (q : K) → fin.get (map_rows f m) q ≡ option_and_then (f q) (fin.get m q)
+  get-map_rows f m q =
+      rows_fold f fin.empty (fin.entries m) (fin.entries_sorted m) q ∙ ap (λ v. onto (f q) v (find R q (fin.entries m))) (fin.get-empty R q)
+      ∙ of_found (find R q (fin.entries m)) ∙ ap (option_and_then (f q)) (sym (fin.get-entries m q))
     where
-      of_found : (x : Option X) → onto f None x ≡ option_and_then f x
+      of_found : (x : Option X) → onto (f q) None x ≡ option_and_then (f q) x
       of_found None = refl
       of_found (Some x) = refl
+
+  pub get-map_values : (f : X → Option Y) (m : FinMap R X) (q : K) → fin.get (map_values f m) q ≡ option_and_then f (fin.get m q)
+  get-map_values f m q = get-map_rows (λ k. f) m q
 
 module _ {K Y : Type 0} {R : K → K → Ordering} (o : IsTotalOrder R) (same : IsAntisymmetric R) where
   -- rows written at keys
@@ -112,7 +115,7 @@ pub keys_are_joined : KeysAreJoined
 keys_are_joined kind set l r k = get-key_join kind set l r k
 
 pub foreign_keys_are_joined : ForeignKeysAreJoined
-foreign_keys_are_joined fk kind set l r k = get-map_values nat_list_cmp_total bytes_same (λ v. joined kind set (Some v) (right_row r (field_key fk v))) l k
+foreign_keys_are_joined fk kind set l r k = get-map_rows nat_list_cmp_total bytes_same (λ p v. joined kind set (Some v) (right_row r (fk_of fk p v))) l k
 
 -- a group is that of its own rows, from what it was
 added_rows : (field : Option (List ℕ)) (xs : List (Key × Row)) (m : FinMap by_bytes Agg) (old : Option Agg) (g : Key) → fin.get m g ≡ old →

@@ -2,9 +2,10 @@
 use Rattle.std.specs.Prelude.{◌≡◌, ℕ, ◌%◌, ◌^◌, List, [], ◌∷◌, Option, Some, None, cond, fold, option_map, option_and_then, is_none, length}
 use Rattle.std.specs.Int.{w64, cast_unsigned}
 use Rattle.std.specs.Ordering.{eq_by_cmp}
-use Rattle.ks_row.specs.FieldKeys.{field_key}
 use Rattle.ks_expr.specs.declared.terms.JoinKind.{JoinKind}
+use Rattle.ks_expr.specs.declared.terms.Fk.{Fk}
 use Rattle.ks_expr.specs.Terms.{Set}
+use Rattle.ks_expr.specs.Keys.{fk_of}
 use Rattle.ks_expr.specs.Eval.{Row, joined}
 use Rattle.ks_def_runs.specs.FinMap as map
 use Rattle.ks_def_runs.specs.Bytes.{by_bytes}
@@ -28,8 +29,8 @@ KeysAreJoined = (kind : JoinKind) (set : Set) (l r : Table) (k : Key) → map.ge
 
 -- a join by a foreign key: of each left row and the right row at its foreign key, where they are
 abbrev pub ForeignKeysAreJoined : Type 0
-ForeignKeysAreJoined = (fk : List ℕ) (kind : JoinKind) (set : Set) (l r : Table) (k : Key) →
-    map.get (foreign_join fk kind set l r) k ≡ option_and_then (λ v. joined kind set (Some v) (right_row r (field_key fk v))) (map.get l k)
+ForeignKeysAreJoined = (fk : Fk) (kind : JoinKind) (set : Set) (l r : Table) (k : Key) →
+    map.get (foreign_join fk kind set l r) k ≡ option_and_then (λ v. joined kind set (Some v) (right_row r (fk_of fk k v))) (map.get l k)
 
 -- ---- groups
 -- the rows of a group, in their order

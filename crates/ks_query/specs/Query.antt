@@ -5,7 +5,9 @@ use Rattle.std.specs.Prelude.{ℕ, suc, List, [], ◌∷◌, ◌++◌, map, Opti
 use Rattle.std.specs.List.{filter, flat_map}
 use Rattle.std.specs.declared.cmp.Ordering.{Ordering}
 use Rattle.ks_expr.specs.declared.terms.JoinKind.{JoinKind}
+use Rattle.ks_expr.specs.declared.terms.Fk.{Fk}
 use Rattle.ks_expr.specs.Terms.{Set}
+use Rattle.ks_expr.specs.Keys.{fk_of}
 use Rattle.ks_row.specs.FieldKeys.{field_key}
 use Rattle.ks_expr.specs.Eval.{Row, holds, project, joined}
 use Rattle.ks_query.specs.Streams.{Key}
@@ -30,8 +32,12 @@ WindowTable = FinMap by_window Row
 abbrev pub add_to : {K : Type 0} {R : K → K → Ordering} → Option (List ℕ) → FinMap R Agg → (K × Row) → FinMap R Agg
 add_to {R = R} field m x = write R m x.0 (Some (stream_add field (map.get m x.0) x.1))
 
+-- of each key and its value
+abbrev pub map_rows : {K X Y : Type 0} {R : K → K → Ordering} → (K → X → Option Y) → FinMap R X → FinMap R Y
+map_rows {R = R} f m = fold (λ n e. write R n e.0 (f e.0 e.1)) map.empty (map.entries m)
+
 abbrev pub map_values : {K X Y : Type 0} {R : K → K → Ordering} → (X → Option Y) → FinMap R X → FinMap R Y
-map_values {R = R} f m = fold (λ n e. write R n e.0 (f e.1)) map.empty (map.entries m)
+map_values {R = R} f m = map_rows {R = R} (λ k. f) m
 
 -- each group with the number of its rows, or with the wrapped sum of their field
 abbrev pub aggregate : {K : Type 0} {R : K → K → Ordering} → Option (List ℕ) → List (K × Row) → FinMap R Row
@@ -58,8 +64,8 @@ abbrev pub right_row : Table → Option Key → Option Row
 right_row t None = None
 right_row t (Some f) = map.get t f
 
-abbrev pub foreign_join : List ℕ → JoinKind → Set → Table → Table → Table
-foreign_join fk kind set l r = map_values (λ v. joined kind set (Some v) (right_row r (field_key fk v))) l
+abbrev pub foreign_join : Fk → JoinKind → Set → Table → Table → Table
+foreign_join fk kind set l r = map_rows (λ k v. joined kind set (Some v) (right_row r (fk_of fk k v))) l
 
 -- ---- the query of each node, by recursion on the node list
 pub record Answers : Type 0 where

@@ -36,6 +36,7 @@ fn joined(alloc: Global, front: &[u8], more: &[u8]) -> Result<Vec<u8>, AllocErro
 }
 
 impl BlobBuilder {
+    /// No bytes yet; takes no memory.
     pub fn new(alloc: Global) -> BlobBuilder
         ensures { result ≡ [] }
     {

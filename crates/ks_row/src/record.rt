@@ -21,6 +21,7 @@ pub struct PartId {
 }
 
 impl PartId {
+    /// Whether both are one partition of one topic.
     pub fn is(self, other: PartId) -> bool
         ensures { result ≡ same_part self other }
     {
@@ -43,6 +44,7 @@ pub struct TaskId {
 }
 
 impl TaskId {
+    /// Whether both are one task.
     pub fn is(self, other: TaskId) -> bool
         ensures { result ≡ same_task self other }
     {

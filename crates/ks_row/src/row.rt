@@ -62,6 +62,7 @@ impl Row {
         None
     }
 
+    /// Its names with their fields, by rising names.
     pub fn members(&self) -> &[(Name, Field)]
         ensures value { result.now ≡ self.now }
         ensures row { IsRow self.now }

@@ -66,6 +66,7 @@ impl Key {
         Key::of_text(alloc, text)
     }
 
+    /// Its characters, 1 to 1,024 bytes of UTF-8.
     pub fn as_str(&self) -> &str
         ensures bytes { result.now ≡ self.now }
         ensures key { IsKey self.now }
@@ -75,7 +76,7 @@ impl Key {
 }
 
 impl Key {
-    /// The same of a text.
+    /// The key of these characters; none where they are none, or more than 1,024 bytes.
     pub fn of_text(alloc: Global, text: &str) -> Result<Option<Key>, AllocError>
         ensures { IfOk result (λ o. o ≡ key_of text.now) }
     {
@@ -169,6 +170,7 @@ impl Name {
         Name::of_text(alloc, text)
     }
 
+    /// Its characters, 1 to 64 bytes of UTF-8.
     pub fn as_str(&self) -> &str
         ensures bytes { result.now ≡ self.now }
         ensures name { IsName self.now }
@@ -178,7 +180,7 @@ impl Name {
 }
 
 impl Name {
-    /// The same of a text.
+    /// The name of these characters; none where they are none, or more than 64 bytes.
     pub fn of_text(alloc: Global, text: &str) -> Result<Option<Name>, AllocError>
         ensures { IfOk result (λ o. o ≡ name_of text.now) }
     {
@@ -281,6 +283,7 @@ impl Text {
         Text::of_text(alloc, text)
     }
 
+    /// Its characters, 0 to 65,536 bytes of UTF-8.
     pub fn as_str(&self) -> &str
         ensures bytes { result.now ≡ self.now }
         ensures text { IsText self.now }
@@ -290,7 +293,7 @@ impl Text {
 }
 
 impl Text {
-    /// The same of a text.
+    /// The text of these characters; none where they are more than 65,536 bytes.
     pub fn of_text(alloc: Global, text: &str) -> Result<Option<Text>, AllocError>
         ensures { IfOk result (λ o. o ≡ text_of text.now) }
     {

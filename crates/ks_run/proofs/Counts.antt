@@ -8,15 +8,16 @@ use Rattle.std.proofs.lemmas.Bool.{ltb-false, cases_lt}
 use Rattle.std.specs.Ordering.{nat_cmp, is_lt}
 use Rattle.std.specs.Cmp.Lexicographic.{slice_cmp}
 use Rattle.ks_plan.specs.declared.node.Topic.TheVariants.{Input as InputTopic}
-use Rattle.ks_plan.specs.Drafts.{Name, DraftView}
+use Rattle.ks_plan.specs.Drafts.{Topics, Name, DraftView}
 use Rattle.ks_plan.specs.Plan.{Plan, natural, with_topic, sorted_topics, plan_of}
 use Rattle.ks_plan.specs.Layout.{at, up_to, by_node, through_topics, changelogs_of, input_topics, topics_of, parts_of_topic}
 use Rattle.ks_plan.specs.Infos.{info_of, topic_infos}
 use Rattle.ks_plan.specs.declared.node.TopicInfo.{TopicInfo}
 use Rattle.ks_plan.specs.Faults.{first_fitting, is_past, any_past, size_lines, parts_fault, fault_of}
+use Rattle.ks_plan.specs.declared.draft.TopicDraft.{TopicDraft}
 use Rattle.ks_topo.proofs.Sorting.{past_sorted}
 use Rattle.ks_law_inputs.specs.Records.{HavePartitions}
-use Rattle.ks_run_workers.specs.Placing.{IsParted}
+use Rattle.ks_topo.specs.Places.{spread_in, HasPlaces}
 
 none_of : {A : Type 0} (a b : Option A) → option_or a b ≡ None → (a ≡ None) × (b ≡ None)
 none_of None b e = (refl, e)
@@ -31,7 +32,7 @@ neither true b e = absurd (cc)
 neither false b e = (refl, e)
 
 -- ---- sorted topics
-with_length : (ys : List (Name × ℤ)) (x : Name × ℤ) → length (with_topic ys x) ≡ suc (length ys)
+with_length : (ys : Topics) (x : Name × TopicDraft) → length (with_topic ys x) ≡ suc (length ys)
 with_length [] x = refl
 with_length (y ∷ ys) x = by (is_lt (slice_cmp nat_cmp x.0 y.0)) (with_length ys x)
   where
@@ -39,11 +40,11 @@ with_length (y ∷ ys) x = by (is_lt (slice_cmp nat_cmp x.0 y.0)) (with_length y
     by true e = refl
     by false e = ap suc e
 
-sorted_length_from : (ys ts : List (Name × ℤ)) → length (fold with_topic ys ts) ≡ length ys + length ts
+sorted_length_from : (ys ts : Topics) → length (fold with_topic ys ts) ≡ length ys + length ts
 sorted_length_from ys [] = omega arith
 sorted_length_from ys (t ∷ ts) = let e = sorted_length_from (with_topic ys t) ts in let f = with_length ys t in omega arith
 
-have_with : (ys : List (Name × ℤ)) (x : Name × ℤ) → HavePartitions ys → 1 ≤ natural x.1 → HavePartitions (with_topic ys x)
+have_with : (ys : Topics) (x : Name × TopicDraft) → HavePartitions ys → 1 ≤ natural x.1.parts → HavePartitions (with_topic ys x)
 have_with [] x h e = (e, tt)
 have_with (y ∷ ys) x h e = by (is_lt (slice_cmp nat_cmp x.0 y.0)) (have_with ys x h.1 e)
   where
@@ -51,7 +52,7 @@ have_with (y ∷ ys) x h e = by (is_lt (slice_cmp nat_cmp x.0 y.0)) (have_with y
     by true g = (e, h)
     by false g = (h.0, g)
 
-have_sorted : (ys ts : List (Name × ℤ)) → HavePartitions ys → HavePartitions ts → HavePartitions (fold with_topic ys ts)
+have_sorted : (ys ts : Topics) → HavePartitions ys → HavePartitions ts → HavePartitions (fold with_topic ys ts)
 have_sorted ys [] h g = h
 have_sorted ys (t ∷ ts) h g = have_sorted (with_topic ys t) ts (have_with ys t h g.0) g.1
 
@@ -64,13 +65,13 @@ not_past : (z : ℤ) → is_past z ≡ false → natural z ≤ 64
 not_past (pos n) e = ltb-false 64 n e
 not_past (negsuc n) e = omega arith
 
-count_at : (ts : List (Name × ℤ)) (i : ℕ) → HavePartitions ts → any_past ts ≡ false → i < length ts → IsCount (get_or (map (λ (x : Name × ℤ). natural x.1) ts) i 0)
+count_at : (ts : Topics) (i : ℕ) → HavePartitions ts → any_past ts ≡ false → i < length ts → IsCount (get_or (map (λ (x : Name × TopicDraft). natural x.1.parts) ts) i 0)
 count_at [] i h e l = absurd (omega arith)
-count_at (t ∷ ts) zero h e l = record { some = h.0; most = not_past t.1 (neither (is_past t.1) (any_past ts) e).0 }
-count_at (t ∷ ts) (suc i) h e l = count_at ts i h.1 (neither (is_past t.1) (any_past ts) e).1 (omega arith)
+count_at (t ∷ ts) zero h e l = record { some = h.0; most = not_past t.1.parts (neither (is_past t.1.parts) (any_past ts) e).0 }
+count_at (t ∷ ts) (suc i) h e l = count_at ts i h.1 (neither (is_past t.1.parts) (any_past ts) e).1 (omega arith)
 
 pub counts_length : (d : DraftView) → length (plan_of d).counts ≡ length d.topics
-counts_length d = let e = sorted_length_from [] d.topics in let f = length-map (sorted_topics d) (λ (x : Name × ℤ). natural x.1) in omega arith
+counts_length d = let e = sorted_length_from [] d.topics in let f = length-map (sorted_topics d) (λ (x : Name × TopicDraft). natural x.1.parts) in omega arith
 
 pub plan_count : (d : DraftView) (i : ℕ) → fault_of d ≡ None → HavePartitions d.topics → i < length (plan_of d).counts → IsCount (at (plan_of d).counts i)
 plan_count d i e h l =
@@ -115,7 +116,7 @@ topics_length p = omega (
   length_up_to (length p.counts),
 )
 
-topic_is : (p : Plan) (i : ℕ) → i < length p.counts → get_or (topics_of p) i (InputTopic 0) ≡ InputTopic i
+pub topic_is : (p : Plan) (i : ℕ) → i < length p.counts → get_or (topics_of p) i (InputTopic 0) ≡ InputTopic i
 topic_is p i l =
     let inputs : length (input_topics p) ≡ length p.counts = length-map (up_to (length p.counts)) InputTopic ∙ length_up_to (length p.counts) in
     get_first (input_topics p ++ by_node through_topics 0 p.kinds) (by_node changelogs_of 0 p.kinds) i (InputTopic 0) (omega (arith, inputs, length-append (input_topics p) (by_node through_topics 0 p.kinds)))
@@ -127,13 +128,13 @@ pub part_count : (p : Plan) (i : ℕ) → i < length p.counts → slice_index (m
 part_count p i l =
     get_mapped (parts_of_topic p) (topics_of p) i (InputTopic 0) 0 (omega (arith, topics_length p)) ∙ ap (parts_of_topic p) (topic_is p i l)
 
-pub have_parts : (d : DraftView) (topic : ℕ) → fault_of d ≡ None → HavePartitions d.topics → topic < length (plan_of d).counts → IsParted (map (parts_of_topic (plan_of d)) (topics_of (plan_of d))) topic
-have_parts d topic e h l =
+pub have_places : (d : DraftView) (topic : ℕ) → fault_of d ≡ None → HavePartitions d.topics → topic < length (plan_of d).counts → HasPlaces (plan_of d) topic
+have_places d topic e h l =
     let p = plan_of d in
     let count = plan_count d topic e h l in
-    let is = part_count p topic l in
+    let is : (spread_in p topic).parts ≡ at p.counts topic = ap (parts_of_topic p) (topic_is p topic l) in
     record {
-      within = omega (arith, length-map (topics_of p) (parts_of_topic p), topics_length p);
+      within = omega (arith, l, topics_length p);
       some = omega (arith, is, count.some);
       most = omega (arith, is, count.most);
     }

@@ -1,6 +1,6 @@
 -- A job's records as the cluster produces them.
 use Rattle.std.proofs.Common.{◌≡◌, ℕ, ◌<◌, ◌≤◌, ◌^◌, true, List, [], ◌∷◌, length, map, refl, sym, ap, ap₂, subst, ◌∙◌, arith}
-use Rattle.std.specs.Prelude.{Option, Some, None, IfSome, option_map, slice_index, bit_and}
+use Rattle.std.specs.Prelude.{Option, Some, None, IfSome, option_map, bit_and}
 use Rattle.std.proofs.Math.Nat.{mod-lt}
 use Rattle.std.proofs.lemmas.Bool.{le-leb}
 use Rattle.ks_row.specs.Texts.{IsKey}
@@ -8,11 +8,13 @@ use Rattle.ks_row.specs.Spelling.{spelling, FitsRow}
 use Rattle.ks_row.specs.Reading.{row_from}
 use Rattle.ks_row.specs.declared.record.Rec.{Rec}
 use Rattle.ks_row.proofs.Spelled.{row_again}
-use Rattle.ks_hash.specs.Partition.{part_of_key}
 use Rattle.ks_hash.specs.Murmur2.{murmur2_of}
+use Rattle.ks_expr.specs.Keys.{spread_part}
 use Rattle.ks_plan.specs.Drafts.{DraftView}
 use Rattle.ks_plan.specs.Plan.{Plan, plan_of}
-use Rattle.ks_plan.specs.Layout.{topics_of, parts_of_topic}
+use Rattle.ks_plan.specs.Layout.{spread_of_topic}
+use Rattle.ks_plan.specs.Places.{spread_to}
+use Rattle.ks_topo.specs.Places.{spread_in}
 use Rattle.ks_law_topology.specs.Spelled.{IfThere}
 use Rattle.ks_job.specs.Items.{ItemView, TopologyAt, RecordTo}
 use Rattle.ks_law_inputs.specs.Records.{row_in, input_of, records_of, IsRowBytes, IsRecord, AreRecords}
@@ -21,10 +23,10 @@ use Rattle.ks_law_kinds.specs.OfKind.{is_in_range}
 use Rattle.ks_law_settled.specs.Jobs.{produced_of, FitInputs, InRange, HasParts}
 use Rattle.ks_run_workers.specs.Placing.{part_at, placed, placed_all}
 use Rattle.ks_run.specs.Journals.{placed_records}
-use Rattle.ks_run.proofs.Counts.{part_count, counts_length}
+use Rattle.ks_run.proofs.Counts.{topic_is, counts_length}
 
 pub keys_have_parts : (hash : List ℕ → ℕ) → HasParts (rules_of hash)
-keys_have_parts hash k n l = mod-lt (bit_and (murmur2_of k) 0x7fffffff) (omega arith)
+keys_have_parts hash k s l = mod-lt (bit_and (murmur2_of (spread_part s.before k)) 0x7fffffff) (omega arith)
 
 -- ---- one record
 value_again : (o : Option (List ℕ)) → IfSome o IsRowBytes → o ≡ option_map spelling (row_in o)
@@ -40,22 +42,21 @@ key_there None h = tt
 key_there (Some k) h = h
 
 part_is : (hash : List ℕ → ℕ) (p : Plan) (topic : ℕ) (r : Rec) → topic < length p.counts → (k : Option (List ℕ)) →
-    part_at k (slice_index (map (parts_of_topic p) (topics_of p)) topic) ≡ (produced_of (rules_of hash) p (record { topic = topic; key = k; value = row_in r.value; time = r.ts })).0.part
+    part_at k (spread_in p topic) ≡ (produced_of (rules_of hash) p (record { topic = topic; key = k; value = row_in r.value; time = r.ts })).0.part
 part_is hash p topic r l None = refl
-part_is hash p topic r l (Some k) = ap (part_of_key k) (part_count p topic l)
+part_is hash p topic r l (Some k) = ap (λ t. spread_to k (spread_of_topic p t)) (topic_is p topic l)
 
-record_placed : (hash : List ℕ → ℕ) (p : Plan) (topic : ℕ) (r : Rec) → IsRecord (length p.counts) topic r → placed (map (parts_of_topic p) (topics_of p)) topic r ≡ produced_of (rules_of hash) p (input_of topic r)
+record_placed : (hash : List ℕ → ℕ) (p : Plan) (topic : ℕ) (r : Rec) → IsRecord (length p.counts) topic r → placed p topic r ≡ produced_of (rules_of hash) p (input_of topic r)
 record_placed hash p topic r h =
     ap₂ (λ part value. (record { topic = topic; part = part }, record { key = r.key; value = value; ts = r.ts })) (part_is hash p topic r h.topic r.key) (value_again r.value h.value)
 
 -- ---- all of them
-all_placed : (hash : List ℕ → ℕ) (p : Plan) (is : List ItemView) → AreRecords (length p.counts) is → placed_all (map (parts_of_topic p) (topics_of p)) is ≡ map (produced_of (rules_of hash) p) (records_of is)
+all_placed : (hash : List ℕ → ℕ) (p : Plan) (is : List ItemView) → AreRecords (length p.counts) is → placed_all p is ≡ map (produced_of (rules_of hash) p) (records_of is)
 all_placed hash p [] h = refl
 all_placed hash p (TopologyAt line d ∷ is) h = absurd h
 all_placed hash p (RecordTo topic r ∷ is) h = ap₂ (λ x xs. x ∷ xs) (record_placed hash p topic r h.0) (all_placed hash p is h.1)
 
-pub records_placed : (hash : List ℕ → ℕ) (d : DraftView) (is : List ItemView) → AreRecords (length d.topics) is →
-    placed_all (map (parts_of_topic (plan_of d)) (topics_of (plan_of d))) is ≡ placed_records (rules_of hash) d (records_of is)
+pub records_placed : (hash : List ℕ → ℕ) (d : DraftView) (is : List ItemView) → AreRecords (length d.topics) is → placed_all (plan_of d) is ≡ placed_records (rules_of hash) d (records_of is)
 records_placed hash d is h = all_placed hash (plan_of d) is (subst (λ n. AreRecords n is) (sym (counts_length d)) h)
 
 all_fit : (p : Plan) (is : List ItemView) → AreRecords (length p.counts) is → FitInputs p (records_of is)

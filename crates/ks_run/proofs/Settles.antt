@@ -42,13 +42,15 @@ use Rattle.ks_law_topology.specs.Work.{work_of, setup_of}
 use Rattle.ks_law_topology.proofs.Networks.{works_are_networks}
 use Rattle.ks_law_topology.proofs.Setups.{setups_are_made}
 use Rattle.ks_def_tasks.specs.Rules.{HaveParts, rules_of}
-use Rattle.ks_law_kinds.specs.Fitting.{FitsPlan, FitsRules}
+use Rattle.ks_law_kinds.specs.Fitting.{FitsPlan}
+use Rattle.ks_law_topology.specs.Work.{FitsRules}
 use Rattle.ks_law_settled.specs.Jobs.{IsJob, produces}
 use Rattle.ks_law_settled.proofs.Parts.{have_parts as nodes_have_parts}
 use Rattle.ks_job.specs.Items.{ItemView, item_views}
 use Rattle.ks_law_inputs.specs.Records.{records_of, HavePartitions, AreRecords}
 use Rattle.ks_shared.specs.declared.state.Frame.{Frame}
-use Rattle.ks_run_workers.specs.Placing.{placed_all, IsParted}
+use Rattle.ks_topo.specs.Places.{HasPlaces}
+use Rattle.ks_run_workers.specs.Placing.{counts_in, placed_all}
 use Rattle.ks_run_workers.specs.Producing.{IsFilled}
 use Rattle.ks_settle.specs.Drained.{Extends, drain_worker}
 use Rattle.ks_settle_report.specs.Report.{IsOf}
@@ -56,7 +58,7 @@ use Rattle.ks_task.proofs.Subs.{inputs_there}
 use Rattle.ks_run.specs.Told.{told, with_lines}
 use Rattle.ks_run.specs.Journals.{placed_records, IsUndrained}
 use Rattle.ks_run.specs.Settling.{IsDrained, SettlesJob, IsWantedBy, IsEnded, IsLeft, EndsBy, KeepsJob, TellsEnd, RunsJob}
-use Rattle.ks_run.proofs.Counts.{counts_length, plan_count, have_parts, shown_counts}
+use Rattle.ks_run.proofs.Counts.{counts_length, plan_count, have_places, shown_counts}
 use Rattle.ks_run.proofs.Placed.{keys_have_parts, records_placed, records_fit, records_in_range}
 
 pub setup_is : (hash : List ℕ → ℕ) (d : DraftView) (plan : TaskPlan) (counts : List ℕ) (ts : List TaskId) → plan ≡ work_of (rules_of hash) (plan_of d) → counts ≡ map (parts_of_topic (plan_of d)) (topics_of (plan_of d)) → ts ≡ tasks (plan_of d) →
@@ -72,24 +74,22 @@ begun_is work c kept counts ts all a b e =
     subst (λ l. c ≡ record { work = work; counts = counts; tasks = l; journal = [] }) b (subst (λ l. c ≡ record { work = work; counts = l; tasks = ts; journal = [] }) a e)
 
 -- ---- a new cluster of a topology's tasks
-pub record HasBegun {W : Type 0} (hash : List ℕ → ℕ) (plan : W → TaskPlan) (good : W → PlacementTest) (placing : Placing) (d : DraftView) (begun : ClusterView W) (counts : List ℕ) : Type 0 where
+pub record HasBegun {W : Type 0} (hash : List ℕ → ℕ) (plan : W → TaskPlan) (good : W → PlacementTest) (placing : Placing) (d : DraftView) (begun : ClusterView W) : Type 0 where
   pub new : begun.journal ≡ []
   pub work : plan begun.work ≡ work_of (rules_of hash) (plan_of d)
   pub start : kept.setup_of plan begun ≡ setup_of (rules_of hash) (plan_of d)
   pub wanted : IsWantedBy good begun.work d placing
-  pub kept_counts : counts ≡ begun.counts
-  pub counts_are : counts ≡ map (parts_of_topic (plan_of d)) (topics_of (plan_of d))
+  pub counts_are : counts_in (plan_of d) ≡ begun.counts
 
-pub has_begun : {W : Type 0} (hash : List ℕ → ℕ) (plan : W → TaskPlan) (good : W → PlacementTest) (placing : Placing) (d : DraftView) (work : W) (begun : ClusterView W) (given counts : List ℕ) → given ≡ counts →
-    begun ≡ record { work = work; counts = given; tasks = tasks (plan_of d); journal = [] } → plan work ≡ work_of (rules_of hash) (plan_of d) → counts ≡ map (λ (i : TopicInfo). i.parts) (topic_infos d) → IsWantedBy good work d placing →
-    HasBegun hash plan good placing d begun counts
-has_begun hash plan good placing d work begun given counts same is planned counted wanted = record {
+pub has_begun : {W : Type 0} (hash : List ℕ → ℕ) (plan : W → TaskPlan) (good : W → PlacementTest) (placing : Placing) (d : DraftView) (work : W) (begun : ClusterView W) →
+    begun ≡ record { work = work; counts = map (λ (i : TopicInfo). i.parts) (topic_infos d); tasks = tasks (plan_of d); journal = [] } → plan work ≡ work_of (rules_of hash) (plan_of d) → IsWantedBy good work d placing →
+    HasBegun hash plan good placing d begun
+has_begun hash plan good placing d work begun is planned wanted = record {
   new = ap (λ k. k.journal) is;
   work = ap (λ k. plan k.work) is ∙ planned;
-  start = ap (λ k. kept.setup_of plan k) is ∙ setup_is hash d (plan work) given (tasks (plan_of d)) planned (same ∙ (counted ∙ shown_counts d)) refl;
+  start = ap (λ k. kept.setup_of plan k) is ∙ setup_is hash d (plan work) (map (λ (i : TopicInfo). i.parts) (topic_infos d)) (tasks (plan_of d)) planned (shown_counts d) refl;
   wanted = ap (λ k. good k.work) is ∙ wanted;
-  kept_counts = sym same ∙ sym (ap (λ k. k.counts) is);
-  counts_are = counted ∙ shown_counts d;
+  counts_are = sym (shown_counts d) ∙ sym (ap (λ k. k.counts) is);
 }
 
 -- ---- a topology and its records before they are run
@@ -115,11 +115,10 @@ is_job hash d is h = record {
 }
 
 -- ---- the run of a job's tasks
-pub parts_ready : (hash : List ℕ → ℕ) (d : DraftView) (plan : TaskPlan) (counts : List ℕ) → fault_of d ≡ None → HavePartitions d.topics → plan ≡ work_of (rules_of hash) (plan_of d) →
-    counts ≡ map (parts_of_topic (plan_of d)) (topics_of (plan_of d)) → (topic : ℕ) → topic < plan.sources → IsParted counts topic
-parts_ready hash d plan counts fine have a b topic l =
+pub places_ready : (hash : List ℕ → ℕ) (d : DraftView) (plan : TaskPlan) → fault_of d ≡ None → HavePartitions d.topics → plan ≡ work_of (rules_of hash) (plan_of d) → (topic : ℕ) → topic < plan.sources → HasPlaces (plan_of d) topic
+places_ready hash d plan fine have a topic l =
     let sources : plan.sources ≡ length (plan_of d).counts = ap (λ q. q.sources) a in
-    subst (λ cs. IsParted cs topic) (sym b) (have_parts d topic fine have (subst (λ s. topic < s) sources l))
+    have_places d topic fine have (subst (λ s. topic < s) sources l)
 
 pub records_ready : (hash : List ℕ → ℕ) (d : DraftView) (plan : TaskPlan) (is : List ItemView) → plan ≡ work_of (rules_of hash) (plan_of d) → AreRecords (length d.topics) is → AreRecords plan.sources is
 records_ready hash d plan is a h =
@@ -137,7 +136,7 @@ drained_setup plan old new h = rw (ap (λ c. c.work) h.same, ap (λ c. c.counts)
 
 -- ---- what a drained cluster has come to
 answered : (hash : List ℕ → ℕ) (shown : Bool) (d : DraftView) (is : List ItemView) (setup : Setup) (status : ℕ) (text : List ℕ) (journal : List Entry) → IsRunnable hash d is →
-    setup ≡ setup_of (rules_of hash) (plan_of d) → produces journal ≡ placed_all (map (parts_of_topic (plan_of d)) (topics_of (plan_of d))) is → IsDrained setup journal →
+    setup ≡ setup_of (rules_of hash) (plan_of d) → produces journal ≡ placed_all (plan_of d) is → IsDrained setup journal →
     (status, text) ≡ with_lines shown journal (told (rules_of hash) d (at setup journal)) → SettlesJob (rules_of hash) shown d (records_of is) status text journal
 answered hash shown d is setup status text journal ready e made drained told_is =
     let rules = rules_of hash in
@@ -155,14 +154,14 @@ answered hash shown d is setup status text journal ready e made drained told_is 
       told = told_is ∙ ap (λ s. with_lines shown journal (told rules d (at s journal))) e;
     }
 
-pub settled_answers : {W : Type 0} (hash : List ℕ → ℕ) (shown : Bool) (d : DraftView) (plan : W → TaskPlan) (is : List ItemView) (begun filled drained : ClusterView W) (counts : List ℕ) (status : ℕ) (text : List ℕ) (journal : List Entry) →
+pub settled_answers : {W : Type 0} (hash : List ℕ → ℕ) (shown : Bool) (d : DraftView) (plan : W → TaskPlan) (is : List ItemView) (begun filled drained : ClusterView W) (status : ℕ) (text : List ℕ) (journal : List Entry) →
     IsRunnable hash d is → kept.setup_of plan begun ≡ setup_of (rules_of hash) (plan_of d) →
-    counts ≡ map (parts_of_topic (plan_of d)) (topics_of (plan_of d)) → IsFilled begun filled (placed_all counts is) → Extends filled drained → IsDrained (kept.setup_of plan drained) drained.journal →
+    IsFilled begun filled (placed_all (plan_of d) is) → Extends filled drained → IsDrained (kept.setup_of plan drained) drained.journal →
     (status, text) ≡ with_lines shown drained.journal (told (rules_of hash) d (kept.state_of plan drained)) → journal ≡ drained.journal → SettlesJob (rules_of hash) shown d (records_of is) status text journal
-settled_answers hash shown d plan is begun filled drained counts status text journal ready start counts_are filling draining done told_is handed =
-    let setup = drained_setup plan filled drained draining ∙ (filled_setup plan begun filled (placed_all counts is) filling ∙ start) in
-    let made : produces drained.journal ≡ placed_all (map (parts_of_topic (plan_of d)) (topics_of (plan_of d))) is =
-    draining.produces ∙ (filling.produced ∙ ap (λ cs. placed_all cs is) counts_are) in
+settled_answers hash shown d plan is begun filled drained status text journal ready start filling draining done told_is handed =
+    let setup = drained_setup plan filled drained draining ∙ (filled_setup plan begun filled (placed_all (plan_of d) is) filling ∙ start) in
+    let made : produces drained.journal ≡ placed_all (plan_of d) is =
+    draining.produces ∙ filling.produced in
     subst (λ j. SettlesJob (rules_of hash) shown d (records_of is) status text j) (sym handed) (answered hash shown d is (kept.setup_of plan drained) status text drained.journal ready setup made done told_is)
 
 -- the report and the tables are those of the topology
@@ -192,8 +191,8 @@ alone_ready test placing d ts wanted named fine threads =
 
 -- ---- the end of a run
 module _ {W : Type 0} (hash : List ℕ → ℕ) (plan : W → TaskPlan) (good : W → PlacementTest) (placing : Placing) (shown : Bool) (d : DraftView) (begun filled : ClusterView W) (intake : JobInput) (left now : Option (List ℕ)) (e : JobEnd)
-    (start : kept.setup_of plan begun ≡ setup_of (rules_of hash) (plan_of d)) (wanted : IsWantedBy good begun.work d placing) (counts : intake.counts.items ≡ map (parts_of_topic (plan_of d)) (topics_of (plan_of d)))
-    (job : IsReadable d (item_views intake.records.items) intake.rest) (work : HasWorked begun filled intake left now e) where
+    (start : kept.setup_of plan begun ≡ setup_of (rules_of hash) (plan_of d)) (wanted : IsWantedBy good begun.work d placing)
+    (job : IsReadable d (item_views intake.records.items) intake.rest) (work : HasWorked d begun filled intake left now e) where
   abbrev its_items : List ItemView
   its_items = item_views intake.records.items ++ work.items
 
@@ -201,13 +200,13 @@ module _ {W : Type 0} (hash : List ℕ → ℕ) (plan : W → TaskPlan) (good : 
   its_records = all_records (length d.topics) intake.rest.taken intake.rest.standing left now e (item_views intake.records.items) work.items job.past job.records_are work.ends
 
   pub filled_start : kept.setup_of plan filled ≡ setup_of (rules_of hash) (plan_of d)
-  filled_start = filled_setup plan begun filled (placed_all intake.counts.items its_items) work.filled ∙ start
+  filled_start = filled_setup plan begun filled (placed_all (plan_of d) its_items) work.filled ∙ start
 
   pub filled_wanted : IsWantedBy good filled.work d placing
   filled_wanted = ap (λ (f : Frame W). good f.work) work.filled.frame ∙ wanted
 
   filled_made : produces filled.journal ≡ placed_records (rules_of hash) d (records_of its_items)
-  filled_made = work.filled.produced ∙ (ap (λ cs. placed_all cs its_items) counts ∙ records_placed hash d its_items its_records)
+  filled_made = work.filled.produced ∙ records_placed hash d its_items its_records
 
   -- a run that was cut short
   cut_short : (before after status : ℕ) (text : List ℕ) (journal : List Entry) → FaultsBy e before after → IsLeft plan good filled journal → (IsUndrained journal → TellsEnd e (rules_of hash) shown d (records_of its_items) status text journal) →
@@ -237,18 +236,18 @@ module _ {W : Type 0} (hash : List ℕ → ℕ) (plan : W → TaskPlan) (good : 
           faults = faults;
           kept = keeps_job plan good (rules_of hash) placing d h.drained (records_of its_items) journal setup (ap (λ c. good c.work) h.more.same ∙ filled_wanted) h.done.history h.placed (h.more.produces ∙ filled_made) h.handed;
           told = subst (λ x. TellsEnd x (rules_of hash) shown d (records_of its_items) status text journal) (sym whole)
-              (settled_answers hash shown d plan its_items begun filled h.drained intake.counts.items status text journal ready start counts work.filled h.more h.done h.told h.handed);
+              (settled_answers hash shown d plan its_items begun filled h.drained status text journal ready start work.filled h.more h.done h.told h.handed);
         }
 
 -- one of any end
 pub ran_so : {W : Type 0} (hash : List ℕ → ℕ) (plan : W → TaskPlan) (good : W → PlacementTest) (placing : Placing) (shown : Bool) (d : DraftView) (begun filled : ClusterView W) (intake : JobInput) (left now : Option (List ℕ)) (e : JobEnd) →
-    kept.setup_of plan begun ≡ setup_of (rules_of hash) (plan_of d) → IsWantedBy good begun.work d placing → intake.counts.items ≡ map (parts_of_topic (plan_of d)) (topics_of (plan_of d)) →
-    IsReadable d (item_views intake.records.items) intake.rest → HasWorked begun filled intake left now e → fault_of d ≡ None → FitsPlan (plan_of d) → FitsRules (rules_of hash) →
+    kept.setup_of plan begun ≡ setup_of (rules_of hash) (plan_of d) → IsWantedBy good begun.work d placing →
+    IsReadable d (item_views intake.records.items) intake.rest → HasWorked d begun filled intake left now e → fault_of d ≡ None → FitsPlan (plan_of d) → FitsRules (rules_of hash) →
     (before after status : ℕ) (text : List ℕ) (journal : List Entry) → FaultsBy e before after → EndsBy plan good (rules_of hash) shown d filled e status text journal →
     RunsJob (rules_of hash) placing shown d (item_views intake.records.items) intake.rest.standing left now before after status text journal
-ran_so hash plan good placing shown d begun filled intake left now end.Whole start wanted counts job work fine spelled hashes before after status text journal faults h =
-    ran_whole hash plan good placing shown d begun filled intake left now end.Whole start wanted counts job work fine spelled hashes before after status text journal refl faults h
-ran_so hash plan good placing shown d begun filled intake left now (end.Stopped stop) start wanted counts job work fine spelled hashes before after status text journal faults h =
-    cut_short hash plan good placing shown d begun filled intake left now (end.Stopped stop) start wanted counts job work before after status text journal faults h.2 (λ u. (h.0, h.1, u))
-ran_so hash plan good placing shown d begun filled intake left now end.Failed start wanted counts job work fine spelled hashes before after status text journal faults h =
-    cut_short hash plan good placing shown d begun filled intake left now end.Failed start wanted counts job work before after status text journal faults h.2 (λ u. (h.0, h.1, u))
+ran_so hash plan good placing shown d begun filled intake left now end.Whole start wanted job work fine spelled hashes before after status text journal faults h =
+    ran_whole hash plan good placing shown d begun filled intake left now end.Whole start wanted job work fine spelled hashes before after status text journal refl faults h
+ran_so hash plan good placing shown d begun filled intake left now (end.Stopped stop) start wanted job work fine spelled hashes before after status text journal faults h =
+    cut_short hash plan good placing shown d begun filled intake left now (end.Stopped stop) start wanted job work before after status text journal faults h.2 (λ u. (h.0, h.1, u))
+ran_so hash plan good placing shown d begun filled intake left now end.Failed start wanted job work fine spelled hashes before after status text journal faults h =
+    cut_short hash plan good placing shown d begun filled intake left now end.Failed start wanted job work before after status text journal faults h.2 (λ u. (h.0, h.1, u))

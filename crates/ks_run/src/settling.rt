@@ -13,7 +13,7 @@ ghost use Rattle.ks_job.specs.Items.{item_views};
 ghost use Rattle.ks_job_source.specs.Opening.{IsReadable};
 ghost use Rattle.ks_law_inputs.specs.Records.{HavePartitions};
 ghost use Rattle.ks_law_topology.specs.Work.{work_of, setup_of as topology_setup};
-ghost use Rattle.ks_law_kinds.specs.Fitting.{FitsRules};
+ghost use Rattle.ks_law_topology.specs.Work.{FitsRules};
 ghost use Rattle.ks_def_tasks.specs.Rules.{rules_of};
 ghost use Rattle.ks_words.specs.Ranges.{HasRanges};
 ghost use Rattle.ks_run_workers.specs.Members.{placing_of};
@@ -142,24 +142,20 @@ fn end_by<H: Hash128 + Send + Sync, R: Threads + Sync, W: Work + Send + Sync>(
     }
 }
 
-// A new cluster of the tasks of a topology, whose topics have these partition counts.
-fn begin<W: Work>(
-    alloc: Global,
-    topology: &Topology,
-    work: W,
-    counts: &[u8],
-) -> Result<Cluster<W>, AllocError>
-    requires { IsSetup (setup_from (W.plan work) counts.now (tasks (plan_in topology.now))) }
+// A new cluster of the tasks of a topology.
+fn begin<W: Work>(alloc: Global, topology: &Topology, work: W) -> Result<Cluster<W>, AllocError>
+    requires { IsSetup (setup_from (W.plan work) (map (λ i. i.parts)
+        (topic_infos (draft_of topology.now))) (tasks (plan_in topology.now))) }
     ensures { IfOk result (λ c. c ≡ record {
       work = work;
-      counts = counts.now;
+      counts = map (λ i. i.parts) (topic_infos (draft_of topology.now));
       tasks = tasks (plan_in topology.now);
       journal = [];
     }) }
 {
-    let kept = Vec::from_slice(alloc, counts)?;
+    let counts = counts_of(alloc, topology.topics())?;
     let names = Vec::from_slice(alloc, topology.tasks())?;
-    Cluster::new(alloc, work, kept, names)
+    Cluster::new(alloc, work, counts, names)
 }
 
 // The run of a job's tasks.
@@ -176,8 +172,6 @@ fn settle<H: Hash128 + Send + Sync, R: Threads + Wait + Sync, W: Work + Send + S
     requires gates { length crew.gates.items ≡ 16 }
     requires work { W.plan work ≡ work_of (rules_of H.hash_of) (plan_in topology.now) }
     requires placing { IsWantedBy W.good work (draft_of topology.now) (placing_of crew.settings) }
-    requires counts { intake.counts.items ≡ map (λ i. i.parts)
-        (topic_infos (draft_of topology.now)) }
     requires job { IsReadable (draft_of topology.now) (item_views intake.records.items)
         intake.rest }
     ensures { IfOk result (λ a. RunsJob (rules_of H.hash_of) (placing_of crew.settings)
@@ -189,7 +183,7 @@ fn settle<H: Hash128 + Send + Sync, R: Threads + Wait + Sync, W: Work + Send + S
     topology_fits(topology);
     hashes_fit::<H>();
     let _nodes = topology.nodes();
-    let empty = begin(alloc, topology, work, intake.counts.as_slice())?;
+    let empty = begin(alloc, topology, work)?;
     let shown = crew.settings.journal;
     let Ok((cluster, end)) = run_workers::<H, R, W, S>(
         rt, alloc, topology, empty, intake, input, crew,
@@ -227,11 +221,6 @@ pub fn settle_job<H: Hash128 + Send + Sync, R: Threads + Wait + Sync, S: Source>
     share_topology();
     let placing = placing_of(&crew.settings);
     let work = TaskWork::<H>::new(&topology, Some(placing));
-    let counts = counts_of(alloc, topology.topics())?;
-    let intake = JobInput {
-        counts,
-        records,
-        rest,
-    };
+    let intake = JobInput { records, rest };
     settle::<H, R, TaskWork<H>, S>(rt, alloc, &topology, work, intake, input, crew)
 }

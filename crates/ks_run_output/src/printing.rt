@@ -137,6 +137,7 @@ pub fn print_collision(
     Ok(text.into_bytes())
 }
 
+/// The line for words that are none of the program's.
 #[tactic(auto, unfolding(crate::specs::Texts::bad_words_text))]
 pub fn print_bad_words(alloc: Global) -> Result<Vec<u8>, AllocError>
     ensures { IfOk result (λ v. v.items ≡ bad_words_text) }
@@ -144,6 +145,7 @@ pub fn print_bad_words(alloc: Global) -> Result<Vec<u8>, AllocError>
     Vec::from_slice(alloc, b"bad words\n")
 }
 
+/// The line for an input that couldn't be read to its end.
 #[tactic(auto, unfolding(crate::specs::Texts::read_fault_text))]
 pub fn print_read_fault(alloc: Global) -> Result<Vec<u8>, AllocError>
     ensures { IfOk result (λ v. v.items ≡ read_fault_text) }

@@ -5,6 +5,8 @@ use Rattle.std.specs.Io.KnownBytes.{Keeps as StayKnown}
 use Rattle.atomic_table.specs.Seated.{TableId}
 use Rattle.ks_row.specs.declared.record.Rec.{Rec}
 use Rattle.ks_row.specs.declared.record.PartId.{PartId}
+use Rattle.ks_plan.specs.Drafts.{DraftView}
+use Rattle.ks_plan.specs.Plan.{Plan, plan_of}
 use Rattle.ks_history.specs.declared.journal.Entry.{Entry}
 use Rattle.ks_history.specs.Machine.{TaskPlan}
 use Rattle.ks_growing.specs.Passes.{PassView}
@@ -22,16 +24,16 @@ use Rattle.ks_job_source.specs.Steps.{GoesFurther, GoesPast}
 use Rattle.ks_job_source.specs.Opening.{from, GoesOn, EndsFrom, StandsPast, IsReading, end_at}
 use Rattle.ks_job_source.proofs.Opened.{starts_on, lost_no_more, some_left}
 use Rattle.ks_run_workers.specs.declared.feeding.JobFeed.{JobFeed}
-use Rattle.ks_run_workers.specs.Placing.{placed, placed_all, IsParted}
+use Rattle.ks_run_workers.specs.Placing.{placed, placed_all}
 use Rattle.ks_run_workers.specs.Producing.{HasProduced}
 use Rattle.ks_run_workers.specs.Feeding.{MayFeed, FaultsBy, HasFed}
 use Rattle.ks_run_workers.proofs.Produced.{nothing_produced, produced_on, still_first}
 
 -- ---- records of two lists, one after the other
-pub placed_both : (counts : List ℕ) (xs ys : List ItemView) → placed_all counts (xs ++ ys) ≡ placed_all counts xs ++ placed_all counts ys
-placed_both counts [] ys = refl
-placed_both counts (TopologyAt line d ∷ xs) ys = placed_both counts xs ys
-placed_both counts (RecordTo topic rec ∷ xs) ys = ap (λ l. placed counts topic rec ∷ l) (placed_both counts xs ys)
+pub placed_both : (p : Plan) (xs ys : List ItemView) → placed_all p (xs ++ ys) ≡ placed_all p xs ++ placed_all p ys
+placed_both p [] ys = refl
+placed_both p (TopologyAt line d ∷ xs) ys = placed_both p xs ys
+placed_both p (RecordTo topic rec ∷ xs) ys = ap (λ l. placed p topic rec ∷ l) (placed_both p xs ys)
 
 -- ---- since a reader stood somewhere
 abbrev pub GoesFrom : Standing → Option (List ℕ) → Option (List ℕ) → Standing → List ItemView → Type 0
@@ -124,23 +126,21 @@ pub kept_faults : (standing : Standing) (before now : ℕ) (e : JobEnd) → end_
 kept_faults standing before now e is same = subst (λ n. FaultsBy e before n) (sym same) (no_fault standing before e is)
 
 -- ---- the loop
-module _ {W : Type 0} (plan : W → TaskPlan) (lock : TableId) where
+module _ {W : Type 0} (plan : W → TaskPlan) (lock : TableId) (d : DraftView) where
   pub record IsFeeding (start now : JobFeed W) (left_old left_now : Option (List ℕ)) (faults_old faults_now : ℕ) : Type 0 where
-    pub may : MayFeed plan lock now
+    pub may : MayFeed plan lock d now
     pub reading : IsReading now.rest.standing
     pub none : now.records.items ≡ []
-    pub counts : now.counts.items ≡ start.counts.items
     pub items : List ItemView
-    pub produced : HasProduced start.pass now.pass (placed_all start.counts.items items)
+    pub produced : HasProduced start.pass now.pass (placed_all (plan_of d) items)
     pub goes : GoesFrom start.rest.standing left_old left_now now.rest.standing items
     pub kept : faults_now ≡ faults_old
 
-  pub feeding_starts : (f : JobFeed W) (left : Option (List ℕ)) (faults : ℕ) → MayFeed plan lock f → IsReading f.rest.standing → f.records.items ≡ [] → IsFeeding f f left left faults faults
+  pub feeding_starts : (f : JobFeed W) (left : Option (List ℕ)) (faults : ℕ) → MayFeed plan lock d f → IsReading f.rest.standing → f.records.items ≡ [] → IsFeeding f f left left faults faults
   feeding_starts f left faults may reading none = record {
     may = may;
     reading = reading;
     none = none;
-    counts = refl;
     items = [];
     produced = nothing_produced f.pass;
     goes = goes_from_here _ f.rest.taken f.rest.standing left reading may.past;
@@ -151,40 +151,38 @@ module _ {W : Type 0} (plan : W → TaskPlan) (lock : TableId) where
   same_setup : (old new : PassView Entry (Frame W)) (records : List (PartId × Rec)) → HasProduced old new records → setup_in plan new.frame ≡ setup_in plan old.frame
   same_setup old new records h = ap (λ (p : PassView Entry (Frame W)). setup_in plan p.frame) h.same
 
-  pub may_still : (old new : JobFeed W) (records : List (PartId × Rec)) → MayFeed plan lock old → HasProduced old.pass new.pass records → new.counts.items ≡ old.counts.items → new.records.items ≡ [] →
-      StandsPast (setup_in plan old.pass.frame).plan.sources new.rest.taken new.rest.standing → 1 ≤ length new.rest.buf.items → MayFeed plan lock new
-  may_still old new records h k counts none past room =
+  pub may_still : (old new : JobFeed W) (records : List (PartId × Rec)) → MayFeed plan lock d old → HasProduced old.pass new.pass records → new.records.items ≡ [] →
+      StandsPast (setup_in plan old.pass.frame).plan.sources new.rest.taken new.rest.standing → 1 ≤ length new.rest.buf.items → MayFeed plan lock d new
+  may_still old new records h k none past room =
       let same = same_setup old.pass new.pass records k in
       record {
         pass = still_first lock old.pass new.pass records k h.pass;
-        counts = counts ∙ (h.counts ∙ sym (ap (λ s. s.counts) same));
-        parts = λ topic l. subst (λ cs. IsParted cs topic) (sym counts) (h.parts topic (subst (λ s. topic < s.plan.sources) same l));
+        counts = h.counts ∙ sym (ap (λ s. s.counts) same);
+        places = λ topic l. h.places topic (subst (λ s. topic < s.plan.sources) same l);
         records = subst (λ l. AreRecords (setup_in plan new.pass.frame).plan.sources (item_views l)) (sym none) tt;
         past = subst (λ s. StandsPast s.plan.sources new.rest.taken new.rest.standing) (sym same) past;
         room = room;
       }
 
-  produced_more : (start old new : JobFeed W) (items more : List ItemView) → old.counts.items ≡ start.counts.items → HasProduced start.pass old.pass (placed_all start.counts.items items) →
-      HasProduced old.pass new.pass (placed_all old.counts.items more) → HasProduced start.pass new.pass (placed_all start.counts.items (items ++ more))
-  produced_more start old new items more counts a b =
-      subst (HasProduced start.pass new.pass) (sym (placed_both start.counts.items items more))
-      (produced_on start.pass old.pass new.pass (placed_all start.counts.items items) (placed_all start.counts.items more) a
-      (subst (λ cs. HasProduced old.pass new.pass (placed_all cs more)) counts b))
+  produced_more : (start old new : JobFeed W) (items more : List ItemView) → HasProduced start.pass old.pass (placed_all (plan_of d) items) →
+      HasProduced old.pass new.pass (placed_all (plan_of d) more) → HasProduced start.pass new.pass (placed_all (plan_of d) (items ++ more))
+  produced_more start old new items more a b =
+      subst (HasProduced start.pass new.pass) (sym (placed_both (plan_of d) items more))
+      (produced_on start.pass old.pass new.pass (placed_all (plan_of d) items) (placed_all (plan_of d) more) a b)
 
   pub fed_more : (start old new : JobFeed W) (left old_left new_left : Option (List ℕ)) (faults old_faults new_faults : ℕ) (more : List ItemView) → IsFeeding start old left old_left faults old_faults →
-      HasProduced old.pass new.pass (placed_all old.counts.items more) → new.counts.items ≡ old.counts.items → new.records.items ≡ [] →
+      HasProduced old.pass new.pass (placed_all (plan_of d) more) → new.records.items ≡ [] →
       ((from : Reader) (first : Option (List ℕ)) (is : List ItemView) → GoesOn from first old_left old.rest.standing is → GoesOn from first new_left new.rest.standing (is ++ more)) →
       StandsPast (setup_in plan old.pass.frame).plan.sources new.rest.taken new.rest.standing → 1 ≤ length new.rest.buf.items → new_faults ≡ old_faults → end_at new.rest.standing ≡ None →
       IsFeeding start new left new_left faults new_faults
-  fed_more start old new left old_left new_left faults old_faults new_faults more h k counts none step past room kept e =
+  fed_more start old new left old_left new_left faults old_faults new_faults more h k none step past room kept e =
       let goes = goes_further start.rest.standing old.rest.standing new.rest.standing left old_left new_left h.items more step h.goes in
       record {
-        may = may_still old new (placed_all old.counts.items more) h.may k counts none past room;
+        may = may_still old new (placed_all (plan_of d) more) h.may k none past room;
         reading = reading_on start.rest.standing left new_left new.rest.standing (h.items ++ more) goes e;
         none = none;
-        counts = counts ∙ h.counts;
         items = h.items ++ more;
-        produced = produced_more start old new h.items more h.counts h.produced k;
+        produced = produced_more start old new h.items more h.produced k;
         goes = goes;
         kept = kept ∙ h.kept;
       }
@@ -195,23 +193,23 @@ module _ {W : Type 0} (plan : W → TaskPlan) (lock : TableId) where
   turn_records start old left now faults new_faults standing count items h past = (past (setup_in plan old.pass.frame).plan.sources h.may.past).records
 
   pub turn_ends : (start old new : JobFeed W) (left old_left new_left : Option (List ℕ)) (faults old_faults : ℕ) (more : List ItemView) (standing : Standing) (e : JobEnd) → IsFeeding start old left old_left faults old_faults →
-      HasProduced old.pass new.pass (placed_all old.counts.items more) → GoesFurther old_left new_left old.rest.standing standing more → end_at standing ≡ Some e → start.records.items ≡ [] →
-      HasFed start new left new_left e
+      HasProduced old.pass new.pass (placed_all (plan_of d) more) → GoesFurther old_left new_left old.rest.standing standing more → end_at standing ≡ Some e → start.records.items ≡ [] →
+      HasFed d start new left new_left e
   turn_ends start old new left old_left new_left faults old_faults more standing e h k step is none = record {
     items = h.items ++ more;
-    produced = subst (λ l. HasProduced start.pass new.pass (placed_all start.counts.items (item_views l ++ (h.items ++ more)))) (sym none) (produced_more start old new h.items more h.counts h.produced k);
+    produced = subst (λ l. HasProduced start.pass new.pass (placed_all (plan_of d) (item_views l ++ (h.items ++ more)))) (sym none) (produced_more start old new h.items more h.produced k);
     ends = ended_from start.rest.standing left new_left standing (h.items ++ more) e (goes_further start.rest.standing old.rest.standing standing left old_left new_left h.items more step h.goes) is;
   }
 
   pub turn_fails : (start old : JobFeed W) (new : JobFeed W) (left old_left new_left : Option (List ℕ)) (faults old_faults : ℕ) → IsFeeding start old left old_left faults old_faults → new.pass ≡ old.pass → StayKnown old_left new_left → start.records.items ≡ [] →
-      HasFed start new left new_left end.Failed
+      HasFed d start new left new_left end.Failed
   turn_fails start old new left old_left new_left faults old_faults h same known none = record {
     items = h.items;
-    produced = subst (λ l. HasProduced start.pass new.pass (placed_all start.counts.items (item_views l ++ h.items))) (sym none) (subst (λ p. HasProduced start.pass p (placed_all start.counts.items h.items)) (sym same) h.produced);
+    produced = subst (λ l. HasProduced start.pass new.pass (placed_all (plan_of d) (item_views l ++ h.items))) (sym none) (subst (λ p. HasProduced start.pass p (placed_all (plan_of d) h.items)) (sym same) h.produced);
     ends = failed_from start.rest.standing left old_left new_left old.rest.standing h.items h.reading known h.goes;
   }
 
-  pub some_left_to_read : (f : JobFeed W) → IsReading f.rest.standing → MayFeed plan lock f → f.rest.taken < 67174401
+  pub some_left_to_read : (f : JobFeed W) → IsReading f.rest.standing → MayFeed plan lock d f → f.rest.taken < 67174401
   some_left_to_read f reading may = left_at (setup_in plan f.pass.frame).plan.sources f.rest.taken f.rest.standing reading may.past
     where
       left_at : (topics count : ℕ) (standing : Standing) → IsReading standing → StandsPast topics count standing → count < 67174401
@@ -223,24 +221,24 @@ module _ {W : Type 0} (plan : W → TaskPlan) (lock : TableId) where
 
 -- ---- the records that came with the topology, and then the others
 -- what was handed on is what the feeder had
-pub first_fed : {W : Type 0} (old : JobFeed W) (new : PassView Entry (Frame W)) (counts : List ℕ) (items : List JobItem) → counts ≡ old.counts.items → items ≡ old.records.items →
-    HasProduced old.pass new (placed_all counts (item_views items)) → HasProduced old.pass new (placed_all old.counts.items (item_views old.records.items))
-first_fed old new counts items same all h = subst (λ is. HasProduced old.pass new (placed_all old.counts.items (item_views is))) all (subst (λ cs. HasProduced old.pass new (placed_all cs (item_views items))) same h)
+pub first_fed : {W : Type 0} (d : DraftView) (old : JobFeed W) (new : PassView Entry (Frame W)) (items : List JobItem) → items ≡ old.records.items →
+    HasProduced old.pass new (placed_all (plan_of d) (item_views items)) → HasProduced old.pass new (placed_all (plan_of d) (item_views old.records.items))
+first_fed d old new items all h = subst (λ is. HasProduced old.pass new (placed_all (plan_of d) (item_views is))) all h
 
-pub fed_both : {W : Type 0} (old mid new : JobFeed W) (left now : Option (List ℕ)) (e : JobEnd) → HasProduced old.pass mid.pass (placed_all old.counts.items (item_views old.records.items)) → mid.counts.items ≡ old.counts.items →
-    mid.records.items ≡ [] → mid.rest.standing ≡ old.rest.standing → HasFed mid new left now e → HasFed old new left now e
-fed_both old mid new left now e h counts none standing k = record {
+pub fed_both : {W : Type 0} (d : DraftView) (old mid new : JobFeed W) (left now : Option (List ℕ)) (e : JobEnd) → HasProduced old.pass mid.pass (placed_all (plan_of d) (item_views old.records.items)) →
+    mid.records.items ≡ [] → mid.rest.standing ≡ old.rest.standing → HasFed d mid new left now e → HasFed d old new left now e
+fed_both d old mid new left now e h none standing k = record {
   items = k.items;
-  produced = subst (HasProduced old.pass new.pass) (sym (placed_both old.counts.items (item_views old.records.items) k.items))
-      (produced_on old.pass mid.pass new.pass (placed_all old.counts.items (item_views old.records.items)) (placed_all old.counts.items k.items) h
-      (subst (λ cs. HasProduced mid.pass new.pass (placed_all cs k.items)) counts
-      (subst (λ l. HasProduced mid.pass new.pass (placed_all mid.counts.items (item_views l ++ k.items))) none k.produced)));
+  produced = subst (HasProduced old.pass new.pass) (sym (placed_both (plan_of d) (item_views old.records.items) k.items))
+      (produced_on old.pass mid.pass new.pass (placed_all (plan_of d) (item_views old.records.items)) (placed_all (plan_of d) k.items) h
+      (subst (λ l. HasProduced mid.pass new.pass (placed_all (plan_of d) (item_views l ++ k.items))) none k.produced));
   ends = subst (λ s. EndsFrom s left now e k.items) standing k.ends;
 }
 
-pub fed_before : {W : Type 0} (old new : JobFeed W) (left : Option (List ℕ)) (e : JobEnd) → HasProduced old.pass new.pass (placed_all old.counts.items (item_views old.records.items)) → end_at old.rest.standing ≡ Some e → HasFed old new left left e
-fed_before old new left e h is = record {
+pub fed_before : {W : Type 0} (d : DraftView) (old new : JobFeed W) (left : Option (List ℕ)) (e : JobEnd) → HasProduced old.pass new.pass (placed_all (plan_of d) (item_views old.records.items)) →
+    end_at old.rest.standing ≡ Some e → HasFed d old new left left e
+fed_before d old new left e h is = record {
   items = [];
-  produced = subst (λ l. HasProduced old.pass new.pass (placed_all old.counts.items l)) (sym (append-nil (item_views old.records.items))) h;
+  produced = subst (λ l. HasProduced old.pass new.pass (placed_all (plan_of d) l)) (sym (append-nil (item_views old.records.items))) h;
   ends = ended_before old.rest.standing left e is;
 }

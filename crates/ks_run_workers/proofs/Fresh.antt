@@ -14,7 +14,10 @@ use Rattle.ks_law_inputs.specs.Records.{AreRecords}
 use Rattle.ks_shared.specs.declared.state.Frame.{Frame}
 use Rattle.ks_shared.specs.Calls.{frame_of, setup_in}
 use Rattle.ks_run_workers.specs.declared.feeding.JobFeed.{JobFeed}
-use Rattle.ks_run_workers.specs.Placing.{IsParted}
+use Rattle.ks_plan.specs.Drafts.{DraftView}
+use Rattle.ks_plan.specs.Plan.{Plan, plan_of}
+use Rattle.ks_topo.specs.Places.{HasPlaces}
+use Rattle.ks_run_workers.specs.Placing.{counts_in}
 use Rattle.ks_run_workers.specs.Feeding.{MayFeed}
 
 pub split_off : {A : Type 0} (items rest : List A) (first : A) → first ≡ get_or items 0 first → rest ≡ remove items 0 → 0 < length items → items ≡ first ∷ rest
@@ -37,20 +40,20 @@ module _ {W : Type 0} (plan : W → TaskPlan) (lock : TableId) (c : ClusterView 
   pub fresh_counts : (counts : List ℕ) → counts ≡ c.counts → counts ≡ (setup_in plan pass.frame).counts
   fresh_counts counts is = is ∙ sym (ap (λ s. s.counts) fresh_setup)
 
-  pub fresh_parts : (counts : List ℕ) → ((topic : ℕ) → topic < (plan c.work).sources → IsParted counts topic) → (topic : ℕ) → topic < (setup_in plan pass.frame).plan.sources → IsParted counts topic
-  fresh_parts counts h topic l = h topic (subst (λ s. topic < s.plan.sources) fresh_setup l)
+  pub fresh_places : (p : Plan) → ((topic : ℕ) → topic < (plan c.work).sources → HasPlaces p topic) → (topic : ℕ) → topic < (setup_in plan pass.frame).plan.sources → HasPlaces p topic
+  fresh_places p h topic l = h topic (subst (λ s. topic < s.plan.sources) fresh_setup l)
 
   pub fresh_records : (is : List ItemView) → AreRecords (plan c.work).sources is → AreRecords (setup_in plan pass.frame).plan.sources is
   fresh_records is h = subst (λ s. AreRecords s.plan.sources is) (sym fresh_setup) h
 
 -- a feeder with the first pass of a new lock
-pub fresh_feeder : {W : Type 0} (plan : W → TaskPlan) (lock : TableId) (c : ClusterView W) (f : JobFeed W) → IsFresh lock c.journal (frame_of c) 0 f.pass → f.counts.items ≡ c.counts →
-    ((topic : ℕ) → topic < (plan c.work).sources → IsParted f.counts.items topic) → AreRecords (plan c.work).sources (item_views f.records.items) →
-    StandsPast (plan c.work).sources f.rest.taken f.rest.standing → 1 ≤ length f.rest.buf.items → MayFeed plan lock f
-fresh_feeder plan lock c f fresh counts parts records past room = record {
+pub fresh_feeder : {W : Type 0} (plan : W → TaskPlan) (lock : TableId) (d : DraftView) (c : ClusterView W) (f : JobFeed W) → IsFresh lock c.journal (frame_of c) 0 f.pass → counts_in (plan_of d) ≡ c.counts →
+    ((topic : ℕ) → topic < (plan c.work).sources → HasPlaces (plan_of d) topic) → AreRecords (plan c.work).sources (item_views f.records.items) →
+    StandsPast (plan c.work).sources f.rest.taken f.rest.standing → 1 ≤ length f.rest.buf.items → MayFeed plan lock d f
+fresh_feeder plan lock d c f fresh counts places records past room = record {
   pass = fresh_pass plan lock c 0 f.pass fresh;
-  counts = fresh_counts plan lock c 0 f.pass fresh f.counts.items counts;
-  parts = fresh_parts plan lock c 0 f.pass fresh f.counts.items parts;
+  counts = fresh_counts plan lock c 0 f.pass fresh (counts_in (plan_of d)) counts;
+  places = fresh_places plan lock c 0 f.pass fresh (plan_of d) places;
   records = fresh_records plan lock c 0 f.pass fresh (item_views f.records.items) records;
   past = subst (λ s. StandsPast s.plan.sources f.rest.taken f.rest.standing) (sym (fresh_setup plan lock c 0 f.pass fresh)) past;
   room = room;

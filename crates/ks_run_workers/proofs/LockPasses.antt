@@ -14,6 +14,8 @@ use Rattle.ks_shared.specs.Reserved.{is_callers}
 use Rattle.ks_cluster.specs.View.{ClusterView}
 use Rattle.ks_job_source.specs.declared.rest.JobEnd.{JobEnd}
 use Rattle.ks_run_workers.specs.declared.feeding.JobFeed.{JobFeed}
+use Rattle.ks_plan.specs.Drafts.{DraftView}
+use Rattle.ks_plan.specs.Plan.{plan_of}
 use Rattle.ks_run_workers.specs.Feeding.{HasFed}
 use Rattle.ks_run_workers.proofs.Produced.{same_produces, same_drains, filled}
 use Rattle.ks_run_workers.specs.declared.feeding.JobInput.{JobInput}
@@ -102,9 +104,9 @@ pub members_after : {A W : Type 0} (pass : A → PassView Entry (Frame W)) (item
 members_after pass items new count keys counted = ap (λ n. n + 1) (keys_length (λ w. pass_key (pass w)) new items keys) ∙ counted
 
 -- what the closed cluster has, by what its first pass has seen
-pub closed : {W : Type 0} (first new : ClusterView W) (old fed : JobFeed W) (left now : Option (List ℕ)) (e : JobEnd) → HasFed old fed left now e → frame_of new ≡ frame_of first →
-    filter is_callers new.journal ≡ filter is_callers fed.pass.seen → HasClosed first new old left now e
-closed first new old fed left now e h frame same = record {
+pub closed : {W : Type 0} (d : DraftView) (first new : ClusterView W) (old fed : JobFeed W) (left now : Option (List ℕ)) (e : JobEnd) → HasFed d old fed left now e → frame_of new ≡ frame_of first →
+    filter is_callers new.journal ≡ filter is_callers fed.pass.seen → HasClosed d first new old left now e
+closed d first new old fed left now e h frame same = record {
   items = h.items;
   frame = frame;
   produced = same_produces new.journal fed.pass.seen same ∙ h.produced.produced;
@@ -113,12 +115,12 @@ closed first new old fed left now e h frame same = record {
 }
 
 -- the same, of a cluster that was new
-pub worked : {W : Type 0} (old first new : ClusterView W) (intake : JobInput) (feeder : JobFeed W) (left now : Option (List ℕ)) (e : JobEnd) → old.journal ≡ [] → first ≡ old → feeder.pass.seen ≡ old.journal →
-    feeder.counts.items ≡ intake.counts.items → feeder.records.items ≡ intake.records.items → feeder.rest.standing ≡ intake.rest.standing → HasClosed first new feeder left now e → HasWorked old new intake left now e
-worked old first new intake feeder left now e empty is seen counts records standing h = record {
+pub worked : {W : Type 0} (d : DraftView) (old first new : ClusterView W) (intake : JobInput) (feeder : JobFeed W) (left now : Option (List ℕ)) (e : JobEnd) → old.journal ≡ [] → first ≡ old → feeder.pass.seen ≡ old.journal →
+    feeder.records.items ≡ intake.records.items → feeder.rest.standing ≡ intake.rest.standing → HasClosed d first new feeder left now e → HasWorked d old new intake left now e
+worked d old first new intake feeder left now e empty is seen records standing h = record {
   items = h.items;
-  filled = filled old first new feeder.pass.seen (placed_all intake.counts.items (item_views intake.records.items ++ h.items)) empty is seen h.frame
-      (h.produced ∙ ap₂ (λ cs is. produces feeder.pass.seen ++ placed_all cs (item_views is ++ h.items)) counts records) h.undrained;
+  filled = filled old first new feeder.pass.seen (placed_all (plan_of d) (item_views intake.records.items ++ h.items)) empty is seen h.frame
+      (h.produced ∙ ap (λ is. produces feeder.pass.seen ++ placed_all (plan_of d) (item_views is ++ h.items)) records) h.undrained;
   ends = subst (λ s. EndsFrom s left now e h.items) standing h.ends;
 }
 

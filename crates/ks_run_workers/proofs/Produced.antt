@@ -18,6 +18,7 @@ use Rattle.ks_shared.specs.Calls.{frame_of, Called}
 use Rattle.ks_shared.specs.Reserved.{asks_as_caller, is_callers}
 use Rattle.ks_job.specs.Items.{ItemView, RecordTo}
 use Rattle.ks_law_settled.specs.Jobs.{produces_by, produces}
+use Rattle.ks_plan.specs.Plan.{Plan}
 use Rattle.ks_run_workers.specs.Placing.{placed, placed_all}
 use Rattle.ks_run_workers.specs.Producing.{asks_to_drain, begins_drain, HasProduced, HasProducedFront, IsFilled}
 
@@ -160,30 +161,30 @@ module _ {W : Type 0} where
   }
 
   -- some records, and then those of the items that are left, are those of all items
-  pub record IsProducing (counts : List ℕ) (start now : PassView Entry (Frame W)) (rest all : List ItemView) : Type 0 where
+  pub record IsProducing (plan : Plan) (start now : PassView Entry (Frame W)) (rest all : List ItemView) : Type 0 where
     pub done : List (PartId × Rec)
     pub so_far : HasProduced start now done
-    pub split : done ++ placed_all counts rest ≡ placed_all counts all
+    pub split : done ++ placed_all plan rest ≡ placed_all plan all
 
-  pub producing_starts : (counts : List ℕ) (p : PassView Entry (Frame W)) (all : List ItemView) → IsProducing counts p p all all
-  producing_starts counts p all = record { done = []; so_far = nothing_produced p; split = refl }
+  pub producing_starts : (plan : Plan) (p : PassView Entry (Frame W)) (all : List ItemView) → IsProducing plan p p all all
+  producing_starts plan p all = record { done = []; so_far = nothing_produced p; split = refl }
 
-  pub producing_goes : (counts : List ℕ) (start old new : PassView Entry (Frame W)) (topic : ℕ) (rec : Rec) (rest all : List ItemView) → IsProducing counts start old (RecordTo topic rec ∷ rest) all →
-      HasProduced old new (placed counts topic rec ∷ []) → IsProducing counts start new rest all
-  producing_goes counts start old new topic rec rest all h p = record {
-    done = h.done ++ placed counts topic rec ∷ [];
-    so_far = produced_on start old new h.done (placed counts topic rec ∷ []) h.so_far p;
-    split = append_assoc h.done (placed counts topic rec ∷ []) (placed_all counts rest) ∙ h.split;
+  pub producing_goes : (plan : Plan) (start old new : PassView Entry (Frame W)) (topic : ℕ) (rec : Rec) (rest all : List ItemView) → IsProducing plan start old (RecordTo topic rec ∷ rest) all →
+      HasProduced old new (placed plan topic rec ∷ []) → IsProducing plan start new rest all
+  producing_goes plan start old new topic rec rest all h p = record {
+    done = h.done ++ placed plan topic rec ∷ [];
+    so_far = produced_on start old new h.done (placed plan topic rec ∷ []) h.so_far p;
+    split = append_assoc h.done (placed plan topic rec ∷ []) (placed_all plan rest) ∙ h.split;
   }
 
-  pub producing_ends : (counts : List ℕ) (start now : PassView Entry (Frame W)) (all : List ItemView) → IsProducing counts start now [] all → HasProduced start now (placed_all counts all)
-  producing_ends counts start now all h = subst (HasProduced start now) (sym (append-nil h.done) ∙ h.split) h.so_far
+  pub producing_ends : (plan : Plan) (start now : PassView Entry (Frame W)) (all : List ItemView) → IsProducing plan start now [] all → HasProduced start now (placed_all plan all)
+  producing_ends plan start now all h = subst (HasProduced start now) (sym (append-nil h.done) ∙ h.split) h.so_far
 
   -- where no more are produced, a front of them was
-  pub front_so_far : (counts : List ℕ) (start now new : PassView Entry (Frame W)) (rest all : List ItemView) → IsProducing counts start now rest all → HasProduced now new [] → HasProducedFront start new (placed_all counts all)
-  front_so_far counts start now new rest all h none = record {
+  pub front_so_far : (plan : Plan) (start now new : PassView Entry (Frame W)) (rest all : List ItemView) → IsProducing plan start now rest all → HasProduced now new [] → HasProducedFront start new (placed_all plan all)
+  front_so_far plan start now new rest all h none = record {
     front = h.done;
-    rest = placed_all counts rest;
+    rest = placed_all plan rest;
     is = sym h.split;
     produced = subst (HasProduced start new) (append-nil h.done) (produced_on start now new h.done [] h.so_far none);
   }

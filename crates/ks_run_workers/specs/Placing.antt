@@ -1,29 +1,31 @@
--- The records of a job at their partitions: a record with a key goes to the partition of its hash (Kafka's `DefaultPartitioner`).
-use Rattle.std.specs.Prelude.{ℕ, ◌<◌, ◌≤◌, List, length, Option, Some, None, slice_index}
+-- The records of a job at their partitions: a record with a key goes to the place of its key in its topic, one without a key to the first.
+use Rattle.std.specs.Prelude.{ℕ, List, map, Option, Some, None}
 use Rattle.ks_row.specs.declared.record.Rec.{Rec}
 use Rattle.ks_row.specs.declared.record.PartId.{PartId}
-use Rattle.ks_hash.specs.Partition.{part_of_key}
+use Rattle.ks_plan.specs.declared.node.Spread.{Spread}
+use Rattle.ks_plan.specs.Plan.{Plan}
+use Rattle.ks_plan.specs.Layout.{topics_of, parts_of_topic}
+use Rattle.ks_plan.specs.Places.{spread_to}
+use Rattle.ks_topo.specs.Places.{spread_in}
 use Rattle.ks_query.specs.Streams.{some_of}
 use Rattle.ks_job.specs.Items.{ItemView, TopologyAt, RecordTo}
 
--- the partition of a key, of so many; without a key it is the first
-abbrev pub part_at : Option (List ℕ) → ℕ → ℕ
-part_at None n = 0
-part_at (Some key) n = part_of_key key n
+-- the partition count of each topic
+abbrev pub counts_in : Plan → List ℕ
+counts_in p = map (parts_of_topic p) (topics_of p)
 
--- a record at its partition, by the partition counts of the topics
-abbrev pub placed : List ℕ → ℕ → Rec → PartId × Rec
-placed counts topic rec = (record { topic = topic; part = part_at rec.key (slice_index counts topic) }, rec)
+-- the place of a key; without a key it is the first
+abbrev pub part_at : Option (List ℕ) → Spread → ℕ
+part_at None s = 0
+part_at (Some key) s = spread_to key s
 
-abbrev pub placed_in : List ℕ → ItemView → Option (PartId × Rec)
-placed_in counts (TopologyAt line d) = None
-placed_in counts (RecordTo topic rec) = Some (placed counts topic rec)
+-- a record at its place
+abbrev pub placed : Plan → ℕ → Rec → PartId × Rec
+placed p topic rec = (record { topic = topic; part = part_at rec.key (spread_in p topic) }, rec)
 
-abbrev pub placed_all : List ℕ → List ItemView → List (PartId × Rec)
-placed_all counts is = some_of (placed_in counts) is
+abbrev pub placed_in : Plan → ItemView → Option (PartId × Rec)
+placed_in p (TopologyAt line d) = None
+placed_in p (RecordTo topic rec) = Some (placed p topic rec)
 
--- a topic has 1 to 64 partitions
-pub record IsParted (counts : List ℕ) (topic : ℕ) : Type 0 where
-  pub within : topic < length counts
-  pub some : 1 ≤ slice_index counts topic
-  pub most : slice_index counts topic ≤ 64
+abbrev pub placed_all : Plan → List ItemView → List (PartId × Rec)
+placed_all p is = some_of (placed_in p) is

@@ -18,7 +18,7 @@ use Rattle.ks_run_workers.specs.declared.working.WorkerThreads.{WorkerThreads}
 pub record MayWork {W G : Type 0} (plan : W → TaskPlan) (good : W → PlacementTest) (hash : List ℕ → ℕ) (lock : TableId) (d : DraftView) (team : WorkerThreads W G) (feeder : JobFeed W) : Type 0 where
   pub some : 0 < length team.members.items
   pub may : All (λ m. MayRun plan good hash lock d m.worker.placing team.turns m.worker.state) team.members.items
-  pub feed : MayFeed plan lock feeder
+  pub feed : MayFeed plan lock d feeder
 
 -- a worker took its turns: it is one still, its gate stopped it or it took all of them, and its acts
 -- on the group show

@@ -25,17 +25,18 @@ use std::thread::Threads;
 fn feed_while<R: Threads + Wait + Sync, W: Work, S: Source>(
     rt: &R,
     alloc: Global,
+    topology: &Topology,
     shared: &Shared<W>,
     input: &mut S,
     feeder: &mut JobFeed<W>,
     feeding: &AtomicBool,
 ) -> Result<JobEnd, AllocError>
-    requires may { MayFeed W.plan shared.now.growing.id feeder.old }
-    ensures fed { IfOk result (λ e. HasFed feeder.old feeder.new (S.left input.old)
-        (S.left input.new) e) }
+    requires may { MayFeed W.plan shared.now.growing.id (draft_of topology.now) feeder.old }
+    ensures fed { IfOk result (λ e. HasFed (draft_of topology.now) feeder.old feeder.new
+        (S.left input.old) (S.left input.new) e) }
     ensures faults { IfOk result (λ e. FaultsBy e (S.faults input.old) (S.faults input.new)) }
 {
-    let end = feed(rt, alloc, shared, input, feeder);
+    let end = feed(rt, alloc, topology, shared, input, feeder);
     feeding.store(false, Ordering::SeqCst);
     end
 }
@@ -63,12 +64,12 @@ fn feed_first<
     ensures turned { OnOk result (AllTurnedUnlessStarved W.plan (draft_of topology.now)
         team.old.turns
         team.old.members.items team.new.members.items) }
-    ensures fed { IfOk result (λ e. HasFed feeder.old feeder.new (S.left input.old)
-        (S.left input.new) e) }
+    ensures fed { IfOk result (λ e. HasFed (draft_of topology.now) feeder.old feeder.new
+        (S.left input.old) (S.left input.new) e) }
     ensures faults { IfOk result (λ e. FaultsBy e (S.faults input.old) (S.faults input.new)) }
 {
     let feeding = AtomicBool::new(false);
-    let end = feed_while(rt, alloc, shared, input, feeder, &feeding)?;
+    let end = feed_while(rt, alloc, topology, shared, input, feeder, &feeding)?;
     let turns = team.turns;
     let members = team.members.as_mut_slice();
     work_together::<H, R, W, G>(rt, alloc, topology, shared, members, turns, &feeding);
@@ -98,8 +99,8 @@ fn feed_beside<
     ensures turned { OnOk result (AllTurnedUnlessStarved W.plan (draft_of topology.now)
         team.old.turns
         team.old.members.items team.new.members.items) }
-    ensures fed { IfOk result (λ e. HasFed feeder.old feeder.new (S.left input.old)
-        (S.left input.new) e) }
+    ensures fed { IfOk result (λ e. HasFed (draft_of topology.now) feeder.old feeder.new
+        (S.left input.old) (S.left input.new) e) }
     ensures faults { IfOk result (λ e. FaultsBy e (S.faults input.old) (S.faults input.new)) }
 {
     share_topology();
@@ -120,12 +121,12 @@ fn feed_beside<
                 slice.exit.now }
         { work_together::<H, R, W, G>(rt, alloc, topology, shared, slice, turns, flag) },
         &mut || -> Result<JobEnd, AllocError>
-            requires { MayFeed W.plan shared.now.growing.id feeder.now }
-            ensures { IfOk result (λ e. HasFed feeder.entry.now feeder.exit.now
-                (S.left input.entry.now) (S.left input.exit.now) e)
+            requires { MayFeed W.plan shared.now.growing.id (draft_of topology.now) feeder.now }
+            ensures { IfOk result (λ e. HasFed (draft_of topology.entry.now) feeder.entry.now
+                feeder.exit.now (S.left input.entry.now) (S.left input.exit.now) e)
                 × IfOk result (λ e. FaultsBy e (S.faults input.entry.now)
                 (S.faults input.exit.now)) }
-        { feed_while(rt, alloc, shared, input, feeder, flag) },
+        { feed_while(rt, alloc, topology, shared, input, feeder, flag) },
     );
     end
 }
@@ -153,8 +154,8 @@ fn feed_team<
     ensures turned { OnOk result (AllTurnedUnlessStarved W.plan (draft_of topology.now)
         team.old.turns
         team.old.members.items team.new.members.items) }
-    ensures fed { IfOk result (λ e. HasFed feeder.old feeder.new (S.left input.old)
-        (S.left input.new) e) }
+    ensures fed { IfOk result (λ e. HasFed (draft_of topology.now) feeder.old feeder.new
+        (S.left input.old) (S.left input.new) e) }
     ensures faults { IfOk result (λ e. FaultsBy e (S.faults input.old) (S.faults input.new)) }
 {
     if team.waits {
@@ -199,8 +200,8 @@ pub fn feed_and_work<
         team.old.members.items team.new.members.items }
     ensures turned { OnOk result (HaveTurned W.plan (draft_of topology.now) team.old.turns
         team.old.members.items team.new.members.items) }
-    ensures fed { IfOk result (λ e. HasFed feeder.old feeder.new (S.left input.old)
-        (S.left input.new) e) }
+    ensures fed { IfOk result (λ e. HasFed (draft_of topology.now) feeder.old feeder.new
+        (S.left input.old) (S.left input.new) e) }
     ensures faults { IfOk result (λ e. FaultsBy e (S.faults input.old) (S.faults input.new)) }
 {
     let end = feed_team::<H, R, W, G, S>(rt, alloc, topology, shared, input, feeder, team)?;

@@ -83,8 +83,8 @@ pub fn work_and_close<
     requires passes { ArePasses shared.growing.id
         (map (λ m. m.worker.state.session.client.pass) team.members.items) }
     requires all { length team.members.items + 1 ≡ shared.growing.passes }
-    ensures fed { IfOk result (λ r. HasClosed shared.growing.first r.0 feeder (S.left input.old)
-        (S.left input.new) r.1) }
+    ensures fed { IfOk result (λ r. HasClosed (draft_of topology.now) shared.growing.first r.0
+        feeder (S.left input.old) (S.left input.new) r.1) }
     ensures faults { IfOk result (λ r. FaultsBy r.1 (S.faults input.old) (S.faults input.new)) }
 {
     let end = feed_and_work::<H, R, W, G, S>(

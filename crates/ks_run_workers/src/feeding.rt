@@ -1,5 +1,6 @@
 //! Reads a job on, and produces each of its records.
 ghost use Rattle.std.specs.Prelude.{◌≡◌, [], IfOk};
+ghost use Rattle.ks_topo.specs.Topologies.{draft_of};
 ghost use Rattle.ks_job_source.specs.Opening.{IsReading};
 ghost use Rattle.ks_run_workers.specs.Feeding.{MayFeed, FaultsBy, HasFed};
 
@@ -10,6 +11,7 @@ use ks_growing::Pass;
 use ks_job::JobItem;
 use ks_job_source::{JobEnd, JobRest, SourceError};
 use ks_shared::{Shared, SharedState};
+use ks_topo::Topology;
 use std::alloc::{AllocError, Global};
 use std::mem;
 use std::sync::Wait;
@@ -18,8 +20,6 @@ use std::thread::Threads;
 /// What the records of a job are fed from.
 #[derive(Drop)]
 pub struct JobInput {
-    /// The partition count of each topic, by number.
-    pub counts: Vec<u8>,
     /// The records that came with the topology.
     pub records: Vec<JobItem>,
     pub rest: JobRest,
@@ -28,8 +28,6 @@ pub struct JobInput {
 /// The same, and the first pass, through which they are fed.
 #[derive(Drop)]
 pub struct JobFeed<W: Work> {
-    /// The partition count of each topic, by number.
-    pub counts: Vec<u8>,
     /// The records that came with the topology.
     pub records: Vec<JobItem>,
     pub rest: JobRest,
@@ -51,15 +49,16 @@ impl<W: Work> JobFeed<W> {
 fn feed_rest<R: Threads + Wait + Sync, W: Work, S: Source>(
     rt: &R,
     alloc: Global,
+    topology: &Topology,
     shared: &Shared<W>,
     input: &mut S,
     feeder: &mut JobFeed<W>,
 ) -> Result<JobEnd, AllocError>
-    requires may { MayFeed W.plan shared.now.growing.id feeder.old }
+    requires may { MayFeed W.plan shared.now.growing.id (draft_of topology.now) feeder.old }
     requires reading { IsReading feeder.old.rest.standing }
     requires none { feeder.old.records.items ≡ [] }
-    ensures fed { IfOk result (λ e. HasFed feeder.old feeder.new (S.left input.old)
-        (S.left input.new) e) }
+    ensures fed { IfOk result (λ e. HasFed (draft_of topology.now) feeder.old feeder.new
+        (S.left input.old) (S.left input.new) e) }
     ensures faults { IfOk result (λ e. FaultsBy e (S.faults input.old) (S.faults input.new)) }
 {
     loop {
@@ -68,7 +67,7 @@ fn feed_rest<R: Threads + Wait + Sync, W: Work, S: Source>(
             Err(SourceError::Fault) => return Ok(JobEnd::Failed),
             Err(SourceError::Memory) => return Err(AllocError),
         };
-        produce_all(rt, alloc, shared, &feeder.counts, records, &mut feeder.pass)?;
+        produce_all(rt, alloc, topology, shared, records, &mut feeder.pass)?;
         if let Some(end) = feeder.rest.end() {
             return Ok(end);
         }
@@ -80,19 +79,20 @@ fn feed_rest<R: Threads + Wait + Sync, W: Work, S: Source>(
 pub fn feed<R: Threads + Wait + Sync, W: Work, S: Source>(
     rt: &R,
     alloc: Global,
+    topology: &Topology,
     shared: &Shared<W>,
     input: &mut S,
     feeder: &mut JobFeed<W>,
 ) -> Result<JobEnd, AllocError>
-    requires { MayFeed W.plan shared.now.growing.id feeder.old }
-    ensures fed { IfOk result (λ e. HasFed feeder.old feeder.new (S.left input.old)
-        (S.left input.new) e) }
+    requires { MayFeed W.plan shared.now.growing.id (draft_of topology.now) feeder.old }
+    ensures fed { IfOk result (λ e. HasFed (draft_of topology.now) feeder.old feeder.new
+        (S.left input.old) (S.left input.new) e) }
     ensures faults { IfOk result (λ e. FaultsBy e (S.faults input.old) (S.faults input.new)) }
 {
     let records = mem::replace(&mut feeder.records, Vec::new(alloc));
-    produce_all(rt, alloc, shared, &feeder.counts, records, &mut feeder.pass)?;
+    produce_all(rt, alloc, topology, shared, records, &mut feeder.pass)?;
     match feeder.rest.end() {
         Some(end) => Ok(end),
-        None => feed_rest(rt, alloc, shared, input, feeder),
+        None => feed_rest(rt, alloc, topology, shared, input, feeder),
     }
 }

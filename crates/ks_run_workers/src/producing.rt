@@ -4,16 +4,17 @@ ghost use Rattle.ks_job.specs.Items.{item_views};
 ghost use Rattle.ks_law_inputs.specs.Records.{AreRecords};
 ghost use Rattle.ks_growing.specs.Passes.{IsPass};
 ghost use Rattle.ks_shared.specs.Calls.{setup_in};
-ghost use Rattle.ks_run_workers.specs.Placing.{part_at, placed, placed_all, IsParted};
+ghost use Rattle.ks_topo.specs.Topologies.{plan_in};
+ghost use Rattle.ks_topo.specs.Places.{spread_in, HasPlaces};
+ghost use Rattle.ks_run_workers.specs.Placing.{counts_in, part_at, placed, placed_all};
 ghost use Rattle.ks_run_workers.specs.Producing.{HasProduced, HasProducedFront};
 
 use ks_cluster::Work;
 use ks_growing::Pass;
-use ks_hash::partition_of;
 use ks_job::JobItem;
 use ks_row::{Blob, PartId, Rec};
 use ks_shared::{Shared, SharedState};
-use ks_topo::TopicInfo;
+use ks_topo::{TopicInfo, Topology};
 use std::alloc::{AllocError, Global};
 use std::sync::Wait;
 
@@ -28,69 +29,67 @@ pub fn counts_of(alloc: Global, infos: &[TopicInfo]) -> Result<Vec<u8>, AllocErr
     Ok(counts)
 }
 
-// The partition of a record's key, of so many.
-fn part_of(key: &Option<Blob>, parts: u8) -> u8
-    requires low { 1 ≤ parts }
-    requires high { parts ≤ 64 }
-    ensures part { result ≡ part_at key.now parts }
-    ensures below { result < parts }
+// The place of a record's key in a topic; without a key the first partition.
+fn part_of(topology: &Topology, topic: u16, key: &Option<Blob>) -> u8
+    requires { HasPlaces (plan_in topology.now) topic }
+    ensures part { result ≡ part_at key.now (spread_in (plan_in topology.now) topic) }
+    ensures below { result < (spread_in (plan_in topology.now) topic).parts }
 {
     match key {
-        Some(key) => partition_of(key.as_slice(), parts),
+        Some(key) => topology.place(topic, key.as_slice()),
         None => 0,
     }
 }
 
-// One record, to the partition of its key.
+// One record, to the place of its key.
 fn produce_one<R: Wait, W: Work>(
     rt: &R,
     alloc: Global,
+    topology: &Topology,
     shared: &Shared<W>,
-    counts: &[u8],
     topic: u16,
     rec: &Rec,
     pass: &mut Pass<SharedState<W>>,
 ) -> Result<(), AllocError>
     requires pass { IsPass shared.now.growing.id 0 pass.old }
-    requires counts { counts.now ≡ (setup_in W.plan pass.old.frame).counts }
+    requires counts { counts_in (plan_in topology.now) ≡ (setup_in W.plan pass.old.frame).counts }
     requires source { topic < (setup_in W.plan pass.old.frame).plan.sources }
-    requires parted { IsParted counts.now topic }
+    requires places { HasPlaces (plan_in topology.now) topic }
     ensures ok { OnOk result (HasProduced pass.old pass.new
-        (placed counts.now topic rec.now ∷ [])) }
+        (placed (plan_in topology.now) topic rec.now ∷ [])) }
     ensures err { OnErr result (HasProduced pass.old pass.new []) }
 {
-    let part = part_of(&rec.key, counts[topic as usize]);
+    let part = part_of(topology, topic, &rec.key);
     shared.produce(rt, alloc, PartId { topic, part }, rec, pass)?;
     Ok(())
 }
 
-/// All records among a job's items, in their order, each to the partition of its key. Want of memory is
-/// the one error; a front of them is produced then.
+/// All records among a job's items, in their order, each to the place of its key. Want of memory is the one error; a front of them is produced then.
 pub fn produce_all<R: Wait, W: Work>(
     rt: &R,
     alloc: Global,
+    topology: &Topology,
     shared: &Shared<W>,
-    counts: &[u8],
     items: Vec<JobItem>,
     pass: &mut Pass<SharedState<W>>,
 ) -> Result<(), AllocError>
     requires pass { IsPass shared.now.growing.id 0 pass.old }
-    requires counts { counts.now ≡ (setup_in W.plan pass.old.frame).counts }
-    requires parts { (topic : ℕ) → topic < (setup_in W.plan pass.old.frame).plan.sources
-        → IsParted counts.now topic }
+    requires counts { counts_in (plan_in topology.now) ≡ (setup_in W.plan pass.old.frame).counts }
+    requires places { (topic : ℕ) → topic < (setup_in W.plan pass.old.frame).plan.sources
+        → HasPlaces (plan_in topology.now) topic }
     requires records { AreRecords (setup_in W.plan pass.old.frame).plan.sources
         (item_views items.items) }
-    ensures ok { OnOk result (
-        HasProduced pass.old pass.new (placed_all counts.now (item_views items.items))) }
-    ensures err { OnErr result (
-        HasProducedFront pass.old pass.new (placed_all counts.now (item_views items.items))) }
+    ensures ok { OnOk result (HasProduced pass.old pass.new (placed_all (plan_in topology.now)
+        (item_views items.items))) }
+    ensures err { OnErr result (HasProducedFront pass.old pass.new
+        (placed_all (plan_in topology.now) (item_views items.items))) }
 {
     let mut rest = items.into_iter();
     while let Some(item) = rest.next() {
         match item {
             JobItem::Topology { .. } => unreachable!(),
             JobItem::Input { topic, rec } => {
-                produce_one(rt, alloc, shared, counts, topic, &rec, pass)?
+                produce_one(rt, alloc, topology, shared, topic, &rec, pass)?
             }
         }
     }

@@ -74,8 +74,8 @@ fn run_gated<
         (placing_of crew.settings) }
     requires settings { HasRanges crew.settings }
     requires gates { length crew.gates.items ≡ 16 }
-    ensures worked { IfOk result (λ r. HasWorked cluster r.0 intake (S.left input.old)
-        (S.left input.new) r.1) }
+    ensures worked { IfOk result (λ r. HasWorked (draft_of topology.now) cluster r.0 intake
+        (S.left input.old) (S.left input.new) r.1) }
     ensures faults { IfOk result (λ r. FaultsBy r.1 (S.faults input.old) (S.faults input.new)) }
 {
     let _nodes = topology.nodes();
@@ -84,13 +84,8 @@ fn run_gated<
         return Err(AllocError);
     };
     let (pass, others) = split_first(passes);
-    let JobInput {
-        counts,
-        records,
-        rest,
-    } = intake;
+    let JobInput { records, rest } = intake;
     let feeder = JobFeed {
-        counts,
         records,
         rest,
         pass,
@@ -120,8 +115,8 @@ pub fn run_workers<H: Hash128 + Sync, R: Threads + Wait + Sync, W: Work + Send +
         (placing_of crew.settings) }
     requires settings { HasRanges crew.settings }
     requires gates { length crew.gates.items ≡ 16 }
-    ensures worked { IfOk result (λ r. HasWorked cluster r.0 intake (S.left input.old)
-        (S.left input.new) r.1) }
+    ensures worked { IfOk result (λ r. HasWorked (draft_of topology.now) cluster r.0 intake
+        (S.left input.old) (S.left input.new) r.1) }
     ensures faults { IfOk result (λ r. FaultsBy r.1 (S.faults input.old) (S.faults input.new)) }
 {
     let RunWorkers { settings, gates } = crew;

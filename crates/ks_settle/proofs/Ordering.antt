@@ -1,15 +1,13 @@
 -- Topics one after another, in the order in which they are drained.
-use Rattle.std.proofs.Common.{◌≡◌, ℕ, zero, suc, ◌+◌, ◌<◌, ◌≤◌, ◌||◌, Bool, true, false, cond, List, [], ◌∷◌, length, get_or, map, refl, sym, ap, subst, ◌∙◌, arith, Some}
-use Rattle.std.specs.Prelude.{◌==◌, ◌&&◌, ◌-◌, nat_lt, slice_index, nat_eq, slice_get}
+use Rattle.std.proofs.Common.{◌≡◌, ℕ, zero, suc, ◌+◌, ◌<◌, ◌≤◌, ◌||◌, Bool, true, false, cond, List, [], ◌∷◌, length, get_or, map, refl, sym, ap, subst, ◌∙◌, arith}
+use Rattle.std.specs.Prelude.{◌==◌, ◌&&◌, ◌-◌, nat_lt, slice_index, nat_eq}
 use Rattle.std.specs.List.{All, filter}
 use Rattle.std.specs.List.Sorted.{IsStrictlyIncreasing}
 use Rattle.std.proofs.lemmas.Bool.{true≢false, eqb-true, eqb-false}
 use Rattle.std.proofs.lemmas.Bool.Decides.{nat_tests}
-use Rattle.std.proofs.Math.Nat.{mod-lt}
 use Rattle.ks_row.specs.declared.record.TaskId.{TaskId}
 use Rattle.ks_plan.specs.Drafts.{DraftView}
-use Rattle.ks_plan.specs.Plan.{Plan as Topology, Kind, plan_of}
-use Rattle.ks_plan.specs.Plan.Kind.{ForeignKeyJoin}
+use Rattle.ks_plan.specs.Plan.{Plan as Topology, plan_of}
 use Rattle.ks_plan.specs.declared.node.Topic.{Topic}
 use Rattle.ks_plan.specs.Layout.{number_of, drain_order, reads}
 use Rattle.ks_plan.specs.Infos.{input_numbers, drain_numbers}
@@ -25,12 +23,9 @@ use Rattle.ks_law_topology.proofs.Setups.{setups_are_made}
 use Rattle.ks_law_topology.proofs.Networks.{works_are_networks}
 use Rattle.ks_law_settled.proofs.Once.{inputs_once}
 use Rattle.ks_law_settled.proofs.Inside.{topologies_send_inside}
-use Rattle.ks_law_settled.specs.Routes.{JoinsHaveParts}
 use Rattle.ks_cluster.specs.View.{ClusterView, setup_of, state_of}
 use Rattle.ks_commit.specs.declared.publisher.Publisher.{Publisher}
-use Rattle.ks_def_tasks.specs.Rules.{HaveParts, rules_of}
-use Rattle.ks_law_quiescence.proofs.Fits.{each_at, node_stands}
-use Rattle.ks_law_quiescence.proofs.WellFormed.{well_formed_fits}
+use Rattle.ks_def_tasks.specs.Rules.{rules_of}
 use Rattle.ks_task.specs.declared.task.Task.{Task}
 use Rattle.ks_task.specs.Tasks.{task_view}
 use Rattle.ks_settle.specs.Drained.{MayDrain, ids, IsDrainedTo, AreResting, IsDraining, DrainsOn}
@@ -38,24 +33,12 @@ use Rattle.ks_settle.proofs.Topics.{raised, settled}
 use Rattle.ks_settle.proofs.Publishing.{drains_none, drains_both, same_setup}
 
 -- ---- a topology's tasks keep what draining asks
-within_there : (ks : List Kind) (i : ℕ) (k : Kind) → slice_get ks i ≡ Some k → i < length ks
-within_there [] i k e = absurd cc
-within_there (x ∷ ks) zero k e = omega arith
-within_there (x ∷ ks) (suc i) k e = omega (arith, within_there ks i k e)
-
-joins_have : (d : DraftView) → IsWellFormed d → HaveParts (plan_of d) → JoinsHaveParts (plan_of d)
-joins_have d well have n l r fk kind set e =
-    let p = plan_of d in
-    let node = each_at p 0 p.kinds n (ForeignKeyJoin l r fk kind set) (well_formed_fits d well) (node_stands p n (ForeignKeyJoin l r fk kind set) e) in
-    let within : n < length p.kinds = within_there p.kinds n (ForeignKeyJoin l r fk kind set) e in
-    (have n within, have r (omega (arith, within, node.1)))
-
-pub may_drain : (hash : List ℕ → ℕ) (d : DraftView) → IsWellFormed d → HaveParts (plan_of d) → MayDrain (topology_setup (rules_of hash) (plan_of d))
-may_drain hash d well built = record {
+pub may_drain : (hash : List ℕ → ℕ) (d : DraftView) → IsWellFormed d → MayDrain (topology_setup (rules_of hash) (plan_of d))
+may_drain hash d well = record {
   made = setups_are_made (rules_of hash) d well;
   network = works_are_networks (rules_of hash) (plan_of d);
   sends = made_in_order (rules_of hash) d well;
-  inside = topologies_send_inside (rules_of hash) d well (λ key n h. mod-lt _ h) (joins_have d well built);
+  inside = topologies_send_inside (rules_of hash) d well;
   once = inputs_once (plan_of d);
 }
 

@@ -9,6 +9,7 @@ use Rattle.ks_row.specs.declared.record.Rec.{Rec}
 use Rattle.ks_expr.specs.declared.terms.JoinKind.{JoinKind}
 use Rattle.ks_expr.specs.Terms.{Set}
 use Rattle.ks_expr.specs.Eval.{Row}
+use Rattle.ks_expr.specs.declared.terms.Fk.{Fk}
 use Rattle.ks_plan.specs.declared.node.Node.{Node}
 use Rattle.ks_plan.specs.declared.node.Topic.TheVariants.{Changelog}
 use Rattle.ks_plan.specs.Drafts.{Name, NodeView, DraftView, op_view}
@@ -129,7 +130,7 @@ module _ (d : DraftView) (i : ℕ) (node : Node) (at : IsAt d i node) where
 -- ---- joins on a foreign key
 record IsJoin (k : Kind) (l : ℕ) : Type 0 where
   right : ℕ
-  fk : Name
+  fk : Fk
   kind : JoinKind
   set : Set
   is : k ≡ ForeignKeyJoin l right fk kind set
@@ -172,7 +173,7 @@ table_before [] ys l e = absurd (true≢false (sym e))
 table_before (x ∷ xs) ys zero e = e
 table_before (x ∷ xs) ys (suc l) e = table_before xs ys l e
 
-left_among : (before ks : List Kind) → EachInputs before ks → (n l r : ℕ) (fk : Name) (kind : JoinKind) (set : Set) → slice_get ks n ≡ Some (ForeignKeyJoin l r fk kind set) → is_table_at (before ++ ks) l ≡ true
+left_among : (before ks : List Kind) → EachInputs before ks → (n l r : ℕ) (fk : Fk) (kind : JoinKind) (set : Set) → slice_get ks n ≡ Some (ForeignKeyJoin l r fk kind set) → is_table_at (before ++ ks) l ≡ true
 left_among before [] h n l r fk kind set e = cc
 left_among before (k ∷ ks) h zero l r fk kind set e =
     let is : k ≡ ForeignKeyJoin l r fk kind set = same_some e in

@@ -1,6 +1,6 @@
 -- A printed name: its node, where the node's rows are kept, and how they are read.
 use Rattle.std.proofs.Common.{◌≡◌, ℕ, zero, suc, ◌+◌, ◌<◌, Bool, true, false, not, cond, ◌||◌, List, [], ◌∷◌, ◌++◌, length, map, get_or, slice_get, fold, Option, Some, None, refl, sym, ap, subst, ◌∙◌, arith, length-append, ◌⊎◌, inl, inr}
-use Rattle.std.specs.Prelude.{ℤ, option_map, ◌==◌}
+use Rattle.std.specs.Prelude.{option_map, ◌==◌}
 use Rattle.std.specs.Cmp.Lexicographic.{pointwise, texts_ties, same_text}
 use Rattle.std.proofs.lemmas.Bool.{true≢false}
 use Rattle.std.proofs.lemmas.List.{length-map, get_or_append_left, get_or_push}
@@ -9,7 +9,7 @@ use Rattle.ks_row.specs.Reading.{row_from}
 use Rattle.ks_wire.specs.Reading.{agg_from}
 use Rattle.ks_wire.specs.declared.values.Agg.{Agg}
 use Rattle.ks_expr.specs.Eval.{Row, same_bytes}
-use Rattle.ks_plan.specs.Drafts.{Name, NodeView, DraftView, OpView, StreamOf, TableOf, FilterOf, MapOf, KeyOf, CountOf, SumOf, WindowedOf, JoinOf, FkJoinOf}
+use Rattle.ks_plan.specs.Drafts.{Topics, Name, NodeView, DraftView, OpView, StreamOf, TableOf, FilterOf, MapOf, KeyOf, CountOf, SumOf, WindowedOf, JoinOf, FkJoinOf}
 use Rattle.ks_plan.specs.declared.node.Node.{Node}
 use Rattle.ks_plan.specs.declared.node.Wiring.{Wiring}
 use Rattle.ks_plan.specs.declared.node.Wiring.TheVariants as wired
@@ -38,7 +38,7 @@ total : (count : Bool) (o : Option Agg) → option_map shown (option_map (OfAgg 
 total count None = refl
 total count (Some a) = refl
 
-reads : (ts : List (Name × ℤ)) (ks : List Known) (op : OpView) (bytes : List ℕ) → folded.row_from (known_of ts ks op).0 bytes ≡ row_by op bytes
+reads : (ts : Topics) (ks : List Known) (op : OpView) (bytes : List ℕ) → folded.row_from (known_of ts ks op).0 bytes ≡ row_by op bytes
 reads ts ks (StreamOf t) bytes = plain (row_from bytes)
 reads ts ks (TableOf t) bytes = plain (row_from bytes)
 reads ts ks (FilterOf f p) bytes = by (is_stream (known_at ks f).kind)
@@ -66,7 +66,7 @@ reads ts ks (WindowedOf f g size advance grace) bytes = plain (row_from bytes)
 reads ts ks (JoinOf l r kind s) bytes = plain (row_from bytes)
 reads ts ks (FkJoinOf l r fk kind s) bytes = plain (row_from bytes)
 
-counts : (ts : List (Name × ℤ)) (ks : List Known) (op : OpView) → is_windowed (known_of ts ks op).0 ≡ counts_windows op
+counts : (ts : Topics) (ks : List Known) (op : OpView) → is_windowed (known_of ts ks op).0 ≡ counts_windows op
 counts ts ks (StreamOf t) = refl
 counts ts ks (TableOf t) = refl
 counts ts ks (FilterOf f p) = by (is_stream (known_at ks f).kind)
@@ -95,17 +95,17 @@ counts ts ks (JoinOf l r kind s) = refl
 counts ts ks (FkJoinOf l r fk kind s) = refl
 
 -- ---- what is known of a node
-learnt : List (Name × ℤ) → List Known → NodeView → Known
+learnt : Topics → List Known → NodeView → Known
 learnt ts ks n = record { name = n.name; kind = (known_of ts ks n.op).0; rekeyed = (known_of ts ks n.op).1 }
 
-longer : (ts : List (Name × ℤ)) (ks : List Known) (n : NodeView) → length (learn ts ks n) ≡ length ks + 1
+longer : (ts : Topics) (ks : List Known) (n : NodeView) → length (learn ts ks n) ≡ length ks + 1
 longer ts ks n = length-append ks _
 
-stays : (ts : List (Name × ℤ)) (ks : List Known) (ns : List NodeView) (j : ℕ) → j < length ks → get_or (fold (learn ts) ks ns) j nothing_known ≡ get_or ks j nothing_known
+stays : (ts : Topics) (ks : List Known) (ns : List NodeView) (j : ℕ) → j < length ks → get_or (fold (learn ts) ks ns) j nothing_known ≡ get_or ks j nothing_known
 stays ts ks [] j h = refl
 stays ts ks (n ∷ ns) j h = stays ts (learn ts ks n) ns j (omega (arith, longer ts ks n)) ∙ get_or_append_left ks _ nothing_known j h
 
-kind_there : (ts : List (Name × ℤ)) (ks : List Known) (ns : List NodeView) (i : ℕ) (x : NodeView) → i < length ns →
+kind_there : (ts : Topics) (ks : List Known) (ns : List NodeView) (i : ℕ) (x : NodeView) → i < length ns →
     (before : List Known) × ((get_or (fold (learn ts) ks ns) (length ks + i) nothing_known).kind ≡ (known_of ts before (get_or ns i x).op).0)
 kind_there ts ks [] i x h = absurd (omega (arith, h))
 kind_there ts ks (n ∷ ns) zero x h =

@@ -53,7 +53,8 @@ fn feed_changelog(
     Ok(())
 }
 
-// A changelog is fed records of its partition, and goes on at `next`; after want of memory the stores are to be dropped.
+/// Feeds the changelog of a topic records of its partition, from where it goes on at `next`. After want of memory the stores are to be
+/// dropped.
 pub fn feed_changelogs(
     changelogs: &mut Vec<Changelog>,
     topic: u16,

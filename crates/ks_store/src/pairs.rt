@@ -12,6 +12,7 @@ use std::collections::BTreeMap;
 
 pub type Pairs = BTreeMap<Vec<u8>, Vec<u8>>;
 
+/// The value of a key; none where no pair has it.
 pub fn value_at<'a>(pairs: &'a Pairs, key: &[u8]) -> Option<&'a [u8]>
     ensures { option_map (λ v. v.now) result ≡ find by_bytes key.now (pairs_of pairs.now.entries) }
 {
@@ -21,6 +22,7 @@ pub fn value_at<'a>(pairs: &'a Pairs, key: &[u8]) -> Option<&'a [u8]>
     }
 }
 
+/// Gives a key a value, in place of the one that it had. After want of memory the pairs are as before.
 pub fn set_at(pairs: &mut Pairs, key: Vec<u8>, value: Vec<u8>) -> Result<(), AllocError>
     ensures ok { OnOk result (pairs_of pairs.new.entries
         ≡ put by_bytes key.items value.items (pairs_of pairs.old.entries)) }
@@ -31,6 +33,7 @@ pub fn set_at(pairs: &mut Pairs, key: Vec<u8>, value: Vec<u8>) -> Result<(), All
     Ok(())
 }
 
+/// Takes a key's pair out, where there is one.
 pub fn take_away(pairs: &mut Pairs, key: &[u8])
     requires { Rises (pairs_of pairs.old.entries) }
     ensures gone { pairs_of pairs.new.entries
@@ -41,6 +44,7 @@ pub fn take_away(pairs: &mut Pairs, key: &[u8])
     pairs.remove(key);
 }
 
+/// Copies of the pairs whose key begins with these bytes, in order of keys; looks at every pair. Only want of memory stops it.
 pub fn pairs_with(
     alloc: Global,
     pairs: &Pairs,
@@ -60,7 +64,8 @@ pub fn pairs_with(
     Ok(found)
 }
 
-/// The same; looks up the first key that isn't below the front, and stops at the first that doesn't begin so.
+/// Copies of the pairs whose key begins with these bytes, in order of keys; looks up the first key that isn't below them, and stops
+/// at the first that doesn't begin so. Only want of memory stops it before.
 pub fn pairs_from(
     alloc: Global,
     pairs: &Pairs,

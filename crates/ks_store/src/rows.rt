@@ -13,6 +13,7 @@ use std::collections::{BTreeMap, HashMap};
 
 pub type Rows = HashMap<Vec<u8>, Blob>;
 
+/// The row of a key; none where it has none.
 pub fn row_at<'a>(rows: &'a Rows, key: &[u8]) -> Option<&'a [u8]>
     ensures { option_map (λ v. v.now) result ≡ find by_bytes key.now (rows_of rows.now.entries) }
 {
@@ -53,6 +54,7 @@ pub fn put_row(alloc: Global, rows: &mut Rows, key: &[u8], value: Blob) -> Resul
     set_row(rows, copy, value)
 }
 
+/// Takes a key's row out, where there is one.
 pub fn take_row(rows: &mut Rows, key: &[u8])
     ensures gone { (q : List ℕ) → find by_bytes q (rows_of rows.new.entries)
         ≡ cond (eq_by_cmp by_bytes q key.now) None (find by_bytes q (rows_of rows.old.entries)) }

@@ -36,6 +36,7 @@ impl Model for Table {
 }
 
 impl Table {
+    /// The empty map; takes no memory.
     pub fn new(alloc: Global) -> Table
         ensures { result ≡ empty_store }
     {
@@ -54,12 +55,14 @@ impl Table {
         let _alloc = &self.alloc;
     }
 
+    /// The value of a key; none where it has none.
     pub fn get(&self, key: &[u8]) -> Option<&[u8]>
         ensures { option_map (λ v. v.now) result ≡ map.get self.now key.now }
     {
         row_at(&self.rows, key)
     }
 
+    /// Gives a key a value, in place of the one that it had. After want of memory the map is as before.
     pub fn put(&mut self, key: &[u8], value: &[u8]) -> Result<(), AllocError>
         ensures ok { OnOk result (self.new ≡ map.insert self.old key.now value.now) }
         ensures err { OnErr result (self.new ≡ self.old) }
@@ -69,6 +72,7 @@ impl Table {
         put_row(self.alloc, &mut self.rows, key, value)
     }
 
+    /// Takes a key out, where it has a value.
     pub fn delete(&mut self, key: &[u8])
         ensures { self.new ≡ map.remove self.old key.now }
     {
@@ -89,6 +93,7 @@ impl Table {
         rows_at(self.alloc, &self.rows, keys)
     }
 
+    /// How many keys have a value.
     pub fn len(&self) -> usize
         ensures { result ≡ map.len self.now }
     {

@@ -30,6 +30,7 @@ impl Model for Tree {
 }
 
 impl Tree {
+    /// The empty map; takes no memory.
     pub fn new(alloc: Global) -> Tree
         ensures { result ≡ empty_store }
     {
@@ -47,12 +48,14 @@ impl Tree {
         let _alloc = &self.alloc;
     }
 
+    /// The value of a key; none where it has none.
     pub fn get(&self, key: &[u8]) -> Option<&[u8]>
         ensures { option_map (λ v. v.now) result ≡ map.get self.now key.now }
     {
         value_at(&self.pairs, key)
     }
 
+    /// Gives a key a value, in place of the one that it had. After want of memory the map is as before.
     pub fn put(&mut self, key: &[u8], value: &[u8]) -> Result<(), AllocError>
         ensures ok { OnOk result (self.new ≡ map.insert self.old key.now value.now) }
         ensures err { OnErr result (self.new ≡ self.old) }
@@ -62,6 +65,7 @@ impl Tree {
         set_at(&mut self.pairs, key, value)
     }
 
+    /// Takes a key out, where it has a value.
     pub fn delete(&mut self, key: &[u8])
         ensures { self.new ≡ map.remove self.old key.now }
     {
@@ -75,6 +79,7 @@ impl Tree {
         pairs_with(self.alloc, &self.pairs, front)
     }
 
+    /// How many keys have a value.
     pub fn len(&self) -> usize
         ensures { result ≡ map.len self.now }
     {

@@ -1,4 +1,5 @@
-//! That the projections of a topology have names and constants that can be spelled, as the types of its parts say.
+//! That the projections of a topology have names and constants that can be spelled, and its foreign keys are keys, as the types of its parts
+//! say.
 ghost use Rattle.std.specs.Prelude.{map};
 ghost use Rattle.std.specs.List.{AllByRecursion};
 ghost use Rattle.ks_expr.specs.Terms.{term_of, set_of, entries_of};
@@ -6,9 +7,9 @@ ghost use Rattle.ks_plan.specs.Drafts.{op_view};
 ghost use Rattle.ks_plan.specs.Infos.{built_view};
 ghost use Rattle.ks_topo.specs.Topologies.{plan_in};
 ghost use Rattle.ks_law_topology.specs.Spelled.{FitsTerm, FitsSet};
-ghost use Rattle.ks_law_kinds.specs.Fitting.{FitsOp, FitsPlan};
+ghost use Rattle.ks_law_kinds.specs.Fitting.{FitsFk, FitsOp, FitsPlan};
 
-use ks_expr::{Expr, Proj};
+use ks_expr::{Expr, Fk, Proj};
 use ks_row::Name;
 use ks_topo::{Node, Op, Topology};
 
@@ -56,13 +57,27 @@ fn set_fits(set: &Proj)
     entries_fit(set.fields.as_slice());
 }
 
+fn fk_fits(fk: &Fk)
+    ensures { FitsFk fk.now }
+{
+    match fk {
+        Fk::Before(text) => {
+            let _text = text.as_str();
+        }
+        _ => {}
+    }
+}
+
 fn op_fits(op: &Op)
     ensures { FitsOp (op_view op.now) }
 {
     match op {
         Op::MapValues { set, .. } => set_fits(set),
         Op::Join { set, .. } => set_fits(set),
-        Op::FkJoin { set, .. } => set_fits(set),
+        Op::FkJoin { fk, set, .. } => {
+            set_fits(set);
+            fk_fits(fk);
+        }
         _ => {}
     }
 }

@@ -1,5 +1,5 @@
 //! A task at work.
-ghost use Rattle.std.specs.Prelude.{◌≡◌, ◌-◌, ◌^◌, ℕ, List, IfOk, IfErr, OnOk, map, min, true, slice_get, option_map};
+ghost use Rattle.std.specs.Prelude.{◌≡◌, ◌≤◌, ◌-◌, ◌^◌, ℕ, List, IfOk, IfErr, OnOk, map, min, true, slice_get, option_map};
 ghost use Rattle.ks_plan.specs.Drafts.{DraftView};
 ghost use Rattle.ks_plan.specs.Plan.{plan_of};
 ghost use Rattle.ks_topo.specs.Topologies.{draft_of, plan_in};
@@ -85,6 +85,7 @@ fn process_record<'s, H: Hash128>(
     at: PartId,
     rec: &'s Rec,
 ) -> Result<StepOutput, AllocError>
+    requires { at.part ≤ 63 }
     ensures late { IfOk result (λ m. m.late ≡ capped
         (late_or_none (map node_view nodes.now) (stores_in changelogs.now)
         (arrival_at (kinds_in (map node_view nodes.now)) (slice_get purposes.now at.topic)
@@ -180,7 +181,7 @@ impl Task {
         ensures { IfOk result (λ v. map node_view v.items
             ≡ nodes_of (plan_in topology.now) self.now.id.sub) }
     {
-        processor_nodes(alloc, &self.nodes, topology.nodes())
+        processor_nodes(alloc, &self.nodes, topology.topics(), topology.nodes())
     }
 
     // All that its nodes make of a record of a topic.
@@ -192,7 +193,8 @@ impl Task {
         topic: u16,
         rec: &Rec,
     ) -> Result<StepOutput, AllocError>
-        requires { map node_view nodes.now ≡ nodes_of (plan_in topology.now) self.now.id.sub }
+        requires task { IsTaskOf (draft_of topology.now) self.now }
+        requires nodes { map node_view nodes.now ≡ nodes_of (plan_in topology.now) self.now.id.sub }
         ensures late { IfOk result (λ m. m.late
             ≡ capped (late_or_none (nodes_of (plan_in topology.now) self.now.id.sub)
             (stores_in self.now.changelogs.items)

@@ -1,11 +1,12 @@
 -- The nodes of a topology, as a task runs them: what each of them does, and the topics that it writes and reads, by number.
-use Rattle.std.specs.Prelude.{ℕ, suc, ◌+◌, Bool, cond, nat_eq, List, [], ◌∷◌, map, get_or, Option, Some, None, option_copied}
+use Rattle.std.specs.Prelude.{ℕ, suc, ◌+◌, Bool, cond, nat_eq, List, [], ◌∷◌, map, get_or, Option, Some, None, option_copied, option_and_then, is_some}
 use Rattle.ks_expr.specs.Terms.{test_of, set_of}
 use Rattle.ks_plan.specs.Plan.{Plan, Kind, Window, window_of}
 use Rattle.ks_plan.specs.Plan.Kind.{StreamSource, TableSource, StreamFilter, TableFilter, StreamMap, TableMap, KeySelected, StreamAggregate, TableAggregate, Windowed, KeyJoin, ForeignKeyJoin}
-use Rattle.ks_plan.specs.Layout.{number_of, sub_of, parts_of, place_of, right_of, wired_right, no_kind}
-use Rattle.ks_plan.specs.Drafts.{OpView, FilterOf, MapOf, KeyOf, CountOf, SumOf, WindowedOf, JoinOf, FkJoinOf, op_view}
+use Rattle.ks_plan.specs.Layout.{number_of, sub_of, parts_of, place_of, right_of, wired_right, no_kind, topic_at, before_of_topic}
+use Rattle.ks_plan.specs.Drafts.{Name, OpView, FilterOf, MapOf, KeyOf, CountOf, SumOf, WindowedOf, JoinOf, FkJoinOf, op_view}
 use Rattle.ks_plan.specs.declared.node.Node.{Node}
+use Rattle.ks_plan.specs.declared.node.TopicInfo.{TopicInfo}
 use Rattle.ks_plan.specs.declared.node.Wiring.{Wiring}
 use Rattle.ks_plan.specs.declared.node.Wiring.TheVariants as wired
 use Rattle.ks_plan.specs.declared.node.Topic.{Topic}
@@ -31,13 +32,16 @@ kind_of (processor.WindowedCount from by window through) = Windowed from by.now 
 kind_of (processor.KeyJoin j) = KeyJoin j.left j.right j.kind (set_of j.set.now)
 kind_of (processor.ForeignKeyJoin j) = ForeignKeyJoin j.left j.right j.foreign_key.now j.kind (set_of j.set.now)
 
--- ---- a node with its topics
+-- ---- a node with its topics; whether its subscriptions name the partition of the task that sends them, and the text that spreads them by
+-- the front parts of foreign keys, if one does
 pub record TaskNode : Type 0 where
   pub topics : NodeTopics
   pub kind : Kind
+  pub names_partition : Bool
+  pub right_before : Option Name
 
 abbrev pub node_view : ProcessorNode → TaskNode
-node_view n = record { topics = n.topics; kind = kind_of n.processor }
+node_view n = record { topics = n.topics; kind = kind_of n.processor; names_partition = n.names_partition; right_before = option_copied n.right_before }
 
 abbrev pub kinds_in : List TaskNode → List Kind
 kinds_in ns = map (λ (n : TaskNode). n.kind) ns
@@ -61,8 +65,17 @@ abbrev pub topics_from : Plan → ℕ → ℕ → List Kind → List NodeTopics
 topics_from p sub n [] = []
 topics_from p sub n (k ∷ ks) = node_topics p sub n k ∷ topics_from p sub (suc n) ks
 
+-- the text by whose front parts the keys of a numbered topic are spread
+abbrev pub before_numbered : Plan → ℕ → Option Name
+before_numbered p number = option_and_then (before_of_topic p) (topic_at p number)
+
 abbrev pub node_of : Plan → ℕ → ℕ → Kind → TaskNode
-node_of p sub n k = record { topics = node_topics p sub n k; kind = k }
+node_of p sub n k = record {
+  topics = node_topics p sub n k;
+  kind = k;
+  names_partition = is_some (before_numbered p (number_of p (Responses n)));
+  right_before = before_numbered p (number_of p (Subscriptions n));
+}
 
 abbrev pub nodes_from : Plan → ℕ → ℕ → List Kind → List TaskNode
 nodes_from p sub n [] = []
@@ -99,8 +112,20 @@ node_kind x = kind_in x.wiring (op_view x.op)
 abbrev pub kind_numbered : List Node → ℕ → Kind
 kind_numbered nodes n = get_or (map node_kind nodes) n no_kind
 
-abbrev pub with_kinds : List NodeTopics → List Node → List TaskNode
-with_kinds ts nodes = map (λ (t : NodeTopics). record { topics = t; kind = kind_numbered nodes t.number }) ts
+-- as a topology shows it of its topics
+abbrev pub text_at : List TopicInfo → ℕ → Option Name
+text_at infos number = get_or (map (λ (i : TopicInfo). i.before) infos) number None
+
+abbrev pub told_node : List TopicInfo → List Node → NodeTopics → TaskNode
+told_node infos nodes t = record {
+  topics = t;
+  kind = kind_numbered nodes t.number;
+  names_partition = is_some (text_at infos t.responses);
+  right_before = text_at infos t.subscriptions;
+}
+
+abbrev pub with_kinds : List NodeTopics → List TopicInfo → List Node → List TaskNode
+with_kinds ts infos nodes = map (told_node infos nodes) ts
 
 abbrev pub sub_in : List Node → ℕ → ℕ
 sub_in nodes n = get_or (map (λ (x : Node). x.sub) nodes) n 0

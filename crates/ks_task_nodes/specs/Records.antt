@@ -22,8 +22,12 @@ message_of (variant.Delta group delta) = Moved group delta
 message_of (variant.Subscription foreign subscription) = Asked foreign subscription.left (subscription_of subscription)
 message_of (variant.Response left response) = Answered left response
 
+-- what arrives; the partitions that subscriptions name stand with the nodes
+abbrev pub arrived_as : Topic → ℕ → Message → Arrival
+arrived_as topic time message = record { topic = topic; item = record { message = message; time = time }; names = λ n. None }
+
 abbrev pub arrival_of : StampedRecord → Arrival
-arrival_of x = record { topic = x.topic; item = record { message = message_of x.payload; time = x.time } }
+arrival_of x = arrived_as x.topic x.time (message_of x.payload)
 
 -- by the kinds of all nodes
 abbrev pub message_from : List Kind → Topic → Rec → Option Message
@@ -32,9 +36,6 @@ message_from ks (Repartition n) r = regrouped_in (get_or ks n no_kind) r
 message_from ks (Subscriptions n) r = of_both key_from subscription_from (λ b v. Asked b v.left (subscription_of v)) r
 message_from ks (Responses n) r = of_both key_from response_from Answered r
 message_from ks _ r = None
-
-abbrev pub arrived_as : Topic → ℕ → Message → Arrival
-arrived_as topic time message = record { topic = topic; item = record { message = message; time = time } }
 
 abbrev pub arrival_from : List Kind → Topic → Rec → Option Arrival
 arrival_from ks topic r = option_map (arrived_as topic r.ts) (message_from ks topic r)

@@ -1,15 +1,15 @@
 //! What the nodes of a topology do to records.
-ghost use Rattle.std.specs.Prelude.{◌≡◌, IfOk, map};
+ghost use Rattle.std.specs.Prelude.{◌≡◌, IfOk, map, option_copied, is_some};
 ghost use Rattle.ks_plan.specs.declared.node.Wiring.TheVariants as wired;
 ghost use Rattle.ks_plan.specs.Layout.{no_kind};
 ghost use Rattle.ks_plan.specs.Drafts.{op_view};
 ghost use Rattle.ks_plan.specs.Plan.{is_windowed};
-ghost use Rattle.ks_task_nodes.specs.Nodes.{kind_of, node_view, kind_in, node_kind, kind_numbered, with_kinds};
+ghost use Rattle.ks_task_nodes.specs.Nodes.{kind_of, node_view, kind_in, node_kind, kind_numbered, text_at, told_node, with_kinds};
 
 use crate::topics::NodeTopics;
 use crate::windows::HoppingWindow;
-use ks_expr::{JoinKind, Pred, Proj};
-use ks_plan::{Node, Op, Wiring};
+use ks_expr::{Fk, JoinKind, Pred, Proj};
+use ks_plan::{Node, Op, TopicInfo, Wiring};
 use ks_row::Name;
 use std::alloc::{AllocError, Global};
 
@@ -22,12 +22,12 @@ pub struct KeyJoin<'a> {
     pub set: &'a Proj,
 }
 
-/// A join of two tables on a foreign key of the left one (KIP-213).
+/// A join of two tables on a foreign key of the left one's rows and keys (KIP-213).
 #[derive(Clone, Copy)]
 pub struct ForeignKeyJoin<'a> {
     pub left: u8,
     pub right: u8,
-    pub foreign_key: &'a Name,
+    pub foreign_key: &'a Fk,
     pub kind: JoinKind,
     pub set: &'a Proj,
 }
@@ -88,6 +88,12 @@ pub enum Processor<'a> {
 pub struct ProcessorNode<'a> {
     pub topics: NodeTopics,
     pub processor: Processor<'a>,
+    /// Of a join on a foreign key, whether its subscriptions name the partition of the task that sends them: where the keys of its
+    /// left side are spread by their front parts.
+    pub names_partition: bool,
+    /// Of a join on a foreign key, the text before which the front parts of foreign keys end, by which its subscriptions are spread;
+    /// none where whole keys spread them.
+    pub right_before: Option<&'a Name>,
 }
 
 impl<'a> Processor<'a> {
@@ -274,21 +280,42 @@ fn processor_numbered<'a>(nodes: &'a [Node], number: u8) -> Processor<'a>
     }
 }
 
-/// The nodes with these topics, by number among a topology's nodes, of which they borrow what they compute. Want of memory is the one
-/// error.
+// The text before which the front parts of a topic's keys end; none where whole keys are spread, and past the last topic.
+fn before_at(infos: &[TopicInfo], topic: u16) -> Option<&Name>
+    ensures { option_copied result ≡ text_at infos.now topic }
+{
+    let info = infos.get(topic as usize)?;
+    info.before.as_ref()
+}
+
+fn processor_node<'a>(
+    topics: NodeTopics,
+    infos: &'a [TopicInfo],
+    nodes: &'a [Node],
+) -> ProcessorNode<'a>
+    ensures { node_view result ≡ told_node infos.now nodes.now topics }
+{
+    ProcessorNode {
+        topics,
+        processor: processor_numbered(nodes, topics.number),
+        names_partition: before_at(infos, topics.responses).is_some(),
+        right_before: before_at(infos, topics.subscriptions),
+    }
+}
+
+/// The nodes with these topics, by number among a topology's nodes, of which they borrow what they compute; `infos` are what the
+/// topology shows of its topics. Want of memory is the one error.
 pub fn processor_nodes<'a>(
     alloc: Global,
     topics: &[NodeTopics],
+    infos: &'a [TopicInfo],
     nodes: &'a [Node],
 ) -> Result<Vec<ProcessorNode<'a>>, AllocError>
-    ensures { IfOk result (λ v. map node_view v.items ≡ with_kinds topics.now nodes.now) }
+    ensures { IfOk result (λ v. map node_view v.items ≡ with_kinds topics.now infos.now nodes.now) }
 {
     let mut processors = Vec::with_capacity(alloc, topics.len())?;
     for one in topics {
-        processors.push(ProcessorNode {
-            topics: *one,
-            processor: processor_numbered(nodes, one.number),
-        })?;
+        processors.push(processor_node(*one, infos, nodes))?;
     }
     Ok(processors)
 }

@@ -2,3 +2,4 @@ pub mod Looking
 pub mod Asking
 pub mod Capping
 pub mod Passing
+pub mod Sending

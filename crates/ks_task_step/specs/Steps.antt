@@ -1,5 +1,6 @@
 -- One whole step of a task over the bytes of its stores, in the machine's own words, by the nodes as the task runs them.
-use Rattle.std.specs.Prelude.{not, ℕ, ◌+◌, ◌==◌, Bool, cond, nat_eq, ◌||◌, List, [], ◌∷◌, ◌++◌, map, Option, Some, None, option_map, if◌then◌else◌}
+use Rattle.std.specs.Prelude.{not, ℕ, ◌+◌, ◌==◌, Bool, cond, nat_lt, ◌||◌, List, [], ◌∷◌, ◌++◌, map, Option, Some, None, option_map, if◌then◌else◌}
+use Rattle.std.specs.List.{flat_map}
 use Rattle.ks_row.specs.Reading.{◌>>=◌}
 use Rattle.ks_row.specs.declared.record.Rec.{Rec}
 use Rattle.ks_row.specs.declared.record.PartId.{PartId}
@@ -8,19 +9,23 @@ use Rattle.ks_def_runs.specs.Bytes.{Store, empty_store}
 use Rattle.ks_hash.specs.Partition.{part_of_key}
 use Rattle.ks_wire.specs.Values.{SubscriptionValue}
 use Rattle.ks_wire.specs.Spelling.{subscription_key, subscription_bytes}
-use Rattle.ks_wire.specs.Reading.{hash_from}
+use Rattle.ks_wire.specs.Reading.{subscriber_from}
+use Rattle.ks_wire.specs.declared.values.Subscriber.{Subscriber}
 use Rattle.ks_expr.specs.Terms.{Test, Set}
 use Rattle.ks_expr.specs.declared.terms.JoinKind.{JoinKind}
+use Rattle.ks_expr.specs.declared.terms.Fk.{Fk}
+use Rattle.ks_expr.specs.Keys.{spread_part}
 use Rattle.ks_expr.specs.Eval.{Row, holds, project, joined}
 use Rattle.ks_plan.specs.Plan.{Kind, is_windowed}
 use Rattle.ks_plan.specs.Plan.Kind.{StreamAggregate, TableAggregate, Windowed, ForeignKeyJoin}
 use Rattle.ks_plan.specs.declared.node.Topic.{Topic}
 use Rattle.ks_plan.specs.declared.node.Topic.TheVariants.{Subscriptions, Responses}
 use Rattle.ks_query.specs.Streams.{Key, StreamItem}
-use Rattle.ks_def_tasks.specs.Messages.{Stored, shown, Message, Rules, same_option, same_row}
+use Rattle.ks_def_tasks.specs.Messages.{Stored, shown, Message, Rules, same_option, same_row, same_subscriber}
 use Rattle.ks_def_tasks.specs.Messages.Message.{Asked, KeptHash}
 use Rattle.ks_def_tasks.specs.Foreign.{subscriptions, subscribed, answer_to, answer_all}
-use Rattle.ks_def_tasks.specs.Step.{Arrival, Values, Sent, arrived, changed, kept_row, of_row, direct, responded, send_subscriptions, send_responses, answer_of, step_key, row_in, regroup, regroup_rows, item_into, value_at, value_changes}
+use Rattle.ks_def_tasks.specs.Step.To.{ByKey, Named}
+use Rattle.ks_def_tasks.specs.Step.{Arrival, Values, To, Sent, arrived, changed, kept_row, of_row, direct, responded, send_subscriptions, send_responses, answer_of, step_key, row_in, regroup, regroup_rows, item_into, value_at, value_changes}
 use Rattle.ks_def_tasks.specs.Bytes.{ByteStores, stored_from, rec_of}
 use Rattle.ks_def_lookups.specs.Kept.{kept_under}
 use Rattle.ks_def_lookups.specs.Windows.{CountedBytes}
@@ -68,68 +73,87 @@ map_value set olds news f old = cond (changed olds news f) (kept_row (λ v. proj
 abbrev pub join_value : JoinKind → Set → Values → Values → ℕ → ℕ → Option Stored → Option Stored
 join_value kind set olds news l r old = cond (changed olds news l || changed olds news r) (of_row (joined kind set (row_in news l) (row_in news r))) old
 
-abbrev pub foreign_value : Rules → List ℕ → JoinKind → Set → Values → Values → ℕ → Option Message → Option Stored → Option Stored
-foreign_value rules fk kind set olds news l message old =
-    cond (changed olds news l) (direct fk kind set (row_in olds l) (row_in news l) old) (responded rules kind set (row_in news l) message old)
+abbrev pub foreign_value : Rules → Fk → Option Key → JoinKind → Set → Values → Values → ℕ → Option Message → Option Stored → Option Stored
+foreign_value rules fk key kind set olds news l message old =
+    cond (changed olds news l) (direct fk key kind set (row_in olds l) (row_in news l) old) (responded rules kind set (row_in news l) message old)
 
 -- ---- what is sent, and what is written into changelogs
 -- of 0 partitions there is none to choose
 abbrev pub part_in : Key → ℕ → ℕ
 part_in key n = if n == 0 then 0 else part_of_key key n
 
--- the hashes that a join on a foreign key keeps under a key
-abbrev pub hashes_at : ByteStores → TaskNode → Key → List (Key × ℕ)
-hashes_at stores node b = cond node.topics.has_right (kept_under b (stores node.topics.hash_changelog)) []
+-- the subscribers that a join on a foreign key keeps under a key
+abbrev pub kept_at : ByteStores → TaskNode → Key → List (Key × Subscriber)
+kept_at stores node b = cond node.topics.has_right (kept_under b (stores node.topics.hash_changelog)) []
+
+-- the partition that a join's subscriptions name, where they name one
+abbrev pub named_by : TaskNode → ℕ → Option ℕ
+named_by node part = cond node.names_partition (Some part) None
 
 abbrev pub is_other_row : Option Row → Option Row → Bool
 is_other_row old new = not (same_option same_row old new)
 
-abbrev pub left_sends : Rules → TaskNode → List ℕ → Key → Option Row → Option Row → List Sent
-left_sends rules node fk k old new = cond (is_other_row old new) (send_subscriptions node.topics.number k (subscriptions rules.hash fk old new)) []
+abbrev pub left_sends : Rules → ℕ → TaskNode → Fk → Key → Option Row → Option Row → List Sent
+left_sends rules part node fk k old new = cond (is_other_row old new) (send_subscriptions node.topics.number k (subscriptions rules.hash fk k (named_by node part) old new)) []
 
 abbrev pub right_sends : ByteStores → TaskNode → Key → Option Row → Option Row → List Sent
-right_sends stores node k old new = cond (is_other_row old new) (send_responses node.topics.number (answer_all new (hashes_at stores node k))) []
+right_sends stores node k old new = cond (is_other_row old new) (send_responses node.topics.number (answer_all new (kept_at stores node k))) []
 
-abbrev pub join_here : Rules → ByteStores → TaskNode → List ℕ → ℕ → ℕ → Values → Values → Option Key → List Sent
-join_here rules stores node fk l r olds news None = []
-join_here rules stores node fk l r olds news (Some k) =
-    left_sends rules node fk k (row_in olds l) (row_in news l) ++ right_sends stores node k (row_in olds r) (row_in news r)
+abbrev pub join_here : Rules → ByteStores → ℕ → TaskNode → Fk → ℕ → ℕ → Values → Values → Option Key → List Sent
+join_here rules stores part node fk l r olds news None = []
+join_here rules stores part node fk l r olds news (Some k) =
+    left_sends rules part node fk k (row_in olds l) (row_in news l) ++ right_sends stores node k (row_in olds r) (row_in news r)
 
 abbrev pub answer_here : List TaskNode → ByteStores → ℕ → ℕ → Option Message → List Sent
-answer_here nodes stores n r (Some (Asked b k q)) = send_responses n (answer_of k (answer_to q (option_map shown (in_list (old_list stores (Some b) nodes) r))))
+answer_here nodes stores n r (Some (Asked b k q)) = send_responses n (answer_of k q.part (answer_to q (option_map shown (in_list (old_list stores (Some b) nodes) r))))
 answer_here nodes stores n r _ = []
 
-abbrev pub sends_of : Rules → List TaskNode → ByteStores → Arrival → (ℕ → Option StreamItem) → Values → Values → TaskNode → Kind → List Sent
-sends_of rules nodes stores a items olds news node (StreamAggregate f by field through) = cond through (regroup by node.topics.number (items f)) []
-sends_of rules nodes stores a items olds news node (Windowed f by w through) = cond through (regroup by node.topics.number (items f)) []
-sends_of rules nodes stores a items olds news node (TableAggregate f by field) = regroup_rows by field node.topics.number (row_in olds f) (row_in news f)
-sends_of rules nodes stores a items olds news node (ForeignKeyJoin l r fk kind set) =
-    join_here rules stores node fk l r olds news (step_key a.item.message) ++ answer_here nodes stores node.topics.number r (arrived a (Subscriptions node.topics.number))
-sends_of rules nodes stores a items olds news node _ = []
+abbrev pub sends_of : Rules → List TaskNode → ByteStores → ℕ → Arrival → (ℕ → Option StreamItem) → Values → Values → TaskNode → Kind → List Sent
+sends_of rules nodes stores part a items olds news node (StreamAggregate f by field through) = cond through (regroup by node.topics.number (items f)) []
+sends_of rules nodes stores part a items olds news node (Windowed f by w through) = cond through (regroup by node.topics.number (items f)) []
+sends_of rules nodes stores part a items olds news node (TableAggregate f by field) = regroup_rows by field node.topics.number (row_in olds f) (row_in news f)
+sends_of rules nodes stores part a items olds news node (ForeignKeyJoin l r fk kind set) =
+    join_here rules stores part node fk l r olds news (step_key a.item.message) ++ answer_here nodes stores node.topics.number r (arrived a (Subscriptions node.topics.number))
+sends_of rules nodes stores part a items olds news node _ = []
 
-abbrev pub number_to : TaskNode → Topic → ℕ
-number_to node (Subscriptions n) = node.topics.subscriptions
-number_to node (Responses n) = node.topics.responses
-number_to node _ = node.topics.repartition
+-- the places of what is sent: of a group, by the whole key; of a foreign key, as the right side's keys are spread
+abbrev pub grouped_at : TaskNode → Key → PartId
+grouped_at node g = record { topic = node.topics.repartition; part = part_in (spread_part None g) node.topics.partitions }
 
-abbrev pub parts_to : TaskNode → Topic → ℕ
-parts_to node (Subscriptions n) = node.topics.right_partitions
-parts_to node _ = node.topics.partitions
+abbrev pub asked_at : TaskNode → Key → PartId
+asked_at node b = record { topic = node.topics.subscriptions; part = part_in (spread_part node.right_before b) node.topics.right_partitions }
 
-abbrev pub sent_by : TaskNode → ℕ → Sent → PartId × Rec
-sent_by node time x = (record { topic = number_to node x.topic; part = part_in x.key (parts_to node x.topic) }, rec_of (record { message = x.message; time = time }))
+-- of a response to a left key: the partition that was named, where the topic has it; where none was named, by the whole key
+abbrev pub answered_part : TaskNode → Key → Option ℕ → Option ℕ
+answered_part node k None = Some (part_in (spread_part None k) node.topics.partitions)
+answered_part node k (Some i) = cond (nat_lt i node.topics.partitions) (Some i) None
+
+abbrev pub answered_at : TaskNode → Key → Option ℕ → Option PartId
+answered_at node k named = option_map (λ i. record { topic = node.topics.responses; part = i }) (answered_part node k named)
+
+abbrev pub place_by : TaskNode → Topic → Key → To → Option PartId
+place_by node t k (Named named) = answered_at node k named
+place_by node (Subscriptions n) k ByKey = Some (asked_at node k)
+place_by node _ k ByKey = Some (grouped_at node k)
+
+abbrev pub sent_at : ℕ → Message → Option PartId → List (PartId × Rec)
+sent_at time m None = []
+sent_at time m (Some at) = (at, rec_of (record { message = m; time = time })) ∷ []
+
+abbrev pub sent_by : TaskNode → ℕ → Sent → List (PartId × Rec)
+sent_by node time x = sent_at time x.message (place_by node x.topic x.key x.to)
 
 -- a subscription as it is written
 abbrev pub asked_by : TaskNode → ℕ → Key × SubscriptionValue → PartId × Rec
-asked_by node time x = (record { topic = node.topics.subscriptions; part = part_in x.0 node.topics.right_partitions }, record { key = Some x.0; value = Some (subscription_bytes x.1); ts = time })
+asked_by node time x = (asked_at node x.0, record { key = Some x.0; value = Some (subscription_bytes x.1); ts = time })
 
-abbrev pub sends_by : Rules → List TaskNode → ByteStores → Arrival → (ℕ → Option StreamItem) → Values → Values → TaskNode → List (PartId × Rec)
-sends_by rules nodes stores a items olds news node = map (sent_by node a.item.time) (sends_of rules nodes stores a items olds news node node.kind)
+abbrev pub sends_by : Rules → List TaskNode → ByteStores → ℕ → Arrival → (ℕ → Option StreamItem) → Values → Values → TaskNode → List (PartId × Rec)
+sends_by rules nodes stores part a items olds news node = flat_map (sent_by node a.item.time) (sends_of rules nodes stores part a items olds news node node.kind)
 
 -- of these nodes, among all
-abbrev pub all_sends : Rules → List TaskNode → ByteStores → Arrival → (ℕ → Option StreamItem) → Values → Values → List TaskNode → List (PartId × Rec)
-all_sends rules all stores a items olds news [] = []
-all_sends rules all stores a items olds news (node ∷ nodes) = sends_by rules all stores a items olds news node ++ all_sends rules all stores a items olds news nodes
+abbrev pub all_sends : Rules → List TaskNode → ByteStores → ℕ → Arrival → (ℕ → Option StreamItem) → Values → Values → List TaskNode → List (PartId × Rec)
+all_sends rules all stores part a items olds news [] = []
+all_sends rules all stores part a items olds news (node ∷ nodes) = sends_by rules all stores part a items olds news node ++ all_sends rules all stores part a items olds news nodes
 
 abbrev pub told_by : TaskNode → ℕ → ℕ → Message → PartId × Rec
 told_by node part time m = (record { topic = node.topics.changelog; part = part }, rec_of (record { message = m; time = time }))
@@ -148,12 +172,12 @@ counts_at stores a items node = counts_by stores a items node node.kind
 abbrev pub at_part : ℕ → ℕ → Rec → PartId × Rec
 at_part log part r = (record { topic = log; part = part }, r)
 
--- the hash at a foreign key and a left key
-abbrev pub hash_found : ByteStores → TaskNode → Key → Key → Option ℕ
-hash_found stores node b k = cond node.topics.has_right (fin.get (stores node.topics.hash_changelog) (subscription_key b k) >>= hash_from) None
+-- the subscriber at a foreign key and a left key
+abbrev pub subscriber_found : ByteStores → TaskNode → Key → Key → Option Subscriber
+subscriber_found stores node b k = cond node.topics.has_right (fin.get (stores node.topics.hash_changelog) (subscription_key b k) >>= subscriber_from) None
 
 abbrev pub hash_here : ByteStores → TaskNode → Option Message → List Message
-hash_here stores node (Some (Asked b k q)) = cond (same_option nat_eq (hash_found stores node b k) (subscribed q)) [] (KeptHash b k (subscribed q) ∷ [])
+hash_here stores node (Some (Asked b k q)) = cond (same_option same_subscriber (subscriber_found stores node b k) (subscribed q)) [] (KeptHash b k (subscribed q) ∷ [])
 hash_here stores node _ = []
 
 abbrev pub hash_told : TaskNode → ℕ → ℕ → Message → PartId × Rec
@@ -175,7 +199,7 @@ late_of stores a items (node ∷ nodes) = (counts_at stores a items node).late +
 
 -- all that a step makes: sends, then changelog records
 abbrev pub made_with : Rules → List TaskNode → ByteStores → ℕ → Arrival → (ℕ → Option StreamItem) → Values → Values → List (PartId × Rec)
-made_with rules nodes stores part a items olds news = all_sends rules nodes stores a items olds news nodes ++ all_recs part stores a items olds news nodes
+made_with rules nodes stores part a items olds news = all_sends rules nodes stores part a items olds news nodes ++ all_recs part stores a items olds news nodes
 
 abbrev pub made_at : Rules → List TaskNode → ByteStores → ℕ → Arrival → (ℕ → Option StreamItem) → Values → Option Key → List (PartId × Rec)
 made_at rules nodes stores part a items olds key = made_with rules nodes stores part a items olds (value_in olds (new_list rules a items olds key nodes))

@@ -1,30 +1,33 @@
 //! The sides of a join on a foreign key (KIP-213).
-ghost use Rattle.std.specs.Prelude.{◌≡◌, ◌++◌, ◌∷◌, [], IfOk, OnOk, Some, None, map, option_map, nat_eq};
+ghost use Rattle.std.specs.Prelude.{◌≡◌, ◌≤◌, ◌++◌, ◌∷◌, [], IfOk, OnOk, Some, None, map, option_map, option_copied, nat_eq};
+ghost use Rattle.std.specs.List.{flat_map};
 ghost use Rattle.ks_expr.specs.Terms.{set_of};
 ghost use Rattle.ks_plan.specs.declared.node.Topic.TheVariants.{Subscriptions, Responses};
-ghost use Rattle.ks_def_tasks.specs.Messages.{shown, subscription_of, same_option};
-ghost use Rattle.ks_def_tasks.specs.Foreign.{subscriptions as asked_of, is_direct as direct_is, key_of_row, direct_row, subscribed, answer_all};
+ghost use Rattle.ks_def_tasks.specs.Messages.{shown, subscription_of, same_option, same_subscriber};
+ghost use Rattle.ks_def_tasks.specs.Foreign.{subscriptions as asked_of, is_direct as direct_is, key_of_row, direct_row, answer_to, answer_all};
 ghost use Rattle.ks_def_tasks.specs.Step.{arrived, step_key, row_in, direct, responded, send_subscriptions, send_responses, answer_of};
-ghost use Rattle.ks_wire.specs.Spelling.{hash_bytes};
-ghost use Rattle.ks_def_tasks.specs.Messages.Message.{Asked, KeptHash};
+ghost use Rattle.ks_wire.specs.Spelling.{subscriber_bytes};
+ghost use Rattle.ks_wire.specs.Values.{IsPart};
+ghost use Rattle.ks_def_tasks.specs.Messages.Message.{Asked, Answered, KeptHash};
 ghost use Rattle.ks_fk_left.specs.Asked.{told};
 ghost use Rattle.ks_def_lookups.specs.Kept.{kept_under};
 ghost use Rattle.ks_def_tasks.specs.Rules.{rules_of};
 ghost use Rattle.ks_task_nodes.specs.Nodes.{node_view};
 ghost use Rattle.ks_task_nodes.specs.Records.{arrival_of, message_of};
 ghost use Rattle.ks_task_nodes.specs.Stored.{stored_in, value_view, in_list};
-ghost use Rattle.ks_task_step.specs.Steps.{olds_in, news_in, old_list, sent_by, asked_by, hashes_at, hash_found, hash_here, hash_told, hashed_by, left_sends, right_sends, join_here, answer_here, foreign_value as foreign_stored};
+ghost use Rattle.ks_task_step.specs.Steps.{olds_in, news_in, old_list, named_by, asked_at, answered_part, answered_at, sent_at, sent_by, asked_by, kept_at, subscriber_found, hash_here, hash_told, hashed_by, left_sends, right_sends, join_here, answer_here, foreign_value as foreign_stored};
 ghost use Rattle.ks_store.specs.Changelogs.{stores_in};
 
 use crate::hashes::new_hash;
-use crate::sends::send_to;
+use crate::sends::{part_for, send_to};
 use crate::step::{NodeValues, Step, change_at, is_changed, new_row, old_row, stored_value};
 use crate::values::value_of_row;
+use ks_expr::{Fk, fk_of};
 use ks_fk_left::{is_answer_to, subscriptions_by};
-use ks_fk_right::{answer, on_right};
+use ks_fk_right::{answer, kept_of, on_right};
 use ks_hash::Hash128;
 use ks_plan::Topic;
-use ks_row::{Blob, Change, Key, Name, PartId, Rec, Row, key_of_field};
+use ks_row::{Blob, Change, Key, PartId, Rec, Row};
 use ks_store::{Changelog, OrderedStore, find_bytes};
 use ks_table_ops::join_rows;
 use ks_task_nodes::{
@@ -32,18 +35,23 @@ use ks_task_nodes::{
     stored_row,
 };
 use ks_wire::{
-    Response, Subscription, read_hash, write_hash, write_response, write_subscription,
-    write_subscription_key,
+    Response, Subscriber, Subscription, read_subscriber, write_response, write_subscriber,
+    write_subscription, write_subscription_key,
 };
 use std::alloc::{AllocError, Global};
 
 // ---- the result
 
-fn foreign_key(alloc: Global, name: &Name, row: &Option<Row>) -> Result<Option<Key>, AllocError>
-    ensures { IfOk result (λ k. k ≡ key_of_row name.now row.now) }
+fn foreign_key(
+    alloc: Global,
+    fk: &Fk,
+    key: &Key,
+    row: &Option<Row>,
+) -> Result<Option<Key>, AllocError>
+    ensures { IfOk result (λ k. k ≡ key_of_row fk.now key.now row.now) }
 {
     match row {
-        Some(row) => key_of_field(alloc, row, name.as_str().as_bytes()),
+        Some(row) => fk_of(alloc, fk, key, row),
         None => Ok(None),
     }
 }
@@ -53,17 +61,18 @@ fn foreign_key(alloc: Global, name: &Name, row: &Option<Row>) -> Result<Option<K
 fn is_direct(
     alloc: Global,
     join: &ForeignKeyJoin<'_>,
+    key: &Key,
     values: &NodeValues<'_, '_>,
     new: &Option<Row>,
 ) -> Result<bool, AllocError>
-    ensures { IfOk result (λ b. b ≡ direct_is join.now.foreign_key.now
+    ensures { IfOk result (λ b. b ≡ direct_is join.now.foreign_key.now key.now
         (row_in (olds_in values.now) join.now.left) new.now) }
 {
     match new {
-        Some(_) => Ok(foreign_key(alloc, join.foreign_key, new)?.is_none()),
+        Some(_) => Ok(foreign_key(alloc, join.foreign_key, key, new)?.is_none()),
         None => {
             let old = old_row(alloc, values, join.left)?;
-            Ok(foreign_key(alloc, join.foreign_key, &old)?.is_none())
+            Ok(foreign_key(alloc, join.foreign_key, key, &old)?.is_none())
         }
     }
 }
@@ -85,15 +94,20 @@ fn left_alone(
 fn direct_value<'a>(
     alloc: Global,
     join: &ForeignKeyJoin<'_>,
+    key: Option<&Key>,
     old: Option<StoredValue<'a>>,
     values: &NodeValues<'_, '_>,
 ) -> Result<NewValue<'a>, AllocError>
-    ensures { IfOk result (λ v. value_view v ≡ direct join.now.foreign_key.now join.now.kind
-        (set_of join.now.set.now) (row_in (olds_in values.now) join.now.left)
-        (row_in (news_in values.now) join.now.left) (stored_in old.entry)) }
+    ensures { IfOk result (λ v. value_view v ≡ direct join.now.foreign_key.now
+        (option_copied key.entry) join.now.kind (set_of join.now.set.now)
+        (row_in (olds_in values.now) join.now.left) (row_in (news_in values.now) join.now.left)
+        (stored_in old.entry)) }
 {
+    let Some(key) = key else {
+        return Ok(NewValue::Unchanged(old));
+    };
     let now = new_row(alloc, values, join.left)?;
-    if is_direct(alloc, join, values, &now)? {
+    if is_direct(alloc, join, key, values, &now)? {
         Ok(value_of_row(left_alone(alloc, join, &now)?))
     } else {
         Ok(NewValue::Unchanged(old))
@@ -137,18 +151,65 @@ pub fn foreign_value<'a, H: Hash128>(
     stamped: &StampedRecord<'_>,
 ) -> Result<NewValue<'a>, AllocError>
     ensures { IfOk result (λ v. value_view v ≡ foreign_stored (rules_of H.hash_of)
-        join.now.foreign_key.now join.now.kind (set_of join.now.set.now) (olds_in values.now)
-        (news_in values.now) join.now.left (arrived (arrival_of stamped.now) (Responses number))
-        (stored_in old.entry)) }
+        join.now.foreign_key.now (step_key (message_of stamped.now.payload)) join.now.kind
+        (set_of join.now.set.now) (olds_in values.now) (news_in values.now) join.now.left
+        (arrived (arrival_of stamped.now) (Responses number)) (stored_in old.entry)) }
 {
     if is_changed(alloc, values, join.left)? {
-        direct_value(alloc, join, old, values)
+        direct_value(alloc, join, stamped.key(), old, values)
     } else {
         responded_value::<H>(alloc, number, join, old, values, stamped)
     }
 }
 
 // ---- what a changed row of a side sends
+
+// The partition that a join's subscriptions name, where they name one.
+fn named_partition(node: &ProcessorNode<'_>, partition: u8) -> Option<u8>
+    requires { partition ≤ 63 }
+    ensures named { result ≡ named_by (node_view node.now) partition }
+    ensures few { IsPart result }
+{
+    if node.names_partition {
+        Some(partition)
+    } else {
+        None
+    }
+}
+
+// The place of a foreign key among those of a join's subscriptions.
+fn subscription_place(node: &ProcessorNode<'_>, foreign: &Key) -> PartId
+    ensures { result ≡ asked_at (node_view node.now) foreign.now }
+{
+    PartId {
+        topic: node.topics.subscriptions,
+        part: part_for(node.right_before, foreign, node.topics.right_partitions),
+    }
+}
+
+// The partition of a response to a left key: the one that was named, where the topic has it; where none was named, that of the key.
+fn response_part(node: &ProcessorNode<'_>, left: &Key, named: Option<u8>) -> Option<u8>
+    ensures { result ≡ answered_part (node_view node.now) left.now named }
+{
+    let Some(part) = named else {
+        return Some(part_for(None, left, node.topics.partitions));
+    };
+    if part < node.topics.partitions {
+        Some(part)
+    } else {
+        None
+    }
+}
+
+fn response_place(node: &ProcessorNode<'_>, left: &Key, named: Option<u8>) -> Option<PartId>
+    ensures { result ≡ answered_at (node_view node.now) left.now named }
+{
+    let part = response_part(node, left, named)?;
+    Some(PartId {
+        topic: node.topics.responses,
+        part,
+    })
+}
 
 fn push_subscriptions(
     alloc: Global,
@@ -160,12 +221,31 @@ fn push_subscriptions(
     ensures { OnOk result (out.new.items ≡ out.old.items
         ++ map (asked_by (node_view node.now) time) asked.now) }
 {
-    let topics = node.topics;
     for (foreign, subscription) in asked {
         let value = write_subscription(alloc, subscription)?;
-        let to = topics.right_partitions;
-        out.push(send_to(alloc, topics.subscriptions, to, foreign, value, time)?)?;
+        let to = subscription_place(node, foreign);
+        out.push(send_to(alloc, to, foreign, value, time)?)?;
     }
+    Ok(())
+}
+
+// A response to a left key, where it has a place.
+fn push_response(
+    alloc: Global,
+    out: &mut Vec<(PartId, Rec)>,
+    to: Option<PartId>,
+    left: &Key,
+    response: &Response,
+    time: u64,
+) -> Result<(), AllocError>
+    ensures { OnOk result (out.new.items ≡ out.old.items
+        ++ sent_at time (Answered left.now response.now) to) }
+{
+    let Some(to) = to else {
+        return Ok(());
+    };
+    let value = write_response(alloc, response)?;
+    out.push(send_to(alloc, to, left, value, time)?)?;
     Ok(())
 }
 
@@ -173,24 +253,16 @@ fn push_responses(
     alloc: Global,
     out: &mut Vec<(PartId, Rec)>,
     node: &ProcessorNode<'_>,
-    responses: &[(Key, Response)],
+    responses: &[(Key, Response, Option<u8>)],
     time: u64,
 ) -> Result<(), AllocError>
     ensures { OnOk result (out.new.items ≡ out.old.items
-        ++ map (sent_by (node_view node.now) time)
+        ++ flat_map (sent_by (node_view node.now) time)
         (send_responses node.now.topics.number responses.now)) }
 {
-    let topics = node.topics;
-    for (left, response) in responses {
-        let value = write_response(alloc, response)?;
-        out.push(send_to(
-            alloc,
-            topics.responses,
-            topics.partitions,
-            left,
-            value,
-            time,
-        )?)?;
+    for (left, response, named) in responses {
+        let to = response_place(node, left, *named);
+        push_response(alloc, out, to, left, response, time)?;
     }
     Ok(())
 }
@@ -199,16 +271,18 @@ fn push_responses(
 fn asked_by_left<H: Hash128>(
     alloc: Global,
     join: &ForeignKeyJoin<'_>,
+    part: Option<u8>,
     values: &NodeValues<'_, '_>,
     key: &Key,
 ) -> Result<Vec<(Key, Subscription)>, AllocError>
+    requires part { IsPart part }
     ensures { IfOk result (λ v. v.items ≡ told key.now
-        (asked_of (rules_of H.hash_of).hash join.now.foreign_key.now
+        (asked_of (rules_of H.hash_of).hash join.now.foreign_key.now key.now part
         (row_in (olds_in values.now) join.now.left) (row_in (news_in values.now) join.now.left))) }
 {
     let hash = new_hash::<H>(alloc, values, join.left)?;
     let change = change_at(alloc, values, key.clone()?, join.left)?;
-    let (asked, _) = subscriptions_by::<H>(alloc, join.foreign_key, &change, hash)?;
+    let (asked, _) = subscriptions_by::<H>(alloc, join.foreign_key, part, &change, hash)?;
     Ok(asked)
 }
 
@@ -217,7 +291,7 @@ fn responses_in(
     changelogs: &[Changelog],
     number: u16,
     change: &Change,
-) -> Result<Vec<(Key, Response)>, AllocError>
+) -> Result<Vec<(Key, Response, Option<u8>)>, AllocError>
     ensures { IfOk result (λ v. v.items ≡ answer_all change.now.new
         (kept_under change.now.key (stores_in changelogs.now number))) }
 {
@@ -237,9 +311,9 @@ fn responses_to(
     changelogs: &[Changelog],
     node: &ProcessorNode<'_>,
     change: &Change,
-) -> Result<Vec<(Key, Response)>, AllocError>
+) -> Result<Vec<(Key, Response, Option<u8>)>, AllocError>
     ensures { IfOk result (λ v. v.items ≡ answer_all change.now.new
-        (hashes_at (stores_in changelogs.now) (node_view node.now) change.now.key)) }
+        (kept_at (stores_in changelogs.now) (node_view node.now) change.now.key)) }
 {
     if node.topics.has_right {
         responses_in(alloc, changelogs, node.topics.hash_changelog, change)
@@ -258,9 +332,9 @@ fn push_right(
     time: u64,
 ) -> Result<(), AllocError>
     ensures { OnOk result (out.new.items ≡ out.old.items
-        ++ map (sent_by (node_view node.now) time)
+        ++ flat_map (sent_by (node_view node.now) time)
         (send_responses node.now.topics.number
-        (answer_all change.now.new (hashes_at (stores_in changelogs.now) (node_view node.now)
+        (answer_all change.now.new (kept_at (stores_in changelogs.now) (node_view node.now)
         change.now.key)))) }
 {
     let responses = responses_to(alloc, changelogs, node, change)?;
@@ -271,20 +345,23 @@ fn push_right(
 fn push_left_if<H: Hash128>(
     alloc: Global,
     out: &mut Vec<(PartId, Rec)>,
+    step: &Step<'_>,
     node: &ProcessorNode<'_>,
     join: &ForeignKeyJoin<'_>,
     values: &NodeValues<'_, '_>,
     key: &Key,
-    time: u64,
 ) -> Result<(), AllocError>
+    requires { step.now.partition ≤ 63 }
     ensures { OnOk result (out.new.items ≡ out.old.items
-        ++ map (sent_by (node_view node.now) time)
-        (left_sends (rules_of H.hash_of) (node_view node.now) join.now.foreign_key.now key.now
-        (row_in (olds_in values.now) join.now.left) (row_in (news_in values.now) join.now.left))) }
+        ++ flat_map (sent_by (node_view node.now) step.now.stamped.now.time)
+        (left_sends (rules_of H.hash_of) step.now.partition (node_view node.now)
+        join.now.foreign_key.now key.now (row_in (olds_in values.now) join.now.left)
+        (row_in (news_in values.now) join.now.left))) }
 {
     if is_changed(alloc, values, join.left)? {
-        let asked = asked_by_left::<H>(alloc, join, values, key)?;
-        push_subscriptions(alloc, out, node, &asked, time)
+        let part = named_partition(node, step.partition);
+        let asked = asked_by_left::<H>(alloc, join, part, values, key)?;
+        push_subscriptions(alloc, out, node, &asked, step.stamped.time)
     } else {
         Ok(())
     }
@@ -300,7 +377,7 @@ fn push_right_if(
     key: &Key,
 ) -> Result<(), AllocError>
     ensures { OnOk result (out.new.items ≡ out.old.items
-        ++ map (sent_by (node_view node.now) step.now.stamped.now.time)
+        ++ flat_map (sent_by (node_view node.now) step.now.stamped.now.time)
         (right_sends (stores_in step.now.changelogs.now) (node_view node.now) key.now
         (row_in (olds_in values.now) right) (row_in (news_in values.now) right))) }
 {
@@ -319,7 +396,7 @@ fn push_right_if(
     }
 }
 
-/// What both sides send of their changed rows at the step's key. Want of memory is the one error.
+/// What both sides send of their changed rows at the step's key; the step's partition is at most 63. Want of memory is the one error.
 #[tactic(auto, using(crate::proofs::Asking::both_sent))]
 pub fn push_join<H: Hash128>(
     alloc: Global,
@@ -329,16 +406,18 @@ pub fn push_join<H: Hash128>(
     join: &ForeignKeyJoin<'_>,
     values: &NodeValues<'_, '_>,
 ) -> Result<(), AllocError>
+    requires { step.now.partition ≤ 63 }
     ensures { OnOk result (out.new.items ≡ out.old.items
-        ++ map (sent_by (node_view node.now) step.now.stamped.now.time)
-        (join_here (rules_of H.hash_of) (stores_in step.now.changelogs.now) (node_view node.now)
-        join.now.foreign_key.now join.now.left join.now.right (olds_in values.now)
-        (news_in values.now) (step_key (message_of step.now.stamped.now.payload)))) }
+        ++ flat_map (sent_by (node_view node.now) step.now.stamped.now.time)
+        (join_here (rules_of H.hash_of) (stores_in step.now.changelogs.now) step.now.partition
+        (node_view node.now) join.now.foreign_key.now join.now.left join.now.right
+        (olds_in values.now) (news_in values.now)
+        (step_key (message_of step.now.stamped.now.payload)))) }
 {
     let Some(key) = step.stamped.key() else {
         return Ok(());
     };
-    push_left_if::<H>(alloc, out, node, join, values, key, step.stamped.time)?;
+    push_left_if::<H>(alloc, out, step, node, join, values, key)?;
     push_right_if(alloc, out, step, node, join.right, values, key)
 }
 
@@ -361,32 +440,27 @@ fn right_row(
     }
 }
 
-fn push_response(
+// The answer to a subscription, where there is one, to the partition that it names.
+fn push_answer_to(
     alloc: Global,
     out: &mut Vec<(PartId, Rec)>,
     node: &ProcessorNode<'_>,
-    left: &Key,
-    response: Option<Response>,
+    subscription: &Subscription,
+    right: Option<&Row>,
     time: u64,
 ) -> Result<(), AllocError>
     ensures { OnOk result (out.new.items ≡ out.old.items
-        ++ map (sent_by (node_view node.now) time)
-        (send_responses node.now.topics.number (answer_of left.now response))) }
+        ++ flat_map (sent_by (node_view node.now) time)
+        (send_responses node.now.topics.number (answer_of subscription.now.left
+        subscription.now.part (answer_to (subscription_of subscription.now)
+        (option_copied right.entry))))) }
 {
-    let Some(response) = response else {
+    let Some(response) = answer(subscription, right)? else {
         return Ok(());
     };
-    let topics = node.topics;
-    let value = write_response(alloc, &response)?;
-    out.push(send_to(
-        alloc,
-        topics.responses,
-        topics.partitions,
-        left,
-        value,
-        time,
-    )?)?;
-    Ok(())
+    let left = subscription.left();
+    let to = response_place(node, left, subscription.part());
+    push_response(alloc, out, to, left, &response, time)
 }
 
 /// The answer to a subscription, with the right row of the moment. Want of memory is the one error.
@@ -398,7 +472,7 @@ pub fn push_answer(
     right: u8,
 ) -> Result<(), AllocError>
     ensures { OnOk result (out.new.items ≡ out.old.items
-        ++ map (sent_by (node_view node.now) step.now.stamped.now.time)
+        ++ flat_map (sent_by (node_view node.now) step.now.stamped.now.time)
         (answer_here (map node_view step.now.nodes.now) (stores_in step.now.changelogs.now)
         node.now.topics.number right (arrived (arrival_of step.now.stamped.now)
         (Subscriptions node.now.topics.number)))) }
@@ -412,53 +486,36 @@ pub fn push_answer(
             subscription,
         } => {
             let row = right_row(alloc, step, right, foreign)?;
-            let response = answer(subscription, row.as_ref())?;
-            push_response(
-                alloc,
-                out,
-                node,
-                subscription.left(),
-                response,
-                step.stamped.time,
-            )
+            let time = step.stamped.time;
+            push_answer_to(alloc, out, node, subscription, row.as_ref(), time)
         }
         _ => Ok(()),
     }
 }
 
-// ---- the hash of a subscription
+// ---- what is kept of a subscription
 
-// The hash that is kept: the instructions 2 and 3 put it, the others delete.
-fn subscribed_hash(subscription: &Subscription) -> Option<u128>
-    ensures { result ≡ subscribed (subscription_of subscription.now) }
-{
-    match subscription.instruction() {
-        0 | 1 => None,
-        _ => subscription.hash(),
-    }
-}
-
-fn stored_hash(
+fn stored_subscriber(
     alloc: Global,
     changelogs: &[Changelog],
     node: &ProcessorNode<'_>,
     foreign: &Key,
     left: &Key,
-) -> Result<Option<u128>, AllocError>
-    ensures { IfOk result (λ h. h ≡ hash_found (stores_in changelogs.now) (node_view node.now)
-        foreign.now left.now) }
+) -> Result<Option<Subscriber>, AllocError>
+    ensures { IfOk result (λ s. s ≡ subscriber_found (stores_in changelogs.now)
+        (node_view node.now) foreign.now left.now) }
 {
     if !node.topics.has_right {
         return Ok(None);
     }
     let key = write_subscription_key(alloc, foreign, left)?;
     match find_bytes(changelogs, node.topics.hash_changelog, key.as_slice()) {
-        Some(bytes) => Ok(read_hash(bytes)),
+        Some(bytes) => Ok(read_subscriber(bytes)),
         None => Ok(None),
     }
 }
 
-fn is_same_hash(a: Option<u128>, b: Option<u128>) -> bool
+fn is_same_part(a: Option<u8>, b: Option<u8>) -> bool
     ensures { result ≡ same_option nat_eq a b }
 {
     match (a, b) {
@@ -468,30 +525,43 @@ fn is_same_hash(a: Option<u128>, b: Option<u128>) -> bool
     }
 }
 
-fn hash_value(alloc: Global, hash: Option<u128>) -> Result<Option<Blob>, AllocError>
-    ensures { IfOk result (λ v. v ≡ option_map hash_bytes hash) }
+fn is_same_subscriber(a: Option<Subscriber>, b: Option<Subscriber>) -> bool
+    ensures { result ≡ same_option same_subscriber a b }
 {
-    match hash {
-        Some(hash) => Ok(Some(write_hash(alloc, hash)?)),
+    match (a, b) {
+        (None, None) => true,
+        (Some(a), Some(b)) => a.hash == b.hash && is_same_part(a.part, b.part),
+        _ => false,
+    }
+}
+
+fn subscriber_value(
+    alloc: Global,
+    subscriber: Option<Subscriber>,
+) -> Result<Option<Blob>, AllocError>
+    ensures { IfOk result (λ v. v ≡ option_map subscriber_bytes subscriber) }
+{
+    match subscriber {
+        Some(subscriber) => Ok(Some(write_subscriber(alloc, subscriber)?)),
         None => Ok(None),
     }
 }
 
-fn push_new_hash(
+fn push_new_subscriber(
     alloc: Global,
     out: &mut Vec<(PartId, Rec)>,
     step: &Step<'_>,
     node: &ProcessorNode<'_>,
     foreign: &Key,
     left: &Key,
-    hash: Option<u128>,
+    subscriber: Option<Subscriber>,
 ) -> Result<(), AllocError>
     ensures { OnOk result (out.new.items ≡ out.old.items
         ++ hash_told (node_view node.now) step.now.partition step.now.stamped.now.time
-        (KeptHash foreign.now left.now hash) ∷ []) }
+        (KeptHash foreign.now left.now subscriber) ∷ []) }
 {
     let key = write_subscription_key(alloc, foreign, left)?;
-    let value = hash_value(alloc, hash)?;
+    let value = subscriber_value(alloc, subscriber)?;
     out.push((
         PartId {
             topic: node.topics.hash_changelog,
@@ -506,7 +576,7 @@ fn push_new_hash(
     Ok(())
 }
 
-fn push_other_hash(
+fn push_other_subscriber(
     alloc: Global,
     out: &mut Vec<(PartId, Rec)>,
     step: &Step<'_>,
@@ -519,16 +589,17 @@ fn push_other_hash(
         (hash_here (stores_in step.now.changelogs.now) (node_view node.now)
         (Some (Asked foreign.now subscription.now.left (subscription_of subscription.now))))) }
 {
-    let old = stored_hash(alloc, step.changelogs, node, foreign, subscription.left())?;
-    let new = subscribed_hash(subscription);
-    if is_same_hash(old, new) {
+    let left = subscription.left();
+    let old = stored_subscriber(alloc, step.changelogs, node, foreign, left)?;
+    let new = kept_of(subscription);
+    if is_same_subscriber(old, new) {
         return Ok(());
     }
-    push_new_hash(alloc, out, step, node, foreign, subscription.left(), new)
+    push_new_subscriber(alloc, out, step, node, foreign, left, new)
 }
 
-/// The changelog record of a subscription's hash, where it is another than was kept. Want of memory is the one error.
-pub fn push_hash(
+/// The changelog record of what is kept of a subscription, where it is other than it was. Want of memory is the one error.
+pub fn push_subscriber(
     alloc: Global,
     out: &mut Vec<(PartId, Rec)>,
     step: &Step<'_>,
@@ -545,7 +616,7 @@ pub fn push_hash(
         Payload::Subscription {
             foreign,
             subscription,
-        } => push_other_hash(alloc, out, step, node, foreign, subscription),
+        } => push_other_subscriber(alloc, out, step, node, foreign, subscription),
         _ => Ok(()),
     }
 }

@@ -1,5 +1,5 @@
 //! One whole step.
-ghost use Rattle.std.specs.Prelude.{◌≡◌, ◌+◌, ◌++◌, IfOk, OnOk, map};
+ghost use Rattle.std.specs.Prelude.{◌≡◌, ◌≤◌, ◌+◌, ◌++◌, IfOk, OnOk, map};
 ghost use Rattle.ks_def_tasks.specs.Step.{step_key};
 ghost use Rattle.ks_history.specs.Faithful.{capped};
 ghost use Rattle.ks_def_lookups.specs.Lists.{item_in};
@@ -11,7 +11,7 @@ ghost use Rattle.ks_task_step.specs.Steps.{items_in, olds_in, news_in, old_list,
 ghost use Rattle.ks_store.specs.Changelogs.{stores_in};
 
 use crate::counts::{count_of, push_recs};
-use crate::foreign::push_hash;
+use crate::foreign::push_subscriber;
 use crate::sends::sends_of;
 use crate::step::{NodeValues, Step, StepOutput, old_value};
 use crate::streams::passed_items;
@@ -91,7 +91,7 @@ fn push_changelog_records(
     push_changelog_record(alloc, out, step, node, values)?;
     let (more, recs) = count_of(alloc, step, node, values)?;
     push_recs(out, node.topics.changelog, step.partition, &recs)?;
-    push_hash(alloc, out, step, node)?;
+    push_subscriber(alloc, out, step, node)?;
     Ok(late.saturating_add(more))
 }
 
@@ -126,6 +126,7 @@ fn output_of<H: Hash128>(
     step: &Step<'_>,
     values: &NodeValues<'_, '_>,
 ) -> Result<StepOutput, AllocError>
+    requires { step.now.partition ≤ 63 }
     ensures records { IfOk result (λ m. m.records.items
         ≡ made_with (rules_of H.hash_of) (map node_view step.now.nodes.now)
         (stores_in step.now.changelogs.now) step.now.partition (arrival_of step.now.stamped.now)
@@ -145,6 +146,7 @@ fn process_stored<'i, 's, H: Hash128>(
     items: &'i [Option<Item>],
     olds: &'i [Option<StoredValue<'s>>],
 ) -> Result<StepOutput, AllocError>
+    requires { step.now.partition ≤ 63 }
     ensures records { IfOk result (λ m. m.records.items
         ≡ made_at (rules_of H.hash_of) (map node_view step.now.nodes.now)
         (stores_in step.now.changelogs.now) step.now.partition (arrival_of step.now.stamped.now)
@@ -168,6 +170,7 @@ fn process_items<'i, 's, H: Hash128>(
     step: &Step<'s>,
     items: &'i [Option<Item>],
 ) -> Result<StepOutput, AllocError>
+    requires { step.now.partition ≤ 63 }
     ensures records { IfOk result (λ m. m.records.items
         ≡ made_at (rules_of H.hash_of) (map node_view step.now.nodes.now)
         (stores_in step.now.changelogs.now) step.now.partition (arrival_of step.now.stamped.now)
@@ -183,8 +186,9 @@ fn process_items<'i, 's, H: Hash128>(
 }
 
 /// All that the nodes make of a record in one step: what is sent, then the changelog records, and how many pairs of an item and a window
-/// were late, up to the greatest number. Rows are hashed by H. Want of memory is the one error.
+/// were late, up to the greatest number. Rows are hashed by H; the step's partition is at most 63. Want of memory is the one error.
 pub fn process<'s, H: Hash128>(alloc: Global, step: &Step<'s>) -> Result<StepOutput, AllocError>
+    requires { step.now.partition ≤ 63 }
     ensures records { IfOk result (λ m. m.records.items
         ≡ made_of (rules_of H.hash_of) (map node_view step.now.nodes.now)
         (stores_in step.now.changelogs.now) step.now.partition (arrival_of step.now.stamped.now)) }

@@ -1,17 +1,20 @@
 //! What the nodes of a step send to repartition topics and between the sides of joins.
-ghost use Rattle.std.specs.Prelude.{◌≡◌, ◌++◌, IfOk, OnOk, Some, map, option_copied};
+ghost use Rattle.std.specs.Prelude.{◌≡◌, ◌≤◌, ◌++◌, IfOk, OnOk, Some, map, option_copied};
+ghost use Rattle.std.specs.List.{flat_map};
+ghost use Rattle.ks_expr.specs.Keys.{spread_part};
 ghost use Rattle.ks_query.specs.Streams.{group_key};
 ghost use Rattle.ks_def_tasks.specs.Step.{row_in, regroup, regroup_rows, send_deltas};
 ghost use Rattle.ks_def_tasks.specs.Rules.{rules_of};
 ghost use Rattle.ks_task_nodes.specs.Nodes.{node_view};
 ghost use Rattle.ks_task_nodes.specs.Records.{arrival_of};
 ghost use Rattle.ks_task_nodes.specs.Stored.{item_view};
-ghost use Rattle.ks_task_step.specs.Steps.{items_in, olds_in, news_in, part_in, sent_by, sends_by, all_sends};
+ghost use Rattle.ks_task_step.specs.Steps.{items_in, olds_in, news_in, part_in, grouped_at, sent_by, sends_by, all_sends};
 ghost use Rattle.ks_store.specs.Changelogs.{stores_in};
 
 use crate::foreign::{push_answer, push_join};
 use crate::step::{NodeValues, Step, change_at, is_changed};
 use ks_agg::table_parts;
+use ks_expr::spread_part;
 use ks_hash::{Hash128, murmur2};
 use ks_row::{Blob, Change, Key, Name, PartId, Rec, encode, key_of_field};
 use ks_task_nodes::{Item, Processor, ProcessorNode, copy_key, item_at};
@@ -19,7 +22,7 @@ use ks_wire::{Delta, write_delta};
 use std::alloc::{AllocError, Global};
 
 // The partition of a key, as `partition_of` of ks_hash gives it, for any number of partitions; 0 of none.
-fn part_for(key: &[u8], n: u8) -> u8
+fn part_of_bytes(key: &[u8], n: u8) -> u8
     ensures { result ≡ part_in key.now n }
 {
     if n == 0 {
@@ -29,33 +32,44 @@ fn part_for(key: &[u8], n: u8) -> u8
     }
 }
 
-/// A record for the partition of its key, of so many partitions of a topic. Want of memory is the one error.
+/// The partition of a key, of so many, by its front part before a text, where one is given, else by all of it; 0 of none. Takes no memory.
+pub fn part_for(before: Option<&Name>, key: &Key, partitions: u8) -> u8
+    ensures { result ≡ part_in (spread_part (option_copied before.entry) key.now) partitions }
+{
+    part_of_bytes(spread_part(before, key.as_str().as_bytes()), partitions)
+}
+
+/// A record for a partition. Want of memory is the one error.
 pub fn send_to(
     alloc: Global,
-    topic: u16,
-    partitions: u8,
+    to: PartId,
     key: &Key,
     value: Blob,
     time: u64,
 ) -> Result<(PartId, Rec), AllocError>
-    ensures part { IfOk result (λ x. x.0 ≡ record
-        { topic = topic; part = part_in key.now partitions }) }
+    ensures part { IfOk result (λ x. x.0 ≡ to) }
     ensures rec { IfOk result (λ x. x.1 ≡ record
         { key = Some key.now; value = Some value; ts = time }) }
 {
-    let bytes = key.as_str().as_bytes();
-    let part = PartId {
-        topic,
-        part: part_for(bytes, partitions),
-    };
+    let key = Blob::from_slice(alloc, key.as_str().as_bytes())?;
     Ok((
-        part,
+        to,
         Rec {
-            key: Some(Blob::from_slice(alloc, bytes)?),
+            key: Some(key),
             value: Some(value),
             ts: time,
         },
     ))
+}
+
+// The place of a group in a node's repartition topic.
+fn group_place(node: &ProcessorNode<'_>, group: &Key) -> PartId
+    ensures { result ≡ grouped_at (node_view node.now) group.now }
+{
+    PartId {
+        topic: node.topics.repartition,
+        part: part_for(None, group, node.topics.partitions),
+    }
 }
 
 fn push_deltas(
@@ -66,20 +80,13 @@ fn push_deltas(
     time: u64,
 ) -> Result<(), AllocError>
     ensures { OnOk result (out.new.items ≡ out.old.items
-        ++ map (sent_by (node_view node.now) time)
+        ++ flat_map (sent_by (node_view node.now) time)
         (send_deltas node.now.topics.number deltas.now)) }
 {
-    let topics = node.topics;
     for (group, delta) in deltas {
         let value = write_delta(alloc, delta)?;
-        out.push(send_to(
-            alloc,
-            topics.repartition,
-            topics.partitions,
-            group,
-            value,
-            time,
-        )?)?;
+        let to = group_place(node, group);
+        out.push(send_to(alloc, to, group, value, time)?)?;
     }
     Ok(())
 }
@@ -103,22 +110,15 @@ fn push_item(
     time: u64,
 ) -> Result<(), AllocError>
     ensures { OnOk result (out.new.items ≡ out.old.items
-        ++ map (sent_by (node_view node.now) time)
+        ++ flat_map (sent_by (node_view node.now) time)
         (regroup by.now node.now.topics.number (Some (item_view item.now)))) }
 {
     let Some(group) = group_of(alloc, by, item)? else {
         return Ok(());
     };
-    let topics = node.topics;
     let value = encode(alloc, &item.row)?;
-    out.push(send_to(
-        alloc,
-        topics.repartition,
-        topics.partitions,
-        &group,
-        value,
-        time,
-    )?)?;
+    let to = group_place(node, &group);
+    out.push(send_to(alloc, to, &group, value, time)?)?;
     Ok(())
 }
 
@@ -140,7 +140,7 @@ fn push_row_change(
     time: u64,
 ) -> Result<(), AllocError>
     ensures { OnOk result (out.new.items ≡ out.old.items
-        ++ map (sent_by (node_view node.now) time)
+        ++ flat_map (sent_by (node_view node.now) time)
         (regroup_rows by.now (option_copied field.entry) node.now.topics.number change.now.old
         change.now.new)) }
 {
@@ -160,7 +160,7 @@ fn push_table_change(
     time: u64,
 ) -> Result<(), AllocError>
     ensures { OnOk result (out.new.items ≡ out.old.items
-        ++ map (sent_by (node_view node.now) time)
+        ++ flat_map (sent_by (node_view node.now) time)
         (regroup_rows by.now (option_copied field.entry) node.now.topics.number
         (row_in (olds_in values.now) from) (row_in (news_in values.now) from))) }
 {
@@ -181,10 +181,11 @@ fn push_sends<H: Hash128>(
     node: &ProcessorNode<'_>,
     values: &NodeValues<'_, '_>,
 ) -> Result<(), AllocError>
+    requires { step.now.partition ≤ 63 }
     ensures { OnOk result (out.new.items ≡ out.old.items
         ++ sends_by (rules_of H.hash_of) (map node_view step.now.nodes.now)
-        (stores_in step.now.changelogs.now) (arrival_of step.now.stamped.now) (items_in values.now)
-        (olds_in values.now) (news_in values.now) (node_view node.now)) }
+        (stores_in step.now.changelogs.now) step.now.partition (arrival_of step.now.stamped.now)
+        (items_in values.now) (olds_in values.now) (news_in values.now) (node_view node.now)) }
 {
     let time = step.stamped.time;
     match &node.processor {
@@ -217,14 +218,15 @@ fn push_sends<H: Hash128>(
     }
 }
 
-/// What all nodes send in a step. Want of memory is the one error.
+/// What all nodes send in a step, whose partition is at most 63. Want of memory is the one error.
 pub fn sends_of<H: Hash128>(
     alloc: Global,
     step: &Step<'_>,
     values: &NodeValues<'_, '_>,
 ) -> Result<Vec<(PartId, Rec)>, AllocError>
+    requires { step.now.partition ≤ 63 }
     ensures { IfOk result (λ v. v.items ≡ all_sends (rules_of H.hash_of)
-        (map node_view step.now.nodes.now) (stores_in step.now.changelogs.now)
+        (map node_view step.now.nodes.now) (stores_in step.now.changelogs.now) step.now.partition
         (arrival_of step.now.stamped.now) (items_in values.now) (olds_in values.now)
         (news_in values.now) (map node_view step.now.nodes.now)) }
 {

@@ -1,6 +1,9 @@
 //! Calls of processors and stores, one after another, each with its answer as bytes. Rows are written out as their bytes, and none where
 //! there are no bytes.
-use ks_expr::{Expr, JoinKind, Proj};
+ghost use Rattle.std.specs.Prelude.{◌≡◌, ◌≤◌, false, IfSome};
+
+use crate::tables::{COUNTED, FORMS, LEFT, NAMED, RIGHT, STORED};
+use ks_expr::{Expr, Fk, JoinKind, Proj};
 use ks_fk_left::{Answer, respond, subscriptions};
 use ks_fk_right::{on_right, on_subscription};
 use ks_hash::{Hash128, Murmur3};
@@ -12,33 +15,32 @@ use ks_wire::{Response, Subscription, write_response, write_subscription};
 use std::alloc::{AllocError, Global};
 use std::test::Fail;
 
-/// `{"n":1}`, `{"n":2}`, `{"r":"eu"}` and `{"r":"us"}`.
-const ONE: &[u8] = b"\x01\x01n\x00\x00\x00\x00\x00\x00\x00\x00\x01";
-
-const TWO: &[u8] = b"\x01\x01n\x00\x00\x00\x00\x00\x00\x00\x00\x02";
-
-const EU: &[u8] = b"\x01\x01r\x01\x00\x00\x00\x02eu";
-
-const US: &[u8] = b"\x01\x01r\x01\x00\x00\x00\x02us";
-
-// MurmurHash3 of the bytes of these rows.
-const ONE_HASH: u128 = 0x37f2_254e_3ce3_e5e6_c777_bc37_5a8c_46ec;
-
-const EU_HASH: u128 = 0x8a26_9340_b861_162c_1166_9c20_b60f_acb3;
-
-const US_HASH: u128 = 0xe77c_a63a_ec1f_2367_fa54_3d7e_1906_14fc;
-
-/// A call. The foreign key of a row is its field r, a join's projection its left field n; the left key is o1, the right one c1, the
-/// key of what is counted k, in windows of 10 with a grace of 5.
+/// Where the foreign key of a left row comes from.
 #[derive(Clone, Copy)]
-enum Call {
+pub enum Form {
+    /// Its field r.
+    Field,
+    /// Its key.
+    Whole,
+    /// What stands in its key before the first `/`.
+    Before,
+}
+
+/// A call. A join's projection is its left field n; the right key is c1, a left key that isn't told o1, the key of what is counted k, in
+/// windows of 10 with a grace of 5. An answer to a partition that was named ends with `to` and its number.
+#[derive(Clone, Copy)]
+pub enum Call {
     /// An inner join of a left row that changes and of a right row that stays.
     JoinAfter {
         old: &'static [u8],
         new: &'static [u8],
         right: &'static [u8],
     },
+    /// Of a left task whose partition is named, where it is.
     Subscriptions {
+        fk: Form,
+        part: Option<u8>,
+        left: &'static str,
         old: &'static [u8],
         new: &'static [u8],
     },
@@ -52,6 +54,7 @@ enum Call {
         hash: Option<u128>,
         instruction: u8,
         left: &'static str,
+        part: Option<u8>,
         right: &'static [u8],
     },
     OnRight {
@@ -102,6 +105,25 @@ fn change(alloc: Global, key: &str, old: &[u8], new: &[u8]) -> Result<Option<Cha
     Ok(Some(Change { key, old, new }))
 }
 
+// Whether a partition is named that is above this one.
+fn is_above(part: Option<u8>, most: u8) -> bool
+    ensures { result ≡ false → IfSome part (λ i. i ≤ most) }
+{
+    match part {
+        Some(part) => part > most,
+        None => false,
+    }
+}
+
+// The partition that was named, where one was.
+fn push_part(alloc: Global, text: &mut Vec<u8>, part: Option<u8>) -> Result<(), AllocError> {
+    if let Some(part) = part {
+        text.extend_from_slice(b"to ")?;
+        text.extend_from_slice(part.to_string(alloc)?.as_bytes())?;
+    }
+    Ok(())
+}
+
 fn left_field(alloc: Global) -> Result<Option<Proj>, AllocError> {
     let Some(to) = Name::of_text(alloc, "n")? else {
         return Ok(None);
@@ -130,14 +152,39 @@ fn join_after(alloc: Global, old: &[u8], new: &[u8], right: &[u8]) -> Result<Vec
     row_bytes(alloc, row.as_ref())
 }
 
-fn subscribe<H: Hash128>(alloc: Global, old: &[u8], new: &[u8]) -> Result<Vec<u8>, AllocError> {
-    let Some(fk) = Name::of_text(alloc, "r")? else {
+fn foreign_key(alloc: Global, form: Form) -> Result<Option<Fk>, AllocError> {
+    let text = match form {
+        Form::Field => "r",
+        Form::Whole => return Ok(Some(Fk::Whole)),
+        Form::Before => "/",
+    };
+    let Some(name) = Name::of_text(alloc, text)? else {
+        return Ok(None);
+    };
+    match form {
+        Form::Before => Ok(Some(Fk::Before(name))),
+        _ => Ok(Some(Fk::Field(name))),
+    }
+}
+
+fn subscribe<H: Hash128>(
+    alloc: Global,
+    fk: Form,
+    part: Option<u8>,
+    left: &str,
+    old: &[u8],
+    new: &[u8],
+) -> Result<Vec<u8>, AllocError> {
+    if is_above(part, 63) {
+        return nothing(alloc);
+    }
+    let Some(fk) = foreign_key(alloc, fk)? else {
         return nothing(alloc);
     };
-    let Some(change) = change(alloc, "o1", old, new)? else {
+    let Some(change) = change(alloc, left, old, new)? else {
         return nothing(alloc);
     };
-    let (sent, is_direct) = subscriptions::<H>(alloc, &fk, &change)?;
+    let (sent, is_direct) = subscriptions::<H>(alloc, &fk, part, &change)?;
     let mut text = Vec::new(alloc);
     for (foreign, subscription) in sent {
         text.extend_from_slice(foreign.as_str().as_bytes())?;
@@ -176,6 +223,7 @@ fn take_subscription<S: KvStore>(
     hash: Option<u128>,
     instruction: u8,
     left: &str,
+    part: Option<u8>,
     right: &[u8],
 ) -> Result<Vec<u8>, AllocError> {
     let Some(foreign) = Key::of_text(alloc, "c1")? else {
@@ -184,15 +232,24 @@ fn take_subscription<S: KvStore>(
     let Some(left) = Key::of_text(alloc, left)? else {
         return nothing(alloc);
     };
-    if instruction > 3 {
+    if instruction > 3 || is_above(part, 63) {
         return nothing(alloc);
     }
     let right = decode(alloc, right)?;
-    let subscription = Subscription::new(hash, instruction, left);
-    match on_subscription(alloc, store, &foreign, &subscription, right.as_ref())? {
-        Some(response) => Vec::from_slice(alloc, write_response(alloc, &response)?.as_slice()),
-        None => Vec::from_slice(alloc, b"no answer"),
-    }
+    let subscription = Subscription::new(hash, instruction, left, part);
+    let Some((response, part)) = on_subscription(
+        alloc,
+        store,
+        &foreign,
+        &subscription,
+        right.as_ref(),
+    )?
+    else {
+        return Vec::from_slice(alloc, b"no answer");
+    };
+    let mut text = Vec::from_slice(alloc, write_response(alloc, &response)?.as_slice())?;
+    push_part(alloc, &mut text, part)?;
+    Ok(text)
 }
 
 fn change_right<S: KvStore>(
@@ -205,10 +262,11 @@ fn change_right<S: KvStore>(
         return nothing(alloc);
     };
     let mut text = Vec::new(alloc);
-    for (left, response) in on_right(alloc, store, &change)? {
+    for (left, response, part) in on_right(alloc, store, &change)? {
         text.extend_from_slice(left.as_str().as_bytes())?;
         text.push(b' ')?;
         text.extend_from_slice(write_response(alloc, &response)?.as_slice())?;
+        push_part(alloc, &mut text, part)?;
         text.push(b' ')?;
     }
     Ok(text)
@@ -311,7 +369,13 @@ fn answer<H: Hash128, S: KvStore>(
 ) -> Result<Vec<u8>, AllocError> {
     match *call {
         Call::JoinAfter { old, new, right } => join_after(alloc, old, new, right),
-        Call::Subscriptions { old, new } => subscribe::<H>(alloc, old, new),
+        Call::Subscriptions {
+            fk,
+            part,
+            left,
+            old,
+            new,
+        } => subscribe::<H>(alloc, fk, part, left, old, new),
         Call::Respond {
             kind,
             left,
@@ -322,8 +386,9 @@ fn answer<H: Hash128, S: KvStore>(
             hash,
             instruction,
             left,
+            part,
             right,
-        } => take_subscription(alloc, store, hash, instruction, left, right),
+        } => take_subscription(alloc, store, hash, instruction, left, part, right),
         Call::OnRight { old, new } => change_right(alloc, store, old, new),
         Call::Count { t } => count(alloc, store, t),
         Call::Restore { key, value } => restore_one(alloc, store, key, value),
@@ -334,254 +399,10 @@ fn answer<H: Hash128, S: KvStore>(
     }
 }
 
-/// The left side of a foreign-key join, and a join whose left row changes.
-const LEFT: &[(Call, &[u8])] = &[
-    (
-        Call::JoinAfter {
-            old: ONE,
-            new: TWO,
-            right: EU,
-        },
-        TWO,
-    ),
-    (
-        Call::Subscriptions { old: b"", new: EU },
-        b"eu \x00\x02\x8a\x26\x93\x40\xb8\x61\x16\x2c\x11\x66\x9c\x20\xb6\x0f\xac\xb3o1 ",
-    ),
-    (
-        Call::Subscriptions { old: US, new: US },
-        b"us \x00\x02\xe7\x7c\xa6\x3a\xec\x1f\x23\x67\xfa\x54\x3d\x7e\x19\x06\x14\xfco1 ",
-    ),
-    (
-        Call::Subscriptions { old: US, new: EU },
-        b"us \x00\x00\x8a\x26\x93\x40\xb8\x61\x16\x2c\x11\x66\x9c\x20\xb6\x0f\xac\xb3o1 eu \x00\x02\x8a\x26\x93\x40\xb8\x61\x16\x2c\x11\x66\x9c\x20\xb6\x0f\xac\xb3o1 ",
-    ),
-    (Call::Subscriptions { old: US, new: b"" }, b"us \x80\x01o1 "),
-    (
-        Call::Subscriptions { old: US, new: ONE },
-        b"us \x00\x00\x37\xf2\x25\x4e\x3c\xe3\xe5\xe6\xc7\x77\xbc\x37\x5a\x8c\x46\xeco1 direct",
-    ),
-    (
-        Call::Respond {
-            kind: JoinKind::Left,
-            left: EU,
-            hash: Some(EU_HASH),
-            right: b"",
-        },
-        b"",
-    ),
-    (
-        Call::Respond {
-            kind: JoinKind::Left,
-            left: EU,
-            hash: Some(US_HASH),
-            right: b"",
-        },
-        b"stale",
-    ),
-    (
-        Call::Respond {
-            kind: JoinKind::Inner,
-            left: ONE,
-            hash: Some(ONE_HASH),
-            right: US,
-        },
-        ONE,
-    ),
-    (
-        Call::Respond {
-            kind: JoinKind::Inner,
-            left: ONE,
-            hash: Some(ONE_HASH),
-            right: b"",
-        },
-        b"",
-    ),
-    (
-        Call::Respond {
-            kind: JoinKind::Left,
-            left: b"",
-            hash: None,
-            right: b"",
-        },
-        b"",
-    ),
-];
-
-/// The right side: its store, and its answers.
-const RIGHT: &[(Call, &[u8])] = &[
-    (
-        Call::OnSubscription {
-            hash: Some(7),
-            instruction: 3,
-            left: "o1",
-            right: b"",
-        },
-        b"no answer",
-    ),
-    (
-        Call::Get {
-            key: b"\x00\x00\x00\x02c1o1",
-        },
-        b"\x00\x00\x00\x00\x00\x00\x00\x00\x00\x00\x00\x00\x00\x00\x00\x07",
-    ),
-    (
-        Call::OnSubscription {
-            hash: Some(7),
-            instruction: 3,
-            left: "o1",
-            right: EU,
-        },
-        b"\x00\x00\x00\x00\x00\x00\x00\x00\x00\x00\x00\x00\x00\x00\x00\x00\x07\x01\x01r\x01\x00\x00\x00\x02eu",
-    ),
-    (
-        Call::OnSubscription {
-            hash: Some(8),
-            instruction: 2,
-            left: "a",
-            right: b"",
-        },
-        b"\x00\x00\x00\x00\x00\x00\x00\x00\x00\x00\x00\x00\x00\x00\x00\x00\x08",
-    ),
-    (
-        Call::OnRight { old: EU, new: US },
-        b"a \x00\x00\x00\x00\x00\x00\x00\x00\x00\x00\x00\x00\x00\x00\x00\x00\x08\x01\x01r\x01\x00\x00\x00\x02us o1 \x00\x00\x00\x00\x00\x00\x00\x00\x00\x00\x00\x00\x00\x00\x00\x00\x07\x01\x01r\x01\x00\x00\x00\x02us ",
-    ),
-    (
-        Call::OnSubscription {
-            hash: Some(9),
-            instruction: 0,
-            left: "o1",
-            right: EU,
-        },
-        b"no answer",
-    ),
-    (Call::Length, b"1"),
-    (
-        Call::OnSubscription {
-            hash: None,
-            instruction: 1,
-            left: "a",
-            right: ONE,
-        },
-        b"\x80",
-    ),
-    (Call::Length, b"0"),
-    (Call::OnRight { old: US, new: b"" }, b""),
-];
-
-/// Counts in windows, of which one is late.
-const COUNTED: &[(Call, &[u8])] = &[
-    (Call::Count { t: 100 }, b"0 late, records 2"),
-    (Call::Count { t: 95 }, b"0 late, records 1"),
-    (Call::Count { t: 84 }, b"1 late, records 0"),
-    (Call::Count { t: 100 }, b"0 late, records 1"),
-    (Call::Length, b"3"),
-    (Call::Get { key: b"T" }, b"\x00\x00\x00\x00\x00\x00\x00\x64"),
-    (
-        Call::Get {
-            key: b"\x00\x00\x00\x01k\x00\x00\x00\x00\x00\x00\x00\x64",
-        },
-        b"\x00\x00\x00\x00\x00\x00\x00\x02\x00\x00\x00\x00\x00\x00\x00\x00",
-    ),
-];
-
-/// A store, restored record by record: a record without a key is none, one without a value deletes.
-const STORED: &[(Call, &[u8])] = &[
-    (
-        Call::Restore {
-            key: Some(b"b"),
-            value: Some(b"1"),
-        },
-        b"",
-    ),
-    (
-        Call::Restore {
-            key: Some(b"ab"),
-            value: Some(b"2"),
-        },
-        b"",
-    ),
-    (
-        Call::Restore {
-            key: Some(b"a"),
-            value: Some(b"3"),
-        },
-        b"",
-    ),
-    (
-        Call::Restore {
-            key: Some(b"abc"),
-            value: Some(b"4"),
-        },
-        b"",
-    ),
-    (
-        Call::Restore {
-            key: Some(b"b"),
-            value: Some(b"5"),
-        },
-        b"",
-    ),
-    (
-        Call::Restore {
-            key: Some(b""),
-            value: Some(b"6"),
-        },
-        b"",
-    ),
-    (
-        Call::Restore {
-            key: Some(b"ac"),
-            value: Some(b"7"),
-        },
-        b"",
-    ),
-    (
-        Call::Restore {
-            key: Some(b"missing"),
-            value: None,
-        },
-        b"",
-    ),
-    (
-        Call::Restore {
-            key: None,
-            value: Some(b"8"),
-        },
-        b"",
-    ),
-    (Call::Length, b"6"),
-    (Call::Get { key: b"b" }, b"5"),
-    (Call::Get { key: b"" }, b"6"),
-    (Call::Get { key: b"abcd" }, b"nothing"),
-    (Call::Prefix { front: b"" }, b"=6 a=3 ab=2 abc=4 ac=7 b=5 "),
-    (Call::Prefix { front: b"ab" }, b"ab=2 abc=4 "),
-    (Call::Prefix { front: b"abcd" }, b""),
-    (
-        Call::Restore {
-            key: Some(b"ab"),
-            value: None,
-        },
-        b"",
-    ),
-    (Call::Get { key: b"ab" }, b"nothing"),
-    (Call::Prefix { front: b"a" }, b"a=3 abc=4 ac=7 "),
-    (
-        Call::List {
-            key: b"ab",
-            value: b"9",
-            front: b"a",
-        },
-        b"done 9 4 done nothing ",
-    ),
-    (Call::Length, b"5"),
-];
-
 #[test]
 fn calls_and_answers(rt: HostRuntime) -> Result<(), Fail> {
     let alloc = rt.alloc();
-    for calls in [LEFT, RIGHT, COUNTED, STORED] {
+    for calls in [LEFT, FORMS, RIGHT, NAMED, COUNTED, STORED] {
         let mut plain = PlainStore::new(alloc);
         let mut ordered = OrderedStore::new(alloc);
         for (call, expected) in calls {

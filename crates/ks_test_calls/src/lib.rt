@@ -9,6 +9,8 @@ mod hashes;
 #[cfg(test)]
 mod rows;
 #[cfg(test)]
+mod tables;
+#[cfg(test)]
 mod topologies;
 #[cfg(test)]
 mod wires;

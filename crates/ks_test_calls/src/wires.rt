@@ -1,8 +1,8 @@
 //! What tasks say to one another and keep, as bytes.
 use ks_row::Blob;
 use ks_wire::{
-    read_agg, read_delta, read_hash, read_response, read_subscription, read_subscription_key,
-    read_time, read_window_key, write_agg, write_delta, write_hash, write_response,
+    read_agg, read_delta, read_response, read_subscriber, read_subscription, read_subscription_key,
+    read_time, read_window_key, write_agg, write_delta, write_response, write_subscriber,
     write_subscription, write_subscription_key, write_time, write_window_key,
 };
 use std::alloc::{AllocError, Global};
@@ -15,7 +15,7 @@ enum Kind {
     Response,
     Delta,
     Aggregate,
-    Hash,
+    Subscriber,
     Time,
     SubscriptionKey,
     WindowKey,
@@ -45,8 +45,8 @@ fn entry(alloc: Global, kind: Kind, bytes: &[u8]) -> Result<Option<Blob>, AllocE
             Some(agg) => Ok(Some(write_agg(alloc, &agg)?)),
             None => Ok(None),
         },
-        Kind::Hash => match read_hash(bytes) {
-            Some(hash) => Ok(Some(write_hash(alloc, hash)?)),
+        Kind::Subscriber => match read_subscriber(bytes) {
+            Some(subscriber) => Ok(Some(write_subscriber(alloc, subscriber)?)),
             None => Ok(None),
         },
         Kind::Time => match read_time(bytes) {
@@ -89,6 +89,12 @@ const VALUES: &[(Kind, &[u8])] = &[
         Kind::Subscription,
         b"\x00\x02\x01\x02\x03\x04\x05\x06\x07\x08\x09\x0a\x0b\x0c\x0d\x0e\x0f\x10o1",
     ),
+    (Kind::Subscription, b"\x81\x01abc/21\x00\x00\x00\x03"),
+    (Kind::Subscription, b"\x81\x01a\x00\x00\x00\x3f"),
+    (
+        Kind::Subscription,
+        b"\x01\x02\x01\x02\x03\x04\x05\x06\x07\x08\x09\x0a\x0b\x0c\x0d\x0e\x0f\x10o1\x00\x00\x00\x00",
+    ),
     (Kind::Response, b"\x80"),
     (
         Kind::Response,
@@ -109,8 +115,12 @@ const VALUES: &[(Kind, &[u8])] = &[
         b"\x00\x00\x00\x00\x00\x00\x00\x01\xff\xff\xff\xff\xff\xff\xff\xff",
     ),
     (
-        Kind::Hash,
+        Kind::Subscriber,
         b"\x01\x02\x03\x04\x05\x06\x07\x08\x09\x0a\x0b\x0c\x0d\x0e\x0f\x10",
+    ),
+    (
+        Kind::Subscriber,
+        b"\x01\x02\x03\x04\x05\x06\x07\x08\x09\x0a\x0b\x0c\x0d\x0e\x0f\x10\x00\x00\x00\x3f",
     ),
     (Kind::Time, b"\x00\x00\x00\x00\x00\x00\x01\x02"),
     (Kind::SubscriptionKey, b"\x00\x00\x00\x02c2o1"),
@@ -128,6 +138,12 @@ const NO_VALUES: &[(Kind, &[u8])] = &[
     (Kind::Subscription, b"\x80\x00"),
     (Kind::Subscription, b"\x01\x00o1"),
     (Kind::Subscription, b"\x81\x00o1"),
+    (Kind::Subscription, b"\x81\x01\x00\x00\x00\x03"),
+    (Kind::Subscription, b"\x81\x01o1\x00\x00\x03"),
+    (Kind::Subscription, b"\x81\x01o1\x00\x00\x00\x40"),
+    (Kind::Subscription, b"\x81\x01o1\x01\x00\x00\x00"),
+    (Kind::Subscription, b"\x82\x01o1\x00\x00\x00\x03"),
+    (Kind::Subscription, b"\x02\x01o1"),
     (Kind::Response, b""),
     (Kind::Response, b"\x01"),
     (Kind::Response, b"\x81"),
@@ -142,10 +158,22 @@ const NO_VALUES: &[(Kind, &[u8])] = &[
         Kind::Aggregate,
         b"\x00\x00\x00\x00\x00\x00\x00\x01\xff\xff\xff\xff\xff\xff\xff",
     ),
-    (Kind::Hash, b""),
+    (Kind::Subscriber, b""),
     (
-        Kind::Hash,
+        Kind::Subscriber,
         b"\x01\x02\x03\x04\x05\x06\x07\x08\x09\x0a\x0b\x0c\x0d\x0e\x0f",
+    ),
+    (
+        Kind::Subscriber,
+        b"\x01\x02\x03\x04\x05\x06\x07\x08\x09\x0a\x0b\x0c\x0d\x0e\x0f\x10\x00\x00",
+    ),
+    (
+        Kind::Subscriber,
+        b"\x01\x02\x03\x04\x05\x06\x07\x08\x09\x0a\x0b\x0c\x0d\x0e\x0f\x10\x00\x00\x00\x40",
+    ),
+    (
+        Kind::Subscriber,
+        b"\x01\x02\x03\x04\x05\x06\x07\x08\x09\x0a\x0b\x0c\x0d\x0e\x0f\x10\x00\x00\x00\x03\x00",
     ),
     (Kind::Time, b""),
     (Kind::Time, b"\x01\x00\x00\x00\x00\x00\x00\x00\x00"),

@@ -1,5 +1,5 @@
 -- The topology of a cluster of one table, which the copying task stands for: its records go to its changelog as they come.
-use Rattle.std.specs.Prelude.{ℕ, ℤ, pos, List, [], ◌∷◌}
+use Rattle.std.specs.Prelude.{ℕ, pos, List, [], ◌∷◌, None}
 use Rattle.ks_plan.specs.Drafts.{DraftView, TableOf}
 
 abbrev pub letter_a : List ℕ
@@ -15,7 +15,7 @@ letter_x = 120 ∷ []
 abbrev pub table_draft : DraftView
 table_draft = record {
   app = letter_a;
-  topics = (letter_t, pos 1) ∷ [];
+  topics = (letter_t, record { parts = pos 1; before = None }) ∷ [];
   nodes = record { name = letter_x; op = TableOf letter_t } ∷ [];
   print = letter_x ∷ [];
 }

@@ -372,6 +372,7 @@ fn expire_and_commit(
     }
 }
 
+/// What a fetch of a topic's partition 0 answers, as a line of a table of calls.
 pub fn fetch(
     alloc: Global,
     cluster: &Cluster<Copying>,

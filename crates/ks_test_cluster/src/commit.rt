@@ -8,6 +8,7 @@ use ks_cluster::Cluster;
 use ks_row::{PartId, Rec};
 use std::alloc::{AllocError, Global};
 
+/// A new cluster with one record in partition 0 of topic 0.
 pub fn produced(alloc: Global, rec: &Rec) -> Result<Cluster<Copying>, AllocError>
     ensures { IfOk result (λ c. Stands 1 rec.now c) }
 {

@@ -11,7 +11,7 @@ use crate::copying::Copying;
 use crate::tables::record;
 use ks_cluster::Cluster;
 use ks_hash::Murmur3;
-use ks_plan::{Draft, NodeDraft, Op};
+use ks_plan::{Draft, NodeDraft, Op, TopicDraft};
 use ks_row::{Blob, Name, Seq};
 use ks_settle_report::report;
 use ks_topo::Topology;
@@ -33,7 +33,11 @@ fn draft<R: Abort>(rt: &R, alloc: Global) -> Result<Draft, AllocError>
     ensures { IfOk result (λ d. draft_view d ≡ table_draft) }
 {
     let mut topics = Vec::new(alloc);
-    topics.push((name(rt, alloc, b"t")?, 1))?;
+    let topic = TopicDraft {
+        parts: 1,
+        before: None,
+    };
+    topics.push((name(rt, alloc, b"t")?, topic))?;
     let mut nodes = Vec::new(alloc);
     nodes.push(NodeDraft {
         name: name(rt, alloc, b"x")?,

@@ -26,6 +26,7 @@ pub struct Draws {
 }
 
 impl Draws {
+    /// The draws of a seed.
     pub fn new(seed: u64) -> Draws {
         Draws {
             generator: Lcg64Xsh32::seed_from_u64(seed),

@@ -16,6 +16,7 @@ use std::sync::Wait;
 
 const CHANGELOG: PartId = PartId { topic: 1, part: 0 };
 
+/// Appends a record to partition 0 of topic 0, and answers its offset; through the first pass.
 pub fn produce<R: Wait>(
     rt: &R,
     alloc: Global,
@@ -31,6 +32,7 @@ pub fn produce<R: Wait>(
     shared.produce(rt, alloc, PartId { topic: 0, part: 0 }, rec, pass)
 }
 
+/// Begins a further epoch of a worker.
 pub fn init<R: Wait>(
     rt: &R,
     alloc: Global,
@@ -47,6 +49,7 @@ pub fn init<R: Wait>(
     shared.init(rt, alloc, w, last, pass)
 }
 
+/// Adds the changelog to worker 0's transaction of its first epoch.
 pub fn add<R: Wait>(
     rt: &R,
     alloc: Global,
@@ -81,6 +84,7 @@ pub fn append<R: Wait>(
     shared.append(rt, alloc, 0, 1, 0, TASK, CHANGELOG, &recs, last, pass)
 }
 
+/// Aborts worker 0's transaction of its first epoch.
 pub fn abort<R: Wait>(
     rt: &R,
     alloc: Global,
@@ -95,6 +99,7 @@ pub fn abort<R: Wait>(
     shared.decide(rt, alloc, 0, 1, false, last, pass)
 }
 
+/// Writes the next waiting marker of worker 0.
 pub fn mark<R: Wait>(
     rt: &R,
     alloc: Global,
@@ -146,6 +151,7 @@ pub fn feed<R: Wait>(
     Ok(replica)
 }
 
+/// Parks a replica at instance 0; after want of memory it comes back.
 pub fn park<R: Wait>(
     rt: &R,
     alloc: Global,
@@ -161,6 +167,7 @@ pub fn park<R: Wait>(
     shared.park(rt, alloc, 0, replica, pass)
 }
 
+/// Takes the task's replica back from instance 0; none where none is parked.
 pub fn unpark<R: Wait>(
     rt: &R,
     alloc: Global,

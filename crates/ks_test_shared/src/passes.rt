@@ -17,6 +17,7 @@ pub struct Locked {
     pub third: Pass<SharedState<Copying>>,
 }
 
+/// A new cluster behind its lock, with three passes, numbered from 0.
 pub fn new_locked(alloc: Global) -> Result<Locked, AllocError>
     ensures passes { IfOk result (λ l. l.shared.growing.passes ≡ 3) }
     ensures first { IfOk result (λ l. IsOurs l.shared.growing.id l.first × (l.first.number ≡ 0)) }

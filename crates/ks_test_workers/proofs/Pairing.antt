@@ -60,8 +60,8 @@ three_passes {E = E} {F = F} lock all a b c e x y z = subst (λ (l : List (PassV
 empty_history : (setup : Setup) → IsHistory setup []
 empty_history setup = record { legal = tt; faithful = tt }
 
-module _ {W : Type 0} (plan : W → TaskPlan) (good : W → PlacementTest) (hash : List ℕ → ℕ) (d : DraftView) (placing : Placing) (c : ClusterView W) (counts : List ℕ) (is : List ItemView)
-    (ready : IsReady plan good hash d placing c counts is) (fine : fault_of d ≡ None) (lock : TableId) where
+module _ {W : Type 0} (plan : W → TaskPlan) (good : W → PlacementTest) (hash : List ℕ → ℕ) (d : DraftView) (placing : Placing) (c : ClusterView W) (is : List ItemView)
+    (ready : IsReady plan good hash d placing c is) (fine : fault_of d ≡ None) (lock : TableId) where
   pub places_by : PlacesBy good placing d (Some (frame_of c))
   places_by = record { threads = ready.threads; serves = λ members held ends a h. ap (λ (t : PlacementTest). t members held ends a) ready.test ∙ h }
 

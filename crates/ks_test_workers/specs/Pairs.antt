@@ -14,7 +14,8 @@ use Rattle.ks_def_tasks.specs.Rules.{HaveParts, rules_of}
 use Rattle.ks_job.specs.Items.{ItemView}
 use Rattle.ks_law_inputs.specs.Records.{AreRecords}
 use Rattle.ks_assign_group.specs.Groups.{good_by}
-use Rattle.ks_run_workers.specs.Placing.{IsParted}
+use Rattle.ks_topo.specs.Places.{HasPlaces}
+use Rattle.ks_run_workers.specs.Placing.{counts_in}
 use Rattle.ks_worker.specs.Beginning.{MayRun}
 use Rattle.ks_test_workers.specs.declared.actors.Actor.{Actor}
 
@@ -22,13 +23,13 @@ use Rattle.ks_test_workers.specs.declared.actors.Actor.{Actor}
 abbrev pub MayPlay : {W G : Type 0} → (W → TaskPlan) → (W → PlacementTest) → (List ℕ → ℕ) → TableId → DraftView → Actor W G → Type 0
 MayPlay plan good hash lock d a = MayRun plan good hash lock d a.worker.placing a.left a.worker.state
 
--- a new cluster of the tasks of this topology, with this hash and this placing; these are its partition counts, and the items are records for its topics
-pub record IsReady {W : Type 0} (plan : W → TaskPlan) (good : W → PlacementTest) (hash : List ℕ → ℕ) (d : DraftView) (placing : Placing) (c : ClusterView W) (counts : List ℕ) (is : List ItemView) : Type 0 where
+-- a new cluster of the tasks of this topology, with this hash and this placing; the items are records for its topics
+pub record IsReady {W : Type 0} (plan : W → TaskPlan) (good : W → PlacementTest) (hash : List ℕ → ℕ) (d : DraftView) (placing : Placing) (c : ClusterView W) (is : List ItemView) : Type 0 where
   pub new : c.journal ≡ []
   pub topology : setup_of plan c ≡ topology_setup (rules_of hash) (plan_of d)
   pub nodes : HaveParts (plan_of d)
   pub threads : 1 ≤ placing.threads
   pub test : good c.work ≡ good_by (changelog_numbers (plan_of d)) (tasks (plan_of d)) placing
-  pub counts_are : counts ≡ c.counts
-  pub parts : (topic : ℕ) → topic < (plan c.work).sources → IsParted counts topic
+  pub counts_are : counts_in (plan_of d) ≡ c.counts
+  pub places : (topic : ℕ) → topic < (plan c.work).sources → HasPlaces (plan_of d) topic
   pub records : AreRecords (plan c.work).sources is

@@ -228,20 +228,18 @@ pub fn play<H: Hash128, R: Wait + Abort, W: Work>(
     alloc: Global,
     topology: &Topology,
     cluster: Cluster<W>,
-    counts: &[u8],
     items: Vec<JobItem>,
     scene: &Scene,
 ) -> Result<Cluster<W>, Fail>
     requires ready { IsReady W.plan W.good H.hash_of (draft_of topology.now) scene.now.placing
-        cluster
-        counts.now (item_views items.items) }
+        cluster (item_views items.items) }
     ensures { IfOk result (λ c. frame_of c ≡ frame_of cluster) }
 {
     let _nodes = topology.nodes();
     let made = lock(alloc, cluster)?;
     let (shared, passes) = made;
     let (mut first, others) = split_first(passes);
-    produce_all(rt, alloc, &shared, counts, items, &mut first)?;
+    produce_all(rt, alloc, topology, &shared, items, &mut first)?;
     let mut pair = enlist(alloc, scene, others)?;
     play_moves::<H, R, W, ScriptGate>(rt, alloc, topology, &shared, &mut pair, scene.moves)?;
     Ok(close(alloc, shared, first, pair)?)

@@ -105,18 +105,9 @@ fn play_tasks<H: Hash128 + Sync, R: Threads + Wait + Sync + Abort, W: Work + Syn
     let _nodes = topology.nodes();
     everything_is_good();
     let counts = counts_of(alloc, topology.topics())?;
-    let kept = Vec::from_slice(alloc, counts.as_slice())?;
     let tasks = Vec::from_slice(alloc, topology.tasks())?;
-    let empty = Cluster::new(alloc, work, kept, tasks)?;
-    let cluster = play::<H, R, W>(
-        rt,
-        alloc,
-        topology,
-        empty,
-        counts.as_slice(),
-        records,
-        scene,
-    )?;
+    let empty = Cluster::new(alloc, work, counts, tasks)?;
+    let cluster = play::<H, R, W>(rt, alloc, topology, empty, records, scene)?;
     Ok(end_play::<H, R, W>(rt, alloc, topology, cluster)?)
 }
 

@@ -1,7 +1,7 @@
 -- One more node of a draft.
 use Rattle.std.proofs.Common.{◌≡◌, ℕ, suc, ◌+◌, ◌<◌, List, [], ◌∷◌, ◌++◌, length, map, fold, get_or, take, drop, Option, Some, None, refl, sym, ap, ap₂, subst, ◌∙◌, arith, drop-cons}
 use Rattle.std.proofs.Math.Seq.{take-suc}
-use Rattle.std.specs.Prelude.{ℤ, Result, Ok, Err, IsErr, IsErrAnd, IfOk}
+use Rattle.std.specs.Prelude.{Result, Ok, Err, IsErr, IsErrAnd, IfOk}
 use Rattle.std.specs.Option.{option_or}
 use Rattle.std.proofs.lemmas.List.{map-append}
 use Rattle.ks_plan.specs.declared.draft.NodeDraft.{NodeDraft}
@@ -9,11 +9,11 @@ use Rattle.ks_plan.specs.declared.draft.Draft.{Draft}
 use Rattle.ks_plan.specs.declared.fault.TopoFault.{TopoFault}
 use Rattle.ks_topo.specs.declared.stop.Refusal.{Refusal}
 use Rattle.ks_topo.specs.declared.stop.Refusal.TheVariants.{Memory, Fault}
-use Rattle.ks_plan.specs.Drafts.{Name, NodeView, DraftView, op_view, node_view, nodes_view, draft_view}
+use Rattle.ks_plan.specs.Drafts.{Topics, NodeView, DraftView, op_view, node_view, nodes_view, draft_view}
 use Rattle.ks_topo.specs.Earlier.{fault_at, IsNode}
 use Rattle.ks_plan.specs.Plan.{Known, Kind, wiring_of, learn, known_from, plan_of}
-use Rattle.ks_plan.specs.Layout.{wired_parts, node_parts}
-use Rattle.ks_plan.specs.Faults.{node_lines, nodes_fault, parts_before, first_of}
+use Rattle.ks_plan.specs.Layout.{wired_parts, node_parts, with_origin, node_origins}
+use Rattle.ks_plan.specs.Faults.{node_lines, nodes_fault, parts_before, origins_before, first_of}
 use Rattle.ks_plan.specs.Resolve.{resolved, resolved_from, resolved_op}
 use Rattle.ks_topo.specs.Finds.{Stops, Finds}
 use Rattle.ks_plan.specs.declared.resolve.Resolved.{Resolved}
@@ -22,7 +22,7 @@ pub fold_push : {A B : Type 0} (f : A → B → A) (a : A) (xs : List B) (x : B)
 fold_push f a [] x = refl
 fold_push f a (y ∷ ys) x = fold_push f (f a y) ys x
 
-pub resolved_push : (ts : List (Name × ℤ)) (ns : List NodeView) (n : NodeView) → resolved_from ts (ns ++ n ∷ []) ≡ resolved_from ts ns ++ resolved_op ts ns n.op ∷ []
+pub resolved_push : (ts : Topics) (ns : List NodeView) (n : NodeView) → resolved_from ts (ns ++ n ∷ []) ≡ resolved_from ts ns ++ resolved_op ts ns n.op ∷ []
 resolved_push ts ns n = ap (map resolved) (fold_push (learn ts) [] ns n) ∙ map-append resolved (known_from ts ns) _
 
 pub parts_push : (d : DraftView) (ns : List NodeView) (n : NodeView) → parts_before d (ns ++ n ∷ []) ≡ wired_parts (plan_of d).counts (parts_before d ns) (resolved_op d.topics ns n.op).wiring
@@ -31,6 +31,12 @@ parts_push d ns n =
     ap (λ (ks : List Known). node_parts counts (map (λ k. k.kind) ks)) (fold_push (learn d.topics) [] ns n)
     ∙ (ap (node_parts counts) (map-append (λ (k : Known). k.kind) (known_from d.topics ns) _)
     ∙ fold_push (λ cs (k : Kind). wired_parts counts cs (wiring_of k)) [] (map (λ k. k.kind) (known_from d.topics ns)) _)
+
+pub origins_push : (d : DraftView) (ns : List NodeView) (n : NodeView) → origins_before d (ns ++ n ∷ []) ≡ with_origin (origins_before d ns) (resolved_op d.topics ns n.op).wiring
+origins_push d ns n =
+    ap (λ (ks : List Known). node_origins (map (λ k. k.kind) ks)) (fold_push (learn d.topics) [] ns n)
+    ∙ (ap node_origins (map-append (λ (k : Known). k.kind) (known_from d.topics ns) _)
+    ∙ fold_push (λ os (k : Kind). with_origin os (wiring_of k)) [] (map (λ k. k.kind) (known_from d.topics ns)) _)
 
 add_one : (i : ℕ) → i + 1 ≡ suc i
 add_one i = omega arith
@@ -58,37 +64,39 @@ some_node (x ∷ xs) i h = x
 
 pub next_fault : (d : Draft) (i : ℕ) → i < length d.nodes
     → nodes_fault (draft_view d) (nodes_view (take i d.nodes)) (nodes_view (drop i d.nodes))
-    ≡ option_or (fault_at d (parts_before (draft_view d) (nodes_view (take i d.nodes))) (take i d.nodes) (drop i d.nodes)) (nodes_fault (draft_view d) (nodes_view (take (i + 1) d.nodes)) (nodes_view (drop (i + 1) d.nodes)))
+    ≡ option_or (fault_at d (parts_before (draft_view d) (nodes_view (take i d.nodes))) (origins_before (draft_view d) (nodes_view (take i d.nodes))) (take i d.nodes) (drop i d.nodes)) (nodes_fault (draft_view d) (nodes_view (take (i + 1) d.nodes)) (nodes_view (drop (i + 1) d.nodes)))
 next_fault d i h =
     let x = some_node d.nodes i h in
     let y = get_or d.nodes i x in
     let b = nodes_view (take i d.nodes) in
     ap (λ l. nodes_fault (draft_view d) b (nodes_view l)) (rest_at d.nodes i x h)
-    ∙ ap₂ (λ l m. option_or (fault_at d (parts_before (draft_view d) b) (take i d.nodes) l) (nodes_fault (draft_view d) m (nodes_view (drop (i + 1) d.nodes)))) (sym (rest_at d.nodes i x h)) (sym (one_more d.nodes i x h))
+    ∙ ap₂ (λ l m. option_or (fault_at d (parts_before (draft_view d) b) (origins_before (draft_view d) b) (take i d.nodes) l) (nodes_fault (draft_view d) m (nodes_view (drop (i + 1) d.nodes)))) (sym (rest_at d.nodes i x h)) (sym (one_more d.nodes i x h))
 
-pub judged_err : {X : Type 0} (d : Draft) (parts : List ℕ) (i : ℕ) (r : Result X Refusal) (e : Refusal)
-    → i < length d.nodes → parts ≡ parts_before (draft_view d) (nodes_view (take i d.nodes))
+pub judged_err : {X : Type 0} (d : Draft) (parts : List ℕ) (origins : List (Option ℕ)) (i : ℕ) (r : Result X Refusal) (e : Refusal)
+    → i < length d.nodes → parts ≡ parts_before (draft_view d) (nodes_view (take i d.nodes)) → origins ≡ origins_before (draft_view d) (nodes_view (take i d.nodes))
     → nodes_fault (draft_view d) (nodes_view (take i d.nodes)) (nodes_view (drop i d.nodes)) ≡ nodes_fault (draft_view d) [] (nodes_view d.nodes)
-    → IsErr r → IsErrAnd r (λ y. y ≡ e) → Stops e (fault_at d parts (take i d.nodes) (drop i d.nodes))
+    → IsErr r → IsErrAnd r (λ y. y ≡ e) → Stops e (fault_at d parts origins (take i d.nodes) (drop i d.nodes))
     → Finds r (nodes_fault (draft_view d) [] (nodes_view d.nodes))
-judged_err d parts i (Ok y) e h p f s b st = absurd (cc)
-judged_err d parts i (Err y) e h p f s b st =
-    let here : Stops e (fault_at d (parts_before (draft_view d) (nodes_view (take i d.nodes))) (take i d.nodes) (drop i d.nodes)) = subst (λ l. Stops e (fault_at d l (take i d.nodes) (drop i d.nodes))) p st in
+judged_err d parts origins i (Ok y) e h p o f s b st = absurd (cc)
+judged_err d parts origins i (Err y) e h p o f s b st =
+    let before = nodes_view (take i d.nodes) in
+    let here : Stops e (fault_at d (parts_before (draft_view d) before) (origins_before (draft_view d) before) (take i d.nodes) (drop i d.nodes)) =
+    subst (λ l. Stops e (fault_at d (parts_before (draft_view d) before) l (take i d.nodes) (drop i d.nodes))) o (subst (λ l. Stops e (fault_at d l origins (take i d.nodes) (drop i d.nodes))) p st) in
     let later = stops_first e _ (nodes_fault (draft_view d) (nodes_view (take (i + 1) d.nodes)) (nodes_view (drop (i + 1) d.nodes))) here in
     subst (λ z. Stops z (nodes_fault (draft_view d) [] (nodes_view d.nodes))) (sym b) (subst (Stops e) (sym (next_fault d i h) ∙ f) later)
 
-pub judged_on : (d : Draft) (parts : List ℕ) (i : ℕ)
-    → i < length d.nodes → parts ≡ parts_before (draft_view d) (nodes_view (take i d.nodes))
+pub judged_on : (d : Draft) (parts : List ℕ) (origins : List (Option ℕ)) (i : ℕ)
+    → i < length d.nodes → parts ≡ parts_before (draft_view d) (nodes_view (take i d.nodes)) → origins ≡ origins_before (draft_view d) (nodes_view (take i d.nodes))
     → nodes_fault (draft_view d) (nodes_view (take i d.nodes)) (nodes_view (drop i d.nodes)) ≡ nodes_fault (draft_view d) [] (nodes_view d.nodes)
-    → fault_at d parts (take i d.nodes) (drop i d.nodes) ≡ None
+    → fault_at d parts origins (take i d.nodes) (drop i d.nodes) ≡ None
     → nodes_fault (draft_view d) (nodes_view (take (i + 1) d.nodes)) (nodes_view (drop (i + 1) d.nodes)) ≡ nodes_fault (draft_view d) [] (nodes_view d.nodes)
-judged_on d parts i h p f st =
-    sym (none_first (fault_at d (parts_before (draft_view d) (nodes_view (take i d.nodes))) (take i d.nodes) (drop i d.nodes)) (nodes_fault (draft_view d) (nodes_view (take (i + 1) d.nodes)) (nodes_view (drop (i + 1) d.nodes)))
-    (ap (λ l. fault_at d l (take i d.nodes) (drop i d.nodes)) (sym p) ∙ st))
+judged_on d parts origins i h p o f st =
+    sym (none_first (fault_at d (parts_before (draft_view d) (nodes_view (take i d.nodes))) (origins_before (draft_view d) (nodes_view (take i d.nodes))) (take i d.nodes) (drop i d.nodes)) (nodes_fault (draft_view d) (nodes_view (take (i + 1) d.nodes)) (nodes_view (drop (i + 1) d.nodes)))
+    (ap₂ (λ l m. fault_at d l m (take i d.nodes) (drop i d.nodes)) (sym p) (sym o) ∙ st))
     ∙ (sym (next_fault d i h) ∙ f)
 
 -- what the node of this number is
-node_is : (ts : List (Name × ℤ)) (ns : List NodeDraft) (i : ℕ) (x : NodeDraft) (r : Resolved) → i < length ns → IsNode ts (take i ns) (drop i ns) r → r ≡ resolved_op ts (nodes_view (take i ns)) (op_view (get_or ns i x).op)
+node_is : (ts : Topics) (ns : List NodeDraft) (i : ℕ) (x : NodeDraft) (r : Resolved) → i < length ns → IsNode ts (take i ns) (drop i ns) r → r ≡ resolved_op ts (nodes_view (take i ns)) (op_view (get_or ns i x).op)
 node_is ts ns i x r h e = subst (λ l. IsNode ts (take i ns) l r) (rest_at ns i x h) e
 
 pub known_on : (d : Draft) (known more : List Resolved) (i : ℕ) (r : Resolved)
@@ -107,20 +115,28 @@ parts_on d counts parts more i r h c p e m =
     m ∙ (ap₂ (λ k l. wired_parts k l r.wiring) c p ∙ (ap (λ y. wired_parts (plan_of (draft_view d)).counts (parts_before (draft_view d) (nodes_view (take i d.nodes))) y.wiring) (node_is d.topics d.nodes i x r h e)
     ∙ (sym (parts_push (draft_view d) (nodes_view (take i d.nodes)) (node_view (get_or d.nodes i x))) ∙ ap (parts_before (draft_view d)) (sym (one_more d.nodes i x h)))))
 
+pub origins_on : (d : Draft) (origins more : List (Option ℕ)) (i : ℕ) (r : Resolved)
+    → i < length d.nodes → origins ≡ origins_before (draft_view d) (nodes_view (take i d.nodes)) → IsNode d.topics (take i d.nodes) (drop i d.nodes) r → more ≡ with_origin origins r.wiring
+    → more ≡ origins_before (draft_view d) (nodes_view (take (i + 1) d.nodes))
+origins_on d origins more i r h o e m =
+    let x = some_node d.nodes i h in
+    m ∙ (ap (λ l. with_origin l r.wiring) o ∙ (ap (λ y. with_origin (origins_before (draft_view d) (nodes_view (take i d.nodes))) y.wiring) (node_is d.topics d.nodes i x r h e)
+    ∙ (sym (origins_push (draft_view d) (nodes_view (take i d.nodes)) (node_view (get_or d.nodes i x))) ∙ ap (origins_before (draft_view d)) (sym (one_more d.nodes i x h)))))
+
 -- ---- one node
-here : (d : Draft) (ts : List (Name × ℤ)) (parts : List ℕ) (ns before : List NodeDraft) (i : ℕ) (x : NodeDraft) → i < length d.nodes → ts ≡ d.topics → ns ≡ d.nodes → before ≡ take i ns → x ≡ get_or ns i x
-    → first_of (node_lines d.app ts parts (nodes_view before) (node_view x)) ≡ fault_at d parts (take i d.nodes) (drop i d.nodes)
-here d ts parts ns before i x h t a b e =
+here : (d : Draft) (ts : Topics) (parts : List ℕ) (origins : List (Option ℕ)) (ns before : List NodeDraft) (i : ℕ) (x : NodeDraft) → i < length d.nodes → ts ≡ d.topics → ns ≡ d.nodes → before ≡ take i ns → x ≡ get_or ns i x
+    → first_of (node_lines d.app ts parts origins (nodes_view before) (node_view x)) ≡ fault_at d parts origins (take i d.nodes) (drop i d.nodes)
+here d ts parts origins ns before i x h t a b e =
     let y : x ≡ get_or d.nodes i x = e ∙ ap (λ l. get_or l i x) a in
-    ap₂ (λ t b. first_of (node_lines d.app t parts (nodes_view b) (node_view x))) t (b ∙ ap (λ l. take i l) a)
-    ∙ (ap (λ z. first_of (node_lines d.app d.topics parts (nodes_view (take i d.nodes)) (node_view z))) y
-    ∙ ap (λ l. fault_at d parts (take i d.nodes) l) (sym (rest_at d.nodes i x h)))
+    ap₂ (λ t b. first_of (node_lines d.app t parts origins (nodes_view b) (node_view x))) t (b ∙ ap (λ l. take i l) a)
+    ∙ (ap (λ z. first_of (node_lines d.app d.topics parts origins (nodes_view (take i d.nodes)) (node_view z))) y
+    ∙ ap (λ l. fault_at d parts origins (take i d.nodes) l) (sym (rest_at d.nodes i x h)))
 
-pub found_here : {X : Type 0} (d : Draft) (ts : List (Name × ℤ)) (parts : List ℕ) (ns before : List NodeDraft) (i : ℕ) (x : NodeDraft) (r : Result X Refusal) → i < length d.nodes → ts ≡ d.topics → ns ≡ d.nodes → before ≡ take i ns → x ≡ get_or ns i x
-    → Finds r (first_of (node_lines d.app ts parts (nodes_view before) (node_view x))) → Finds r (fault_at d parts (take i d.nodes) (drop i d.nodes))
-found_here d ts parts ns before i x r h t a b e f = subst (Finds r) (here d ts parts ns before i x h t a b e) f
+pub found_here : {X : Type 0} (d : Draft) (ts : Topics) (parts : List ℕ) (origins : List (Option ℕ)) (ns before : List NodeDraft) (i : ℕ) (x : NodeDraft) (r : Result X Refusal) → i < length d.nodes → ts ≡ d.topics → ns ≡ d.nodes → before ≡ take i ns → x ≡ get_or ns i x
+    → Finds r (first_of (node_lines d.app ts parts origins (nodes_view before) (node_view x))) → Finds r (fault_at d parts origins (take i d.nodes) (drop i d.nodes))
+found_here d ts parts origins ns before i x r h t a b e f = subst (Finds r) (here d ts parts origins ns before i x h t a b e) f
 
-pub is_here : (d : Draft) (ts : List (Name × ℤ)) (ns before : List NodeDraft) (i : ℕ) (x : NodeDraft) (r : Result Resolved Refusal) → i < length d.nodes → ts ≡ d.topics → ns ≡ d.nodes → before ≡ take i ns → x ≡ get_or ns i x
+pub is_here : (d : Draft) (ts : Topics) (ns before : List NodeDraft) (i : ℕ) (x : NodeDraft) (r : Result Resolved Refusal) → i < length d.nodes → ts ≡ d.topics → ns ≡ d.nodes → before ≡ take i ns → x ≡ get_or ns i x
     → IfOk r (λ s. s ≡ resolved_op ts (nodes_view before) (op_view x.op)) → IfOk r (λ s. IsNode d.topics (take i d.nodes) (drop i d.nodes) s)
 is_here d ts ns before i x (Err s) h t a b e f = tt
 is_here d ts ns before i x (Ok s) h t a b e f =

@@ -7,8 +7,8 @@ use Rattle.ks_plan.specs.declared.node.Wiring.{Wiring}
 use Rattle.ks_plan.specs.declared.node.Wiring.TheVariants as wired
 use Rattle.ks_plan.specs.declared.shape.Shape.{Shape}
 use Rattle.ks_plan.specs.Plan.{Plan, Kind, wiring_of}
-use Rattle.ks_plan.specs.Layout.{at, up_to, firsts, first_in, wired_label, wired_parts, wired_right, wired_reads, wired_through, wired_changelogs, labels, node_parts, parts_of, sub_of, sub_count, kind_at, no_kind, right_of, through_topics, changelogs_of, by_node, input_topics, topics_of, parts_of_topic, any_source_of, is_read, first_source_of, source_of, reads, is_drained, drain_order, subs, tasks_in, tasks}
-use Rattle.ks_plan.specs.Wired.{wired_labels, wired_counts, any_wired, first_wired, right_in, flowing, kept, topic_parts, sub_at, subs_in, topic_reader, flows, read_in, subs_of, tasks_to, tasks_of_sub, all_tasks, numbers_in, numbers_read}
+use Rattle.ks_plan.specs.Layout.{at, origin_at, with_origin, node_origins, stated_for, before_of, before_of_topic, up_to, firsts, first_in, wired_label, wired_parts, wired_right, wired_reads, wired_through, wired_changelogs, labels, node_parts, parts_of, sub_of, sub_count, kind_at, no_kind, right_of, through_topics, changelogs_of, by_node, input_topics, topics_of, parts_of_topic, any_source_of, is_read, first_source_of, source_of, reads, is_drained, drain_order, subs, tasks_in, tasks}
+use Rattle.ks_plan.specs.Wired.{wired_labels, wired_counts, wired_origins, topic_origin, any_wired, first_wired, right_in, flowing, kept, topic_parts, sub_at, subs_in, topic_reader, flows, read_in, subs_of, tasks_to, tasks_of_sub, all_tasks, numbers_in, numbers_read}
 use Rattle.ks_plan.specs.Infos.{input_numbers, changelog_numbers}
 use Rattle.ks_topo.specs.Built.{IsShapeOf}
 
@@ -81,6 +81,20 @@ module _ (s : Shape) (p : Plan) (h : IsShapeOf s p) where
   same_topic_parts (Responses n) = same_part n
   same_topic_parts (Changelog n) = same_part n
   same_topic_parts (HashChangelog n) = ap (at s.parts.items) (same_right n) ∙ same_part (right_of (kind_at p n))
+
+  same_origins : s.origins.items ≡ node_origins p.kinds
+  same_origins = h.origins ∙ (ap wired_origins h.wirings ∙ fold_over with_origin wiring_of [] p.kinds)
+
+  same_stated : (n : ℕ) → stated_for p.befores (origin_at s.origins.items n) ≡ before_of p n
+  same_stated n = ap (λ l. stated_for p.befores (origin_at l n)) same_origins
+
+  pub same_topic_before : (t : Topic) → stated_for p.befores (topic_origin s t) ≡ before_of_topic p t
+  same_topic_before (Input t) = refl
+  same_topic_before (Repartition n) = same_stated n
+  same_topic_before (Subscriptions n) = ap (λ m. stated_for p.befores (origin_at s.origins.items m)) (same_right n) ∙ same_stated (right_of (kind_at p n))
+  same_topic_before (Responses n) = same_stated n
+  same_topic_before (Changelog n) = same_stated n
+  same_topic_before (HashChangelog n) = ap (λ m. stated_for p.befores (origin_at s.origins.items m)) (same_right n) ∙ same_stated (right_of (kind_at p n))
 
   same_any : (t : ℕ) → any_wired t s.wirings.items ≡ is_read p t
   same_any t = ap (any_wired t) h.wirings ∙ any_over t p.kinds

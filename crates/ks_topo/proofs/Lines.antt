@@ -1,8 +1,7 @@
 -- No fault is no line that fits.
 use Rattle.std.proofs.Common.{◌≡◌, true, false, List, [], ◌∷◌, ◌++◌, Option, Some, None, refl, sym, ap, ap₂, subst, ◌∙◌, append_assoc, append-nil}
-use Rattle.std.specs.Prelude.{ℤ}
 use Rattle.std.specs.Option.{option_or}
-use Rattle.ks_plan.specs.Drafts.{Name, NodeView, DraftView}
+use Rattle.ks_plan.specs.Drafts.{Name, Topics, NodeView, DraftView}
 use Rattle.ks_plan.specs.Faults.{Line, first_fitting, first_of, size_lines, node_table, nodes_fault, print_lines, printed_fault, parts_fault, fault_of}
 use Rattle.ks_topo.specs.WellFormed.{NoneFits, NoneOf, IsWellFormed}
 
@@ -65,10 +64,10 @@ nodes_none d start (m ∷ ms) h =
     (nodes_none d (start ++ m ∷ []) ms (λ before n after s. subst (λ l. NoneOf (node_table d l n)) (sym (append_assoc start (m ∷ []) before)) (h (m ∷ before) n after (ap (λ l. m ∷ l) s))))
 
 -- ---- printed names
-abbrev EachName : List (Name × ℤ) → List NodeView → List Name → List Name → Type 0
+abbrev EachName : Topics → List NodeView → List Name → List Name → Type 0
 EachName ts ns start ps = (before : List Name) (n : Name) (after : List Name) → ps ≡ before ++ n ∷ after → NoneFits (print_lines ts ns (start ++ before) n)
 
-each_name : (ts : List (Name × ℤ)) (ns : List NodeView) (start ps : List Name) → printed_fault ts ns start ps ≡ None → EachName ts ns start ps
+each_name : (ts : Topics) (ns : List NodeView) (start ps : List Name) → printed_fault ts ns start ps ≡ None → EachName ts ns start ps
 each_name ts ns start [] e [] n after s = cc
 each_name ts ns start [] e (b ∷ bs) n after s = cc
 each_name ts ns start (m ∷ ms) e [] n after s =
@@ -79,7 +78,7 @@ each_name ts ns start (m ∷ ms) e (b ∷ bs) n after s =
     let same = heads m b ms (bs ++ n ∷ after) s in
     subst (λ l. NoneFits (print_lines ts ns l n)) (append_assoc start (m ∷ []) bs ∙ ap (λ x. start ++ x ∷ bs) same.0) (each_name ts ns (start ++ m ∷ []) ms both.1 bs n after same.1)
 
-names_none : (ts : List (Name × ℤ)) (ns : List NodeView) (start ps : List Name) → EachName ts ns start ps → printed_fault ts ns start ps ≡ None
+names_none : (ts : Topics) (ns : List NodeView) (start ps : List Name) → EachName ts ns start ps → printed_fault ts ns start ps ≡ None
 names_none ts ns start [] h = refl
 names_none ts ns start (m ∷ ms) h =
     both_none (first_fitting (print_lines ts ns start m)) (printed_fault ts ns (start ++ m ∷ []) ms)

@@ -1,6 +1,6 @@
 -- Shapes and topics of plans.
 use Rattle.std.proofs.Common.{◌≡◌, ℕ, zero, suc, true, false, cond, Option, Some, None, ◌≤◌, List, [], ◌∷◌, ◌++◌, length, map, refl, sym, ap, ap₂, subst, ◌∙◌, arith, length-append}
-use Rattle.std.specs.Prelude.{ℤ, Result, Ok, Err, IfOk}
+use Rattle.std.specs.Prelude.{Result, Ok, Err, IfOk}
 use Rattle.std.specs.declared.alloc.AllocError.{AllocError}
 use Rattle.std.specs.List.{filter}
 use Rattle.ks_plan.specs.declared.node.Topic.{Topic}
@@ -13,27 +13,27 @@ use Rattle.ks_plan.specs.declared.node.Node.{Node}
 use Rattle.ks_plan.proofs.Resolving.{known_names_from}
 use Rattle.ks_plan.specs.declared.resolve.Resolved.{Resolved}
 use Rattle.ks_plan.specs.declared.shape.Shape.{Shape}
-use Rattle.ks_plan.specs.Drafts.{Name, NodeView, DraftView, node_view, nodes_view, draft_view}
+use Rattle.ks_plan.specs.Drafts.{Name, Topics, NodeView, DraftView, node_view, nodes_view, draft_view}
 use Rattle.ks_plan.specs.Plan.{Known, wiring_of, gives_stream, known_from, plan_of}
 use Rattle.ks_plan.specs.Layout.{at, sub_of, number_of, kind_at, up_to, wired_through, wired_changelogs, topics_of, drain_order, by_node}
 use Rattle.ks_plan.specs.Resolve.{resolved, resolved_from}
-use Rattle.ks_plan.specs.Wired.{wired_labels, wired_counts, flowing, kept, flows, wired_topics, wired_drained, numbers_read, numbers_in, all_tasks}
+use Rattle.ks_plan.specs.Wired.{wired_labels, wired_counts, wired_origins, flowing, kept, flows, wired_topics, wired_drained, numbers_read, numbers_in, all_tasks}
 use Rattle.ks_topo.specs.Built.{IsShapeOf, IsBuilt, wired_topic_info, wired_place, kept_draft}
 use Rattle.ks_plan.specs.Infos.{NodePlace, node_place, built_view, places_from, place_in, store_of, topic_name, role_of, info_of}
 use Rattle.ks_plan.specs.Faults.{fault_of}
 use Rattle.ks_row.specs.declared.record.TaskId.{TaskId}
 use Rattle.ks_plan.specs.declared.node.TopicInfo.{TopicInfo}
-use Rattle.ks_topo.proofs.Layouts.{length_over, few_each, map_same, same_flowing, same_kept, same_drained, same_topic_parts, same_wiring, same_sub, same_part, same_tasks, same_inputs, same_changelogs}
+use Rattle.ks_topo.proofs.Layouts.{length_over, few_each, map_same, same_flowing, same_kept, same_drained, same_topic_parts, same_topic_before, same_wiring, same_sub, same_part, same_tasks, same_inputs, same_changelogs}
 
 wirings_known : (ks : List Known) → map (λ (r : Resolved). r.wiring) (map resolved ks) ≡ map wiring_of (map (λ (k : Known). k.kind) ks)
 wirings_known [] = refl
 wirings_known (k ∷ ks) = ap (λ l. wiring_of k.kind ∷ l) (wirings_known ks)
 
 pub is_shape : (s : Shape) (d : DraftView) (known : List Resolved) → known ≡ resolved_from d.topics d.nodes → s.counts.items ≡ (plan_of d).counts → s.wirings.items ≡ map (λ (r : Resolved). r.wiring) known
-    → s.labels.items ≡ wired_labels s.wirings.items → s.parts.items ≡ wired_counts s.counts.items s.wirings.items → IsShapeOf s (plan_of d)
-is_shape s d known k c w l p = record { counts = c; wirings = w ∙ (ap (map (λ (r : Resolved). r.wiring)) k ∙ wirings_known (known_from d.topics d.nodes)); labels = l; parts = p }
+    → s.labels.items ≡ wired_labels s.wirings.items → s.parts.items ≡ wired_counts s.counts.items s.wirings.items → s.origins.items ≡ wired_origins s.wirings.items → IsShapeOf s (plan_of d)
+is_shape s d known k c w l p o = record { counts = c; wirings = w ∙ (ap (map (λ (r : Resolved). r.wiring)) k ∙ wirings_known (known_from d.topics d.nodes)); labels = l; parts = p; origins = o }
 
-pub few_wirings : (ts : List (Name × ℤ)) (ns : List NodeDraft) (known : List Resolved) (ws : List Wiring) → length ns ≤ 64 → known ≡ resolved_from ts (nodes_view ns) → ws ≡ map (λ (r : Resolved). r.wiring) known → length ws ≤ 64
+pub few_wirings : (ts : Topics) (ns : List NodeDraft) (known : List Resolved) (ws : List Wiring) → length ns ≤ 64 → known ≡ resolved_from ts (nodes_view ns) → ws ≡ map (λ (r : Resolved). r.wiring) known → length ws ≤ 64
 few_wirings ts ns known ws h k w =
     let a = ap length w ∙ length_over (λ (r : Resolved). r.wiring) known in
     let b = ap length k ∙ length_over resolved (known_from ts (nodes_view ns)) in
@@ -86,9 +86,9 @@ few_topics s all e h k =
     omega (arith, inputs, through, changes, one, two, h, k)
 
 pub shape_is : (r : Result Shape AllocError) (d : DraftView) (known : List Resolved) (counts : List ℕ) (ws : List Wiring) → known ≡ resolved_from d.topics d.nodes → counts ≡ (plan_of d).counts → ws ≡ map (λ (r : Resolved). r.wiring) known
-    → IfOk r (λ s. s.counts.items ≡ counts) → IfOk r (λ s. s.wirings.items ≡ ws) → IfOk r (λ s. s.labels.items ≡ wired_labels ws) → IfOk r (λ s. s.parts.items ≡ wired_counts counts ws) → IfOk r (λ s. IsShapeOf s (plan_of d))
-shape_is (Err e) d known counts ws k c w a b l p = tt
-shape_is (Ok s) d known counts ws k c w a b l p = is_shape s d known k (a ∙ c) (b ∙ w) (l ∙ ap wired_labels (sym b)) (p ∙ ap₂ wired_counts (sym a) (sym b))
+    → IfOk r (λ s. s.counts.items ≡ counts) → IfOk r (λ s. s.wirings.items ≡ ws) → IfOk r (λ s. s.labels.items ≡ wired_labels ws) → IfOk r (λ s. s.parts.items ≡ wired_counts counts ws) → IfOk r (λ s. s.origins.items ≡ wired_origins ws) → IfOk r (λ s. IsShapeOf s (plan_of d))
+shape_is (Err e) d known counts ws k c w a b l p o = tt
+shape_is (Ok s) d known counts ws k c w a b l p o = is_shape s d known k (a ∙ c) (b ∙ w) (l ∙ ap wired_labels (sym b)) (p ∙ ap₂ wired_counts (sym a) (sym b)) (o ∙ ap wired_origins (sym b))
 
 places_over : {A B : Type 0} (g : A → B) (f : ℕ → NodePlace) (n : ℕ) (xs : List A) → places_from f n (map g xs) ≡ places_from f n xs
 places_over g f n [] = refl
@@ -98,8 +98,8 @@ places_same : {A : Type 0} (f g : ℕ → NodePlace) (n : ℕ) (xs : List A) →
 places_same f g n [] e = refl
 places_same f g n (x ∷ xs) e = ap₂ (λ y l. y ∷ l) (e n) (places_same f g (suc n) xs e)
 
-abbrev info_with : DraftView → Topic → ℕ → TopicInfo
-info_with d t n = record { name = topic_name d t; parts = n; role = role_of t }
+abbrev info_with : DraftView → Topic → ℕ → Option Name → TopicInfo
+info_with d t n b = record { name = topic_name d t; parts = n; before = b; role = role_of t }
 
 abbrev place_with : Wiring → ℕ → ℕ → Option ℕ → NodePlace
 place_with w s p o = record { wiring = w; sub = s; parts = p; store = o }
@@ -112,7 +112,7 @@ module _ (s : Shape) (d : DraftView) (h : IsShapeOf s (plan_of d)) where
   the_drained = ap (filter (flows s)) (same_flowing s (plan_of d) h) ∙ same_drained s (plan_of d) h
 
   info_same : (t : Topic) → wired_topic_info d s t ≡ info_of d t
-  info_same t = ap (λ n. info_with d t n) (same_topic_parts s (plan_of d) h t)
+  info_same t = ap₂ (λ n b. info_with d t n b) (same_topic_parts s (plan_of d) h t) (same_topic_before s (plan_of d) h t)
 
   place_same : (n : ℕ) → wired_place s (topics_of (plan_of d)) n ≡ place_in (plan_of d) n
   place_same n =

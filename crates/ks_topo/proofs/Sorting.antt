@@ -1,15 +1,15 @@
 -- Topics in order of their names.
-use Rattle.std.proofs.Common.{◌≡◌, suc, Bool, true, false, ◌||◌, cond, List, [], ◌∷◌, fold, refl, ap, ap₂, ◌∙◌, if◌then◌else◌}
-use Rattle.std.specs.Prelude.{ℤ}
+use Rattle.std.proofs.Common.{◌≡◌, suc, Bool, true, false, ◌||◌, cond, [], ◌∷◌, fold, refl, ap, ap₂, ◌∙◌, if◌then◌else◌}
 use Rattle.std.specs.List.{insert}
 use Rattle.std.specs.Ordering.{nat_cmp, is_lt}
 use Rattle.std.specs.Cmp.Lexicographic.{slice_cmp}
-use Rattle.ks_plan.specs.Drafts.{Name}
+use Rattle.ks_plan.specs.declared.draft.TopicDraft.{TopicDraft}
+use Rattle.ks_plan.specs.Drafts.{Name, Topics}
 use Rattle.ks_plan.specs.Plan.{with_topic}
 use Rattle.ks_plan.specs.Faults.{any_past, is_past}
 use Rattle.ks_topo.specs.Built.{topic_place}
 
-placed : (ys : List (Name × ℤ)) (x : Name × ℤ) → insert ys (topic_place x.0 ys) x ≡ with_topic ys x
+placed : (ys : Topics) (x : Name × TopicDraft) → insert ys (topic_place x.0 ys) x ≡ with_topic ys x
 placed [] x = refl
 placed (y ∷ ys) x = by (is_lt (slice_cmp nat_cmp x.0 y.0)) (placed ys x)
   where
@@ -17,7 +17,7 @@ placed (y ∷ ys) x = by (is_lt (slice_cmp nat_cmp x.0 y.0)) (placed ys x)
     by true e = refl
     by false e = ap (λ l. y ∷ l) e
 
-pub placed_at : (name : Name) (count : ℤ) (ys : List (Name × ℤ)) → insert ys (topic_place name ys) (name, count) ≡ with_topic ys (name, count)
+pub placed_at : (name : Name) (count : TopicDraft) (ys : Topics) → insert ys (topic_place name ys) (name, count) ≡ with_topic ys (name, count)
 placed_at name count ys = placed ys (name, count)
 
 either : (a b c : Bool) → a || (b || c) ≡ b || (a || c)
@@ -26,26 +26,26 @@ either true false c = refl
 either false true c = refl
 either false false c = refl
 
-past_with : (ys : List (Name × ℤ)) (x : Name × ℤ) → any_past (with_topic ys x) ≡ is_past x.1 || any_past ys
+past_with : (ys : Topics) (x : Name × TopicDraft) → any_past (with_topic ys x) ≡ is_past x.1.parts || any_past ys
 past_with [] x = refl
 past_with (y ∷ ys) x = by (is_lt (slice_cmp nat_cmp x.0 y.0)) (past_with ys x)
   where
-    by : (b : Bool) → any_past (with_topic ys x) ≡ is_past x.1 || any_past ys → any_past (cond b (x ∷ y ∷ ys) (y ∷ with_topic ys x)) ≡ is_past x.1 || (is_past y.1 || any_past ys)
+    by : (b : Bool) → any_past (with_topic ys x) ≡ is_past x.1.parts || any_past ys → any_past (cond b (x ∷ y ∷ ys) (y ∷ with_topic ys x)) ≡ is_past x.1.parts || (is_past y.1.parts || any_past ys)
     by true e = refl
-    by false e = ap (λ b. is_past y.1 || b) e ∙ either (is_past y.1) (is_past x.1) (any_past ys)
+    by false e = ap (λ b. is_past y.1.parts || b) e ∙ either (is_past y.1.parts) (is_past x.1.parts) (any_past ys)
 
 neither : (a b : Bool) → a || b ≡ false → (a ≡ false) × (b ≡ false)
 neither true b e = cc
 neither false b e = (refl, e)
 
-past_onto : (ys ts : List (Name × ℤ)) → any_past ys ≡ false → any_past ts ≡ false → any_past (fold with_topic ys ts) ≡ false
+past_onto : (ys ts : Topics) → any_past ys ≡ false → any_past ts ≡ false → any_past (fold with_topic ys ts) ≡ false
 past_onto ys [] e f = e
 past_onto ys (t ∷ ts) e f =
-    let both = neither (is_past t.1) (any_past ts) f in
+    let both = neither (is_past t.1.parts) (any_past ts) f in
     past_onto (with_topic ys t) ts (past_with ys t ∙ ap₂ (λ a b. a || b) both.0 e) both.1
 
-pub past_sorted : (ts : List (Name × ℤ)) → any_past ts ≡ false → any_past (fold with_topic [] ts) ≡ false
+pub past_sorted : (ts : Topics) → any_past ts ≡ false → any_past (fold with_topic [] ts) ≡ false
 past_sorted ts e = past_onto [] ts refl e
 
-pub past_all : (ts slice sorted passed : List (Name × ℤ)) → slice ≡ ts → sorted ≡ fold with_topic [] slice → passed ≡ sorted → any_past ts ≡ false → any_past passed ≡ false
+pub past_all : (ts slice sorted passed : Topics) → slice ≡ ts → sorted ≡ fold with_topic [] slice → passed ≡ sorted → any_past ts ≡ false → any_past passed ≡ false
 past_all ts slice sorted passed a b c e = ap any_past (c ∙ (b ∙ ap (fold with_topic []) a)) ∙ past_sorted ts e

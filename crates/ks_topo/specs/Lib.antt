@@ -3,3 +3,4 @@ pub mod Earlier
 pub mod Built
 pub mod Topologies
 pub mod WellFormed
+pub mod Places

@@ -3,14 +3,14 @@ ghost use Rattle.std.specs.Prelude.{map};
 ghost use Rattle.ks_plan.specs.Infos.{node_place};
 ghost use Rattle.ks_topo.specs.Built.{IsBuilt, kept_draft};
 
-use ks_plan::{Node, Topic, TopicInfo};
+use ks_plan::{Node, Topic, TopicDraft, TopicInfo};
 use ks_row::{Blob, Name, Seq, TaskId};
 
 /// A well-formed draft with its subtopologies, topics and tasks.
 #[derive(Drop)]
 pub struct Topology {
     pub(crate) app: Name,
-    pub(crate) counts: Seq<(Name, i64)>,
+    pub(crate) counts: Seq<(Name, TopicDraft)>,
     pub(crate) print: Seq<Blob>,
     pub(crate) nodes: Vec<Node>,
     pub(crate) topics: Vec<TopicInfo>,

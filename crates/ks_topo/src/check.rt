@@ -3,9 +3,9 @@ ghost use Rattle.std.specs.Prelude.{◌≡◌, ◌≤◌, ◌++◌, length, IfOk
 ghost use Rattle.std.specs.Option.{option_to_list};
 ghost use Rattle.ks_plan.specs.declared.fault.TopoFault.TheVariants.{UnknownInput, WrongKind, DuplicateName, NotCopartitioned, TooMany, BadWindow, SinkOnly};
 ghost use Rattle.ks_plan.specs.Drafts.{draft_view, nodes_view, op_view, node_view};
-ghost use Rattle.ks_plan.specs.Plan.{gives_windows as are_windows, node_number};
-ghost use Rattle.ks_plan.specs.Layout.{at};
-ghost use Rattle.ks_plan.specs.Faults.{first_fitting, first_of, node_lines, one_line, has_name, names_of, names_of_topics, unknown_lines, taken_lines, topics_in, inputs_in, sources_of, set_length, sink_lines, kind_lines, window_lines, is_window as is_good_window, is_time as within_times, is_advance as suits_size, wrong_kind as is_wrong_kind, wiring_in, sinks_among, kinds_among, sides_among};
+ghost use Rattle.ks_plan.specs.Plan.{gives_windows as are_windows, node_number, befores_in};
+ghost use Rattle.ks_plan.specs.Layout.{at, stated_for};
+ghost use Rattle.ks_plan.specs.Faults.{same_before, are_apart, first_fitting, first_of, node_lines, one_line, has_name, names_of, names_of_topics, unknown_lines, taken_lines, topics_in, inputs_in, sources_of, set_length, sink_lines, kind_lines, window_lines, is_window as is_good_window, is_time as within_times, is_advance as suits_size, wrong_kind as is_wrong_kind, wiring_in, sinks_among, kinds_among, sides_among};
 ghost use Rattle.ks_topo.specs.Finds.{Finds};
 ghost use Rattle.ks_topo.specs.Earlier.{IsEarlier, known_of};
 ghost use Rattle.ks_plan.specs.Infos.{internal_names};
@@ -13,10 +13,11 @@ ghost use Rattle.ks_plan.specs.Resolve.{resolved_op};
 
 use crate::stop::Refusal;
 use ks_plan::{
-    NodeDraft, Op, Resolved, TopoFault, Wiring, find_input, gives_stream, internal_name, is_node,
-    is_source, is_topic, number_at, push_changelogs, push_through, resolve_op,
+    NodeDraft, Op, Resolved, TopicDraft, TopoFault, Wiring, find_input, gives_stream,
+    internal_name, is_node, is_source, is_topic, number_at, origin_at, push_changelogs,
+    push_through, resolve_op,
 };
-use ks_row::{Blob, Name};
+use ks_row::{Blob, Name, equal_bytes};
 use std::alloc::{AllocError, Global};
 
 fn blob_of(alloc: Global, bytes: &[u8]) -> Result<Blob, AllocError>
@@ -35,6 +36,7 @@ pub fn too_many(alloc: Global, what: &str, limit: u64) -> Result<TopoFault, Allo
     })
 }
 
+/// The fault of an input that no topic or node has the name of.
 pub fn unknown(alloc: Global, name: &[u8]) -> Result<TopoFault, AllocError>
     ensures { IfOk result (λ f. f ≡ UnknownInput name.now) }
 {
@@ -43,6 +45,7 @@ pub fn unknown(alloc: Global, name: &[u8]) -> Result<TopoFault, AllocError>
     })
 }
 
+/// The fault of a name that two have.
 pub fn duplicate(alloc: Global, name: &[u8]) -> Result<TopoFault, AllocError>
     ensures { IfOk result (λ f. f ≡ DuplicateName name.now) }
 {
@@ -51,6 +54,7 @@ pub fn duplicate(alloc: Global, name: &[u8]) -> Result<TopoFault, AllocError>
     })
 }
 
+/// The fault of an input of the wrong kind, of this name.
 pub fn wrong_kind(alloc: Global, name: &[u8]) -> Result<TopoFault, AllocError>
     ensures { IfOk result (λ f. f ≡ WrongKind name.now) }
 {
@@ -92,7 +96,7 @@ fn check_fields(alloc: Global, op: &Op) -> Result<(), Refusal>
     Ok(())
 }
 
-fn check_topic(alloc: Global, topics: &[(Name, i64)], op: &Op) -> Result<(), Refusal>
+fn check_topic(alloc: Global, topics: &[(Name, TopicDraft)], op: &Op) -> Result<(), Refusal>
     ensures { Finds result (first_fitting (unknown_lines (names_of_topics topics.now)
         (topics_in (op_view op.now)))) }
 {
@@ -179,7 +183,9 @@ fn check_inputs(alloc: Global, before: &[NodeDraft], op: &Op) -> Result<(), Refu
 /// What stands before a node: the topics, and the nodes as they are in the draft and as they were resolved.
 #[derive(Clone, Copy)]
 pub struct Earlier<'a> {
-    pub topics: &'a [(Name, i64)],
+    pub topics: &'a [(Name, TopicDraft)],
+    /// The topics in order of their names.
+    pub sorted: &'a [(Name, TopicDraft)],
     pub nodes: &'a [NodeDraft],
     pub known: &'a [Resolved],
 }
@@ -275,29 +281,70 @@ fn check_kinds(alloc: Global, earlier: Earlier<'_>, node: &NodeDraft) -> Result<
     check_kind(alloc, earlier, node, inputs.second)
 }
 
-// The number of partitions of an earlier node.
-fn parts_of(earlier: Earlier<'_>, parts: &[u8], name: &Blob) -> u8
+// The number of an earlier node.
+fn number_of(earlier: Earlier<'_>, name: &Blob) -> u8
     requires { IsEarlier earlier }
-    ensures { result ≡ at parts.now (node_number (known_of earlier.entry) name.now) }
+    ensures { result ≡ node_number (known_of earlier.entry) name.now }
 {
-    let number = find_input(
+    find_input(
         earlier.topics,
         earlier.nodes,
         earlier.known,
         name.as_slice(),
     )
-    .number;
-    number_at(parts, number as usize)
+    .number
 }
 
-fn check_sides(earlier: Earlier<'_>, parts: &[u8], op: &Op) -> Result<(), Refusal>
+/// The text that is stated for the topic of an origin, among the topics by number.
+pub fn stated_text(sorted: &[(Name, TopicDraft)], origin: Option<u16>) -> Option<&Name>
+    ensures { option_copied result ≡ stated_for (befores_in sorted.now) origin }
+{
+    let (_, topic) = sorted.get(origin? as usize)?;
+    topic.before.as_ref()
+}
+
+fn is_same_before(a: Option<&Name>, b: Option<&Name>) -> bool
+    ensures { result ≡ same_before (option_copied a.entry) (option_copied b.entry) }
+{
+    match (a, b) {
+        (None, None) => true,
+        (Some(a), Some(b)) => equal_bytes(a.as_str().as_bytes(), b.as_str().as_bytes()),
+        _ => false,
+    }
+}
+
+// Whether the keys of two earlier nodes are spread in different ways.
+fn is_apart(
+    earlier: Earlier<'_>,
+    parts: &[u8],
+    origins: &[Option<u16>],
+    left: u8,
+    right: u8,
+) -> bool
     requires { IsEarlier earlier }
-    ensures { Finds result (first_fitting (sides_among parts.now (known_of earlier.entry)
-        (op_view op.now))) }
+    ensures { result ≡ are_apart earlier.entry.topics.now parts.now origins.now left right }
+{
+    let l = stated_text(earlier.sorted, origin_at(origins, left as usize));
+    let r = stated_text(earlier.sorted, origin_at(origins, right as usize));
+    let same = number_at(parts, left as usize) == number_at(parts, right as usize);
+    !(same && is_same_before(l, r))
+}
+
+fn check_sides(
+    earlier: Earlier<'_>,
+    parts: &[u8],
+    origins: &[Option<u16>],
+    op: &Op,
+) -> Result<(), Refusal>
+    requires { IsEarlier earlier }
+    ensures { Finds result (first_fitting (sides_among earlier.entry.topics.now parts.now
+        origins.now (known_of earlier.entry) (op_view op.now))) }
 {
     match op {
         Op::Join { left, right, .. } => {
-            if parts_of(earlier, parts, left) != parts_of(earlier, parts, right) {
+            let l = number_of(earlier, left);
+            let r = number_of(earlier, right);
+            if is_apart(earlier, parts, origins, l, r) {
                 return Err(Refusal::Fault(TopoFault::NotCopartitioned {
                     left: left.clone()?,
                     right: right.clone()?,
@@ -356,7 +403,7 @@ fn check_window(alloc: Global, node: &NodeDraft) -> Result<(), Refusal>
 
 fn check_internal(
     alloc: Global,
-    topics: &[(Name, i64)],
+    topics: &[(Name, TopicDraft)],
     app: &Name,
     node: &Name,
     wiring: Wiring,
@@ -376,17 +423,19 @@ fn check_internal(
     Ok(())
 }
 
-/// The tests of one node in their order; else what the node is. The partition counts of the nodes before it are given.
+/// The tests of one node in their order; else what the node is. The partition counts and the origins of the nodes before it are
+/// given.
 pub fn check_node(
     alloc: Global,
     app: &Name,
     earlier: Earlier<'_>,
     parts: &[u8],
+    origins: &[Option<u16>],
     node: &NodeDraft,
 ) -> Result<Resolved, Refusal>
     requires { IsEarlier earlier }
     ensures found { Finds result (first_of (node_lines app.now earlier.entry.topics.now parts.now
-        (nodes_view earlier.entry.nodes.now) (node_view node.now))) }
+        origins.now (nodes_view earlier.entry.nodes.now) (node_view node.now))) }
     ensures resolved { IfOk result (λ r. r ≡ resolved_op earlier.entry.topics.now
         (nodes_view earlier.entry.nodes.now) (op_view node.now.op)) }
 {
@@ -397,7 +446,7 @@ pub fn check_node(
     check_new_topic(alloc, earlier.nodes, &node.op)?;
     check_sinks(alloc, earlier, node)?;
     check_kinds(alloc, earlier, node)?;
-    check_sides(earlier, parts, &node.op)?;
+    check_sides(earlier, parts, origins, &node.op)?;
     check_window(alloc, node)?;
     let resolved = resolve_op(earlier.topics, earlier.nodes, earlier.known, &node.op);
     check_internal(alloc, earlier.topics, app, &node.name, resolved.wiring)?;

@@ -1,5 +1,5 @@
 //! What is shown of topics and nodes.
-ghost use Rattle.std.specs.Prelude.{◌≡◌, ◌≤◌, ◌+◌, length, map, fold, get_or, [], ◌∷◌, ◌++◌, OnOk, IfOk, Some, None, false, pos, ◌≤ℤ◌};
+ghost use Rattle.std.specs.Prelude.{◌≡◌, ◌≤◌, ◌+◌, length, map, fold, get_or, [], ◌∷◌, ◌++◌, OnOk, IfOk, Some, None, false, pos, ◌≤ℤ◌, option_copied};
 ghost use Rattle.ks_plan.specs.declared.node.Wiring.TheVariants.{StreamSource};
 ghost use Rattle.ks_plan.specs.Drafts.{draft_view, nodes_view};
 ghost use Rattle.ks_plan.specs.Plan.{with_topic, natural as to_natural, sorted_topics};
@@ -7,15 +7,16 @@ ghost use Rattle.ks_plan.specs.Faults.{any_past};
 ghost use Rattle.ks_plan.specs.Infos.{name_in, topic_name as name_of_topic, role_of as role, node_place, built_view, places_from};
 ghost use Rattle.ks_topo.specs.Built.{topic_place, naturals, wired_topic_info, wired_place, wired_store};
 
+use crate::check::stated_text;
 use ks_plan::{
-    Draft, Node, NodeDraft, Role, Shape, Topic, TopicInfo, Wiring, gives_stream, internal_name,
-    is_before, number_at, number_of, parts_of_topic, sub_of,
+    Draft, Node, NodeDraft, Role, Shape, Topic, TopicDraft, TopicInfo, Wiring, gives_stream,
+    internal_name, is_before, number_at, number_of, origin_of_topic, parts_of_topic, sub_of,
 };
 use ks_row::{Blob, Name};
 use std::alloc::{AllocError, Global};
 
 // The place of a name among sorted topics.
-fn find_place(sorted: &[(Name, i64)], name: &Name) -> usize
+fn find_place(sorted: &[(Name, TopicDraft)], name: &Name) -> usize
     ensures place { result ≡ topic_place name.now sorted.now }
     ensures within { result ≤ length sorted.now }
 {
@@ -31,23 +32,48 @@ fn find_place(sorted: &[(Name, i64)], name: &Name) -> usize
 
 // One more topic in its place.
 #[tactic(auto, using(crate::proofs::Sorting::placed_at))]
-fn insert_topic(sorted: &mut Vec<(Name, i64)>, name: Name, count: i64) -> Result<(), AllocError>
-    ensures items { OnOk result (sorted.new.items ≡ with_topic sorted.old.items (name, count)) }
+fn insert_topic(
+    sorted: &mut Vec<(Name, TopicDraft)>,
+    name: Name,
+    topic: TopicDraft,
+) -> Result<(), AllocError>
+    ensures items { OnOk result (sorted.new.items ≡ with_topic sorted.old.items (name, topic)) }
     ensures len { OnOk result (length sorted.new.items ≡ length sorted.old.items + 1) }
 {
     let place = find_place(sorted, &name);
-    sorted.insert(place, (name, count))?;
+    sorted.insert(place, (name, topic))?;
     Ok(())
 }
 
+fn copy_name(name: Option<&Name>) -> Result<Option<Name>, AllocError>
+    ensures { IfOk result (λ n. n ≡ option_copied name.entry) }
+{
+    match name {
+        Some(name) => Ok(Some(name.clone()?)),
+        None => Ok(None),
+    }
+}
+
+fn copy_topic(topic: &TopicDraft) -> Result<TopicDraft, AllocError>
+    ensures { IfOk result (λ t. t ≡ topic.now) }
+{
+    Ok(TopicDraft {
+        parts: topic.parts,
+        before: copy_name(topic.before.as_ref())?,
+    })
+}
+
 /// The topics in order of their names.
-pub fn sort_topics(alloc: Global, topics: &[(Name, i64)]) -> Result<Vec<(Name, i64)>, AllocError>
+pub fn sort_topics(
+    alloc: Global,
+    topics: &[(Name, TopicDraft)],
+) -> Result<Vec<(Name, TopicDraft)>, AllocError>
     ensures items { IfOk result (λ v. v.items ≡ fold with_topic [] topics.now) }
     ensures len { IfOk result (λ v. length v.items ≡ length topics.now) }
 {
     let mut sorted = Vec::new(alloc);
-    for (name, count) in topics {
-        insert_topic(&mut sorted, name.clone()?, *count)?;
+    for (name, topic) in topics {
+        insert_topic(&mut sorted, name.clone()?, copy_topic(topic)?)?;
     }
     Ok(sorted)
 }
@@ -60,14 +86,14 @@ fn to_count(number: i64) -> u8
 }
 
 /// The partition counts of topics.
-pub fn counts_of(alloc: Global, topics: &[(Name, i64)]) -> Result<Vec<u8>, AllocError>
+pub fn counts_of(alloc: Global, topics: &[(Name, TopicDraft)]) -> Result<Vec<u8>, AllocError>
     requires { any_past topics.now ≡ false }
     ensures items { IfOk result (λ v. v.items ≡ naturals topics.now) }
     ensures len { IfOk result (λ v. length v.items ≡ length topics.now) }
 {
     let mut counts = Vec::new(alloc);
-    for (_, count) in topics {
-        counts.push(to_count(*count))?;
+    for (_, topic) in topics {
+        counts.push(to_count(topic.parts))?;
     }
     Ok(counts)
 }
@@ -75,7 +101,7 @@ pub fn counts_of(alloc: Global, topics: &[(Name, i64)]) -> Result<Vec<u8>, Alloc
 fn topic_name(
     alloc: Global,
     draft: &Draft,
-    sorted: &[(Name, i64)],
+    sorted: &[(Name, TopicDraft)],
     topic: Topic,
 ) -> Result<Blob, AllocError>
     requires { sorted.now ≡ sorted_topics (draft_view draft.now) }
@@ -122,11 +148,30 @@ fn role_of(topic: Topic) -> Role
     }
 }
 
+fn topic_info(
+    alloc: Global,
+    draft: &Draft,
+    sorted: &[(Name, TopicDraft)],
+    shape: &Shape,
+    topic: Topic,
+) -> Result<TopicInfo, AllocError>
+    requires { sorted.now ≡ sorted_topics (draft_view draft.now) }
+    ensures { IfOk result (λ i. i ≡ wired_topic_info (draft_view draft.now) shape.now topic) }
+{
+    let before = stated_text(sorted, origin_of_topic(shape, topic));
+    Ok(TopicInfo {
+        name: topic_name(alloc, draft, sorted, topic)?,
+        parts: parts_of_topic(shape, topic),
+        before: copy_name(before)?,
+        role: role_of(topic),
+    })
+}
+
 /// The topics as they are shown.
 pub fn topic_infos(
     alloc: Global,
     draft: &Draft,
-    sorted: &[(Name, i64)],
+    sorted: &[(Name, TopicDraft)],
     shape: &Shape,
     topics: &[Topic],
 ) -> Result<Vec<TopicInfo>, AllocError>
@@ -136,11 +181,7 @@ pub fn topic_infos(
 {
     let mut infos = Vec::new(alloc);
     for topic in topics {
-        infos.push(TopicInfo {
-            name: topic_name(alloc, draft, sorted, *topic)?,
-            parts: parts_of_topic(shape, *topic),
-            role: role_of(*topic),
-        })?;
+        infos.push(topic_info(alloc, draft, sorted, shape, *topic)?)?;
     }
     Ok(infos)
 }

@@ -1,7 +1,7 @@
 //! A draft judged as a whole, with what each of its nodes is.
-ghost use Rattle.std.specs.Prelude.{◌≡◌, ◌≤◌, length, IfOk, OnOk, ◌<◌, take, drop, false, []};
+ghost use Rattle.std.specs.Prelude.{◌≡◌, ◌≤◌, length, IfOk, OnOk, ◌<◌, take, drop, fold, false, []};
 ghost use Rattle.ks_plan.specs.Drafts.{draft_view, nodes_view};
-ghost use Rattle.ks_plan.specs.Plan.{plan_of};
+ghost use Rattle.ks_plan.specs.Plan.{plan_of, with_topic};
 ghost use Rattle.ks_plan.specs.Faults.{first_fitting, size_lines, any_past, nodes_fault, printed_fault, print_lines, parts_fault};
 ghost use Rattle.ks_topo.specs.Finds.{Finds};
 ghost use Rattle.ks_topo.specs.Earlier.{IsEarlier, fault_at, IsNode};
@@ -9,15 +9,18 @@ ghost use Rattle.ks_plan.specs.Resolve.{resolved_from};
 
 use crate::check::{Earlier, check_node, duplicate, too_many, unknown, wiring_of, wrong_kind};
 use crate::stop::Refusal;
-use ks_plan::{Draft, NodeDraft, Resolved, gives_stream, is_listed, is_node, push_parts};
+use ks_plan::{
+    Draft, NodeDraft, Resolved, TopicDraft, gives_stream, is_listed, is_node, push_origin,
+    push_parts,
+};
 use ks_row::{Blob, Name};
 use std::alloc::Global;
 
-fn is_any_past(topics: &[(Name, i64)]) -> bool
+fn is_any_past(topics: &[(Name, TopicDraft)]) -> bool
     ensures { result ≡ any_past topics.now }
 {
-    for (_, count) in topics {
-        if *count > 64 {
+    for (_, topic) in topics {
+        if topic.parts > 64 {
             return true;
         }
     }
@@ -55,16 +58,19 @@ fn nodes_before(nodes: &[NodeDraft], i: usize) -> &[NodeDraft]
 fn judge_node(
     alloc: Global,
     draft: &Draft,
+    sorted: &[(Name, TopicDraft)],
     i: usize,
     known: &[Resolved],
     parts: &[u8],
+    origins: &[Option<u16>],
 ) -> Result<Resolved, Refusal>
     requires within { i < length draft.now.nodes }
     requires nodes { length draft.now.nodes ≤ 64 }
     requires topics { length draft.now.topics ≤ 64 }
+    requires sorted { sorted.now ≡ fold with_topic [] draft.now.topics }
     requires known { known.now ≡ resolved_from draft.now.topics
         (nodes_view (take i draft.now.nodes)) }
-    ensures found { Finds result (fault_at draft.now parts.now (take i draft.now.nodes)
+    ensures found { Finds result (fault_at draft.now parts.now origins.now (take i draft.now.nodes)
         (drop i draft.now.nodes)) }
     ensures resolved { IfOk result (λ r. IsNode draft.now.topics (take i draft.now.nodes)
         (drop i draft.now.nodes) r) }
@@ -72,15 +78,22 @@ fn judge_node(
     let nodes = draft.nodes.as_slice();
     let earlier = Earlier {
         topics: draft.topics.as_slice(),
+        sorted,
         nodes: nodes_before(nodes, i),
         known,
     };
-    check_node(alloc, &draft.app, earlier, parts, &nodes[i])
+    check_node(alloc, &draft.app, earlier, parts, origins, &nodes[i])
 }
 
-fn judge_nodes(alloc: Global, draft: &Draft, counts: &[u8]) -> Result<Vec<Resolved>, Refusal>
+fn judge_nodes(
+    alloc: Global,
+    draft: &Draft,
+    sorted: &[(Name, TopicDraft)],
+    counts: &[u8],
+) -> Result<Vec<Resolved>, Refusal>
     requires nodes { length draft.now.nodes ≤ 64 }
     requires topics { length draft.now.topics ≤ 64 }
+    requires sorted { sorted.now ≡ fold with_topic [] draft.now.topics }
     requires counts { counts.now ≡ (plan_of (draft_view draft.now)).counts }
     ensures found { Finds result (nodes_fault (draft_view draft.now) []
         (nodes_view draft.now.nodes)) }
@@ -89,9 +102,11 @@ fn judge_nodes(alloc: Global, draft: &Draft, counts: &[u8]) -> Result<Vec<Resolv
 {
     let mut known = Vec::new(alloc);
     let mut parts = Vec::new(alloc);
+    let mut origins = Vec::new(alloc);
     for i in 0..draft.nodes.len() {
-        let next = judge_node(alloc, draft, i, &known, &parts)?;
+        let next = judge_node(alloc, draft, sorted, i, &known, &parts, &origins)?;
         push_parts(counts, &mut parts, next.wiring)?;
+        push_origin(&mut origins, next.wiring)?;
         known.push(next)?;
     }
     Ok(known)
@@ -126,17 +141,24 @@ fn judge_print(alloc: Global, all: Earlier<'_>, print: &[Blob]) -> Result<(), Re
 }
 
 /// The first fault of a draft that is not too large, else what its nodes are. The partition counts of its topics are given by number.
-pub fn judge_parts(alloc: Global, draft: &Draft, counts: &[u8]) -> Result<Vec<Resolved>, Refusal>
+pub fn judge_parts(
+    alloc: Global,
+    draft: &Draft,
+    sorted: &[(Name, TopicDraft)],
+    counts: &[u8],
+) -> Result<Vec<Resolved>, Refusal>
     requires nodes { length draft.now.nodes ≤ 64 }
     requires topics { length draft.now.topics ≤ 64 }
+    requires sorted { sorted.now ≡ fold with_topic [] draft.now.topics }
     requires counts { counts.now ≡ (plan_of (draft_view draft.now)).counts }
     ensures found { Finds result (parts_fault (draft_view draft.now)) }
     ensures known { IfOk result (λ ks. ks.items
         ≡ resolved_from draft.now.topics (nodes_view draft.now.nodes)) }
 {
-    let known = judge_nodes(alloc, draft, counts)?;
+    let known = judge_nodes(alloc, draft, sorted, counts)?;
     let all = Earlier {
         topics: draft.topics.as_slice(),
+        sorted,
         nodes: draft.nodes.as_slice(),
         known: known.as_slice(),
     };

@@ -11,7 +11,9 @@ mod stop;
 mod topology;
 
 pub use built::Topology;
-pub use ks_plan::{Draft, Node, NodeDraft, Op, Role, Topic, TopicInfo, TopoFault, Wiring};
+pub use ks_plan::{
+    Draft, Node, NodeDraft, Op, Role, Topic, TopicDraft, TopicInfo, TopoFault, Wiring,
+};
 pub use laws::well_formed_drafts;
 pub use sharing::share_topology;
 pub use topology::first_fault;

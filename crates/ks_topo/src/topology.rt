@@ -2,7 +2,11 @@
 ghost use Rattle.std.specs.Prelude.{◌≡◌, ◌≤◌, ◌<◌, length, map, get_or, [], ◌++◌, IfOk, None};
 ghost use Rattle.ks_plan.specs.Drafts.{DraftView, draft_view, nodes_view};
 ghost use Rattle.ks_plan.specs.Plan.{plan_of, sorted_topics};
+ghost use Rattle.ks_hash.specs.Partition.{part_of_key};
+ghost use Rattle.ks_expr.specs.Keys.{spread_part};
 ghost use Rattle.ks_plan.specs.Layout.{topics_of, tasks as all_tasks};
+ghost use Rattle.ks_plan.specs.Places.{spread_to};
+ghost use Rattle.ks_topo.specs.Places.{spread_in, HasPlaces};
 ghost use Rattle.ks_plan.specs.Infos.{topic_infos as shown_topics, node_places, node_place, built_view, inputs_by_sub, changelogs_by_sub, drain_numbers};
 ghost use Rattle.ks_plan.specs.Faults.{fault_of};
 ghost use Rattle.ks_topo.specs.Finds.{Finds};
@@ -15,9 +19,12 @@ use crate::built::Topology;
 use crate::infos::{built_nodes, counts_of, sort_topics, topic_infos};
 use crate::judge::{judge_parts, judge_sizes};
 use crate::stop::Refusal;
+use ks_expr::spread_part;
+use ks_hash::partition_of;
 use ks_plan::{
-    Draft, Node, Resolved, Shape, Topic, TopicInfo, TopoFault, Wiring, changelog_topics,
-    drained_topics, drained_topics_by_node, numbers_by_sub, numbers_of, shape_of, tasks_of,
+    Draft, Node, Resolved, Shape, Topic, TopicDraft, TopicInfo, TopoFault, Wiring,
+    changelog_topics, drained_topics, drained_topics_by_node, numbers_by_sub, numbers_of, shape_of,
+    tasks_of,
 };
 use ks_row::{Blob, Name, Seq, TaskId};
 use std::alloc::{AllocError, Global};
@@ -108,7 +115,7 @@ fn plan_topics(alloc: Global, shape: &Shape) -> Result<Topics, AllocError>
 fn show(
     alloc: Global,
     draft: &Draft,
-    sorted: &[(Name, i64)],
+    sorted: &[(Name, TopicDraft)],
     shape: &Shape,
 ) -> Result<Shown, AllocError>
     requires sorted { sorted.now ≡ sorted_topics (draft_view draft.now) }
@@ -146,7 +153,7 @@ fn show(
 fn lay_out(
     alloc: Global,
     draft: Draft,
-    sorted: &[(Name, i64)],
+    sorted: &[(Name, TopicDraft)],
     shape: &Shape,
 ) -> Result<Topology, AllocError>
     requires fine { fault_of (draft_view draft) ≡ None }
@@ -188,7 +195,7 @@ fn judge_and_build(alloc: Global, draft: Draft) -> Result<Topology, Refusal>
     judge_sizes(alloc, &draft)?;
     let sorted = sort_topics(alloc, draft.topics.as_slice())?;
     let counts = counts_of(alloc, &sorted)?;
-    let known = judge_parts(alloc, &draft, &counts)?;
+    let known = judge_parts(alloc, &draft, &sorted, &counts)?;
     let shape = draft_shape(alloc, &draft, counts, &known)?;
     Ok(lay_out(alloc, draft, &sorted, &shape)?)
 }
@@ -199,7 +206,7 @@ fn judge_draft(alloc: Global, draft: &Draft) -> Result<(), Refusal>
     judge_sizes(alloc, draft)?;
     let sorted = sort_topics(alloc, draft.topics.as_slice())?;
     let counts = counts_of(alloc, &sorted)?;
-    judge_parts(alloc, draft, &counts)?;
+    judge_parts(alloc, draft, &sorted, &counts)?;
     Ok(())
 }
 
@@ -212,6 +219,16 @@ pub fn first_fault(alloc: Global, draft: &Draft) -> Result<Option<TopoFault>, Al
         Err(Refusal::Memory) => Err(AllocError),
         Err(Refusal::Fault(fault)) => Ok(Some(fault)),
     }
+}
+
+// The place of a key in a topic of 1 to 64 partitions.
+fn place_in(info: &TopicInfo, key: &[u8]) -> u8
+    requires low { 1 ≤ info.now.parts }
+    requires high { info.now.parts ≤ 64 }
+    ensures place { result ≡ part_of_key (spread_part info.now.before key.now) info.now.parts }
+    ensures below { result < info.now.parts }
+{
+    partition_of(spread_part(info.before.as_ref(), key), info.parts)
 }
 
 impl Topology {
@@ -232,6 +249,18 @@ impl Topology {
         ensures { result.now ≡ shown_topics (draft_of self.now) }
     {
         self.topics.as_slice()
+    }
+
+    /// The place of a key in a topic of 1 to 64 partitions, by number: the partition of its front part where the topic's keys are spread
+    /// by that, else of the whole key (Kafka's `DefaultPartitioner`). Of a topic of responses and of a changelog it is that of the
+    /// node's key. Takes no memory.
+    pub fn place(&self, topic: u16, key: &[u8]) -> u8
+        requires { HasPlaces (plan_in self.now) topic }
+        ensures place { result ≡ spread_to key.now (spread_in (plan_in self.now) topic) }
+        ensures below { result < (spread_in (plan_in self.now) topic).parts }
+    {
+        let infos = self.topics();
+        place_in(&infos[topic as usize], key)
     }
 
     /// What each topic is for, by number.

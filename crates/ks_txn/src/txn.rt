@@ -126,12 +126,14 @@ impl Txn {
         }
     }
 
+    /// The producer's epoch; 0 before its first.
     pub fn epoch(&self) -> u64
         ensures { result ≡ self.now.epoch }
     {
         self.epoch
     }
 
+    /// Whether a transaction is open and neither committed nor aborted.
     pub fn is_undecided(&self) -> bool
         ensures { result ≡ is_undecided self.now }
     {

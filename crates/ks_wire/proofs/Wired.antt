@@ -1,9 +1,10 @@
 -- The readers and the spellings belong together.
-use Rattle.std.proofs.Common.{◌≡◌, ℕ, ℤ, zero, suc, ◌+◌, ◌^◌, ◌<◌, ◌≤◌, Bool, true, false, cond, eqb, leb, ◌≢◌, List, [], ◌∷◌, ◌++◌, length, Option, Some, None, refl, sym, ap, subst, ◌∙◌, append_assoc, arith}
+use Rattle.std.proofs.Common.{◌≡◌, ℕ, ℤ, zero, suc, ◌+◌, ◌-◌, ◌%◌, ◌^◌, ◌<◌, ◌≤◌, Bool, true, false, cond, eqb, leb, ◌≢◌, List, [], ◌∷◌, ◌++◌, length, Option, Some, None, refl, sym, ap, ap₂, subst, ◌∙◌, append_assoc, length-append, arith}
 use Rattle.std.specs.Prelude.{IfSome, option_map}
 use Rattle.std.specs.Int.{w32, w64, w128, to_be_bytes}
 use Rattle.std.proofs.lemmas.Bool.{eqb-true, leb-true, le-leb}
 use Rattle.std.proofs.lemmas.List.{append-nil, nil_from_length}
+use Rattle.std.proofs.lemmas.Nat.{mod_below}
 use Rattle.ks_row.specs.Texts.{IsKey, key_from}
 use Rattle.ks_row.specs.Rows.{Member}
 use Rattle.ks_row.specs.Spelling.{IsBytes, int_bytes, spelling, FitsRow}
@@ -12,12 +13,13 @@ use Rattle.ks_row.specs.Codecs.{IsCodec}
 use Rattle.ks_row.proofs.Fields.{bind_some, guard_some, test_some, some_is, paired, Takes, Takes-then, IsBytes-rest, wide32, wide64, bytes_take, bytes_again, number_takes, number_again, int_takes, int_again}
 use Rattle.ks_row.proofs.Spelled.{key_takes, key_again, row_codec}
 use Rattle.ks_row.proofs.Decoded.{codec_of}
-use Rattle.ks_wire.specs.Values.{SubscriptionValue}
+use Rattle.ks_wire.specs.Values.{SubscriptionValue, IsPart}
 use Rattle.ks_wire.specs.declared.values.Response.{Response}
 use Rattle.ks_wire.specs.declared.values.Delta.{Delta}
 use Rattle.ks_wire.specs.declared.values.Agg.{Agg}
-use Rattle.ks_wire.specs.Spelling.{hash_flag, hash_or_nothing, hash_bytes, time_bytes, subscription_bytes, row_or_nothing, response_bytes, delta_bytes, agg_bytes, long_key, subscription_key, window_key, FitsHash, FitsSubscription, FitsResponse, FitsDelta, FitsAgg, FitsKeys, FitsWindow}
-use Rattle.ks_wire.specs.Reading.{whole, hash_at, subscription_from, right_from, response_from, delta_from, agg_from, hash_from, time_from, long_key_at, subscription_key_from, window_key_from}
+use Rattle.ks_wire.specs.declared.values.Subscriber.{Subscriber}
+use Rattle.ks_wire.specs.Spelling.{hash_flag, version_of, part_or_nothing, hash_or_nothing, hash_bytes, subscriber_bytes, time_bytes, subscription_bytes, row_or_nothing, response_bytes, delta_bytes, agg_bytes, long_key, subscription_key, window_key, FitsHash, FitsSubscription, FitsSubscriber, FitsResponse, FitsDelta, FitsAgg, FitsKeys, FitsWindow}
+use Rattle.ks_wire.specs.Reading.{whole, hash_at, part_from, named_from, subscription_from, part_or_none, subscriber_from, right_from, response_from, delta_from, agg_from, time_from, long_key_at, subscription_key_from, window_key_from}
 use Rattle.ks_wire.proofs.Wide.{wide128}
 
 -- ---- the last value of some bytes
@@ -58,26 +60,98 @@ unfolding hash_at
 hash_again None rest fits = refl
 hash_again (Some h) rest fits = rw (number_again w128 (2 ^ 128) wide128 h rest fits) refl
 
+-- ---- partitions
+
+part_takes : (bytes : List ℕ) (i : ℕ) → IsBytes bytes → part_from bytes ≡ Some i → (bytes ≡ to_be_bytes w32 i) × (i ≤ 63)
+unfolding part_from
+part_takes bytes i fits e =
+    let a = bind_some (number_at w32 bytes) (λ n. whole n >>= λ part. cond (leb part 63) (Some part) None) i e in
+    let b = bind_some (whole a.0) (λ part. cond (leb part 63) (Some part) None) i a.2 in
+    let g = test_some (leb b.0 63) (Some b.0) i b.2 in
+    let t = number_takes w32 (2 ^ 32) wide32 bytes a.0.0 a.0.1 fits a.1 in
+    let k = at_end bytes (to_be_bytes w32 a.0.0) a.0.1 a.0.0 b.0 t.0 b.1 in
+    subst (λ (v : ℕ). (bytes ≡ to_be_bytes w32 v) × (v ≤ 63)) (some_is b.0 i g.1) (k.0 ∙ ap (to_be_bytes w32) k.1, leb-true _ _ g.0)
+
+part_again : (i : ℕ) → i ≤ 63 → part_from (to_be_bytes w32 i) ≡ Some i
+unfolding part_from
+part_again i le =
+    let lt : i < 2 ^ 32 = omega (arith, le) in
+    let alone : number_at w32 (to_be_bytes w32 i) ≡ Some (i, []) = ap (number_at w32) (sym (append-nil (to_be_bytes w32 i))) ∙ number_again w32 (2 ^ 32) wide32 i [] lt in
+    ap (λ r. r >>= λ n. whole n >>= λ part. cond (leb part 63) (Some part) None) alone ∙ ap (λ b. cond b (Some i) None) (le-leb _ _ le)
+
 -- ---- subscriptions
+
+named_takes : (version : ℕ) (bytes left : List ℕ) (part : Option ℕ) → version < 2 → IsBytes bytes → named_from version bytes ≡ Some (left, part) →
+    (version ≡ version_of part) × (bytes ≡ left ++ part_or_nothing part) × IsKey left × IsPart part
+unfolding named_from
+named_takes zero bytes left part lt fits e =
+    let a = mapped (λ k. (k, None)) (key_from bytes) (left, part) e in
+    let k = key_takes bytes a.0 a.1 in
+    let made : (0 ≡ version_of None) × (bytes ≡ a.0 ++ part_or_nothing None) × IsKey a.0 × IsPart None = (refl, k.0 ∙ sym (append-nil a.0), subst IsKey k.0 k.1, tt) in
+    subst (λ (x : List ℕ × Option ℕ). (0 ≡ version_of x.1) × (bytes ≡ x.0 ++ part_or_nothing x.1) × IsKey x.0 × IsPart x.1) a.2 made
+named_takes (suc v) bytes left part lt fits e =
+    let a = bind_some (bytes_at (length bytes - 4) bytes) (λ front. key_from front.0 >>= λ key. part_from front.1 >>= λ i. Some (key, Some i)) (left, part) e in
+    let b = bind_some (key_from a.0.0) (λ key. part_from a.0.1 >>= λ i. Some (key, Some i)) (left, part) a.2 in
+    let d = bind_some (part_from a.0.1) (λ i. Some (b.0, Some i)) (left, part) b.2 in
+    let t = bytes_take (length bytes - 4) bytes a.0.0 a.0.1 fits a.1 in
+    let k = key_takes a.0.0 b.0 b.1 in
+    let i = part_takes a.0.1 d.0 t.0.rest_fits d.1 in
+    let one : suc v ≡ version_of (Some d.0) = omega (arith, lt) in
+    let spelled : bytes ≡ b.0 ++ part_or_nothing (Some d.0) = t.0.parts ∙ ap (λ (x : List ℕ). x ++ a.0.1) k.0 ∙ ap (λ (x : List ℕ). b.0 ++ x) i.0 in
+    let made : (suc v ≡ version_of (Some d.0)) × (bytes ≡ b.0 ++ part_or_nothing (Some d.0)) × IsKey b.0 × IsPart (Some d.0) = (one, spelled, subst IsKey k.0 k.1, i.1) in
+    subst (λ (x : List ℕ × Option ℕ). (suc v ≡ version_of x.1) × (bytes ≡ x.0 ++ part_or_nothing x.1) × IsKey x.0 × IsPart x.1) (some_is (b.0, Some d.0) (left, part) d.2) made
+
+named_again : (left : List ℕ) (part : Option ℕ) → IsKey left → IsPart part → named_from (version_of part) (left ++ part_or_nothing part) ≡ Some (left, part)
+unfolding named_from
+named_again left None key fits = ap (λ bs. option_map (λ k. (k, None)) (key_from bs)) (append-nil left) ∙ ap (option_map (λ k. (k, None))) (key_again left key)
+named_again left (Some i) key fits =
+    let four : length (to_be_bytes w32 i) ≡ 4 = wide32.len i in
+    let cut : length (left ++ to_be_bytes w32 i) - 4 ≡ length left = omega (arith, four, length-append left (to_be_bytes w32 i)) in
+    let read : bytes_at (length (left ++ to_be_bytes w32 i) - 4) (left ++ to_be_bytes w32 i) ≡ Some (left, to_be_bytes w32 i) = ap (λ n. bytes_at n (left ++ to_be_bytes w32 i)) cut ∙ bytes_again left (to_be_bytes w32 i) in
+    ap (λ r. r >>= λ front. key_from front.0 >>= λ k. part_from front.1 >>= λ j. Some (k, Some j)) read
+    ∙ ap (λ r. r >>= λ k. part_from (to_be_bytes w32 i) >>= λ j. Some (k, Some j)) (key_again left key)
+    ∙ ap (λ r. r >>= λ j. Some (left, Some j)) (part_again i fits)
+
+-- a flag is its base and its version
+mod_most : (n : ℕ) → n % 2 ≤ n
+mod_most n = omega arith
+
+flag_parts : (h part : Option ℕ) → ((hash_flag h + version_of part) % 2 ≡ version_of part) × (hash_flag h + version_of part - (hash_flag h + version_of part) % 2 ≡ hash_flag h)
+flag_parts None None = (refl, refl)
+flag_parts None (Some i) = (refl, refl)
+flag_parts (Some h) None = (refl, refl)
+flag_parts (Some h) (Some i) = (refl, refl)
+
+abbrev last : ℕ → Option ℕ → List ℕ × Option ℕ → Option SubscriptionValue
+last i h n = cond (leb i 3) (Some (record { hash = h; instruction = i; left = n.0; part = n.1 })) None
 
 subscription_takes : (bytes : List ℕ) (s : SubscriptionValue) → IsBytes bytes → subscription_from bytes ≡ Some s → FitsSubscription s × (bytes ≡ subscription_bytes s)
 unfolding subscription_from subscription_bytes
 subscription_takes [] s fits e = absurd cc
 subscription_takes (flag ∷ []) s fits e = absurd cc
 subscription_takes (flag ∷ i ∷ rest) s fits e =
-    let a = bind_some (hash_at flag rest) (λ hash. key_from hash.1 >>= λ left. cond (leb i 3) (Some (record { hash = hash.0; instruction = i; left = left })) None) s e in
-    let b = bind_some (key_from a.0.1) (λ left. cond (leb i 3) (Some (record { hash = a.0.0; instruction = i; left = left })) None) s a.2 in
-    let g = test_some (leb i 3) (Some (record { hash = a.0.0; instruction = i; left = b.0 })) s b.2 in
-    let t = hash_takes flag rest a.0.0 a.0.1 (IsBytes-rest i rest (IsBytes-rest flag (i ∷ rest) fits)) a.1 in
-    let k = key_takes a.0.1 b.0 b.1 in
-    let made : SubscriptionValue = record { hash = a.0.0; instruction = i; left = b.0 } in
-    let left : IsKey b.0 = subst IsKey k.0 k.1 in
-    let spelled : flag ∷ i ∷ rest ≡ subscription_bytes made = ap (λ (x : ℕ). x ∷ i ∷ rest) t.0 ∙ ap (λ (x : List ℕ). hash_flag a.0.0 ∷ i ∷ x) (t.1.parts ∙ ap (λ (x : List ℕ). hash_or_nothing a.0.0 ++ x) k.0) in
-    subst (λ (v : SubscriptionValue). FitsSubscription v × (flag ∷ i ∷ rest ≡ subscription_bytes v)) (some_is made s g.1) (record { hash = t.2; instruction = leb-true _ _ g.0; left = left }, spelled)
+    let a = bind_some (hash_at (flag - flag % 2) rest) (λ hash. named_from (flag % 2) hash.1 >>= last i hash.0) s e in
+    let b = bind_some (named_from (flag % 2) a.0.1) (last i a.0.0) s a.2 in
+    let g = test_some (leb i 3) (Some (record { hash = a.0.0; instruction = i; left = b.0.0; part = b.0.1 })) s b.2 in
+    let t = hash_takes (flag - flag % 2) rest a.0.0 a.0.1 (IsBytes-rest i rest (IsBytes-rest flag (i ∷ rest) fits)) a.1 in
+    let two : flag % 2 < 2 = mod_below flag 2 (omega arith) in
+    let k = named_takes (flag % 2) a.0.1 b.0.0 b.0.1 two t.1.rest_fits b.1 in
+    let made : SubscriptionValue = record { hash = a.0.0; instruction = i; left = b.0.0; part = b.0.1 } in
+    let flag-is : flag ≡ hash_flag a.0.0 + version_of b.0.1 = omega (arith, t.0, k.0, mod_most flag) in
+    let spelled : flag ∷ i ∷ rest ≡ subscription_bytes made =
+    ap (λ (x : ℕ). x ∷ i ∷ rest) flag-is ∙ ap (λ (x : List ℕ). (hash_flag a.0.0 + version_of b.0.1) ∷ i ∷ x) (t.1.parts ∙ ap (λ (x : List ℕ). hash_or_nothing a.0.0 ++ x) k.1 ∙ sym (append_assoc (hash_or_nothing a.0.0) b.0.0 (part_or_nothing b.0.1))) in
+    subst (λ (v : SubscriptionValue). FitsSubscription v × (flag ∷ i ∷ rest ≡ subscription_bytes v)) (some_is made s g.1) (record { hash = t.2; instruction = leb-true _ _ g.0; left = k.2; part = k.3 }, spelled)
 
 subscription_again : (s : SubscriptionValue) → FitsSubscription s → subscription_from (subscription_bytes s) ≡ Some s
 unfolding subscription_from subscription_bytes
-subscription_again s fits = rw (hash_again s.hash s.left fits.hash, key_again s.left fits.left, le-leb _ _ fits.instruction) refl
+subscription_again s fits =
+    let flag = flag_parts s.hash s.part in
+    let rest = hash_or_nothing s.hash ++ s.left ++ part_or_nothing s.part in
+    ap₂ (λ f v. hash_at f rest >>= λ hash. named_from v hash.1 >>= last s.instruction hash.0) flag.1 flag.0
+    ∙ ap (λ bs. hash_at (hash_flag s.hash) bs >>= λ hash. named_from (version_of s.part) hash.1 >>= last s.instruction hash.0) (append_assoc (hash_or_nothing s.hash) s.left (part_or_nothing s.part))
+    ∙ ap (λ r. r >>= λ hash. named_from (version_of s.part) hash.1 >>= last s.instruction hash.0) (hash_again s.hash (s.left ++ part_or_nothing s.part) fits.hash)
+    ∙ ap (λ r. r >>= last s.instruction s.hash) (named_again s.left s.part fits.left fits.part)
+    ∙ ap (λ b. cond b (Some s) None) (le-leb _ _ fits.instruction)
 
 pub subscription_codec : IsCodec subscription_from subscription_bytes FitsSubscription
 subscription_codec = codec_of subscription_again subscription_takes
@@ -191,13 +265,10 @@ agg_again g fits = two_ints (agg_bytes g) (int_bytes g.total) g.members g.total 
 pub agg_codec : IsCodec agg_from agg_bytes FitsAgg
 agg_codec = codec_of agg_again agg_takes
 
--- ---- hashes and timestamps alone
+-- ---- timestamps alone
 
 number_alone : (n : ℕ) → n < 2 ^ 64 → number_at w64 (to_be_bytes w64 n) ≡ Some (n, [])
 number_alone n lt = ap (number_at w64) (sym (append-nil (to_be_bytes w64 n))) ∙ number_again w64 (2 ^ 64) wide64 n [] lt
-
-hash_alone : (n : ℕ) → n < 2 ^ 128 → number_at w128 (to_be_bytes w128 n) ≡ Some (n, [])
-hash_alone n lt = ap (number_at w128) (sym (append-nil (to_be_bytes w128 n))) ∙ number_again w128 (2 ^ 128) wide128 n [] lt
 
 time_takes : (bytes : List ℕ) (t : ℕ) → IsBytes bytes → time_from bytes ≡ Some t → (t < 2 ^ 64) × (bytes ≡ time_bytes t)
 unfolding time_from
@@ -214,20 +285,43 @@ time_again t lt = ap (λ r. r >>= whole) (number_alone t lt)
 pub time_codec : IsCodec time_from time_bytes (λ t. t < 2 ^ 64)
 time_codec = codec_of time_again time_takes
 
-one_hash_takes : (bytes : List ℕ) (h : ℕ) → IsBytes bytes → hash_from bytes ≡ Some h → (h < 2 ^ 128) × (bytes ≡ hash_bytes h)
-unfolding hash_from
-one_hash_takes bytes h fits e =
-    let a = bind_some (number_at w128 bytes) whole h e in
-    let u = number_takes w128 (2 ^ 128) wide128 bytes a.0.0 a.0.1 fits a.1 in
-    let k = at_end bytes (hash_bytes a.0.0) a.0.1 a.0.0 h u.0 a.2 in
-    subst (λ (v : ℕ). (v < 2 ^ 128) × (bytes ≡ hash_bytes v)) k.1 (u.1, k.0)
+-- ---- subscribers
 
-one_hash_again : (h : ℕ) → h < 2 ^ 128 → hash_from (hash_bytes h) ≡ Some h
-unfolding hash_from
-one_hash_again h lt = ap (λ r. r >>= whole) (hash_alone h lt)
+parts_take : (bytes : List ℕ) (o : Option ℕ) → IsBytes bytes → part_or_none bytes ≡ Some o → (bytes ≡ part_or_nothing o) × IsPart o
+unfolding part_or_none
+parts_take [] o fits e = subst (λ (v : Option ℕ). ([] ≡ part_or_nothing v) × IsPart v) (some_is None o e) (refl, tt)
+parts_take (b ∷ bytes) o fits e =
+    let a = mapped Some (part_from (b ∷ bytes)) o e in
+    subst (λ (v : Option ℕ). (b ∷ bytes ≡ part_or_nothing v) × IsPart v) a.2 (part_takes (b ∷ bytes) a.0 fits a.1)
 
-pub hash_codec : IsCodec hash_from hash_bytes (λ h. h < 2 ^ 128)
-hash_codec = codec_of one_hash_again one_hash_takes
+of_part : (bytes : List ℕ) (i : ℕ) → 0 < length bytes → part_from bytes ≡ Some i → part_or_none bytes ≡ Some (Some i)
+unfolding part_or_none
+of_part [] i some e = absurd (omega (arith, some))
+of_part (b ∷ bytes) i some e = ap (option_map Some) e
+
+parts_again : (o : Option ℕ) → IsPart o → part_or_none (part_or_nothing o) ≡ Some o
+unfolding part_or_none
+parts_again None fits = refl
+parts_again (Some i) fits = of_part (to_be_bytes w32 i) i (omega (arith, wide32.len i)) (part_again i fits)
+
+subscriber_takes : (bytes : List ℕ) (s : Subscriber) → IsBytes bytes → subscriber_from bytes ≡ Some s → FitsSubscriber s × (bytes ≡ subscriber_bytes s)
+unfolding subscriber_from subscriber_bytes
+subscriber_takes bytes s fits e =
+    let a = bind_some (number_at w128 bytes) (λ hash. part_or_none hash.1 >>= λ part. Some (record { hash = hash.0; part = part })) s e in
+    let b = bind_some (part_or_none a.0.1) (λ part. Some (record { hash = a.0.0; part = part })) s a.2 in
+    let t = number_takes w128 (2 ^ 128) wide128 bytes a.0.0 a.0.1 fits a.1 in
+    let k = parts_take a.0.1 b.0 t.0.rest_fits b.1 in
+    let made : Subscriber = record { hash = a.0.0; part = b.0 } in
+    subst (λ (v : Subscriber). FitsSubscriber v × (bytes ≡ subscriber_bytes v)) (some_is made s b.2) (record { hash = t.1; part = k.1 }, t.0.parts ∙ ap (λ (x : List ℕ). hash_bytes a.0.0 ++ x) k.0)
+
+subscriber_again : (s : Subscriber) → FitsSubscriber s → subscriber_from (subscriber_bytes s) ≡ Some s
+unfolding subscriber_from subscriber_bytes
+subscriber_again s fits =
+    ap (λ r. r >>= λ hash. part_or_none hash.1 >>= λ part. Some (record { hash = hash.0; part = part })) (number_again w128 (2 ^ 128) wide128 s.hash (part_or_nothing s.part) fits.hash)
+    ∙ ap (λ r. r >>= λ part. Some (record { hash = s.hash; part = part })) (parts_again s.part fits.part)
+
+pub subscriber_codec : IsCodec subscriber_from subscriber_bytes FitsSubscriber
+subscriber_codec = codec_of subscriber_again subscriber_takes
 
 -- ---- keys of stores
 

@@ -1,5 +1,5 @@
 -- Reading what tasks say to one another and keep: the value that the bytes spell, all of them, or none.
-use Rattle.std.specs.Prelude.{ℕ, zero, suc, List, [], ◌∷◌, length, Option, Some, None, Bool, true, false, ◌==◌, nat_le, if◌then◌else◌, option_map}
+use Rattle.std.specs.Prelude.{ℕ, zero, suc, ◌-◌, ◌%◌, List, [], ◌∷◌, length, Option, Some, None, Bool, true, false, ◌==◌, nat_le, if◌then◌else◌, option_map}
 use Rattle.std.specs.Int.{w32, w64, w128, cast_signed}
 use Rattle.ks_row.specs.Texts.{key_from}
 use Rattle.ks_row.specs.Rows.{Member}
@@ -8,6 +8,7 @@ use Rattle.ks_wire.specs.Values.{SubscriptionValue}
 use Rattle.ks_wire.specs.declared.values.Response.{Response}
 use Rattle.ks_wire.specs.declared.values.Delta.{Delta}
 use Rattle.ks_wire.specs.declared.values.Agg.{Agg}
+use Rattle.ks_wire.specs.declared.values.Subscriber.{Subscriber}
 
 -- the value, where no byte is left
 abbrev pub whole : {A : Type 0} → A × List ℕ → Option A
@@ -19,13 +20,41 @@ hash_at flag bytes =
     if flag == 128 then Some (None, bytes)
     else (if flag == 0 then option_map (λ h. (Some h.0, h.1)) (number_at w128 bytes) else None)
 
+-- a partition of at most 64, in all of the bytes
+unfoldable pub part_from : List ℕ → Option ℕ
+part_from bytes = do
+  n ← number_at w32 bytes
+  part ← whole n
+  if nat_le part 63 then Some part else None
+
+-- the left key, and of version 1 the partition in the last four bytes
+unfoldable pub named_from : ℕ → List ℕ → Option (List ℕ × Option ℕ)
+named_from zero bytes = option_map (λ k. (k, None)) (key_from bytes)
+named_from (suc v) bytes = do
+  front ← bytes_at (length bytes - 4) bytes
+  key ← key_from front.0
+  part ← part_from front.1
+  Some (key, Some part)
+
+-- the version is in the flag's lowest bit
 unfoldable pub subscription_from : List ℕ → Option SubscriptionValue
 subscription_from [] = None
 subscription_from (flag ∷ []) = None
 subscription_from (flag ∷ instruction ∷ rest) = do
-  hash ← hash_at flag rest
-  left ← key_from hash.1
-  if nat_le instruction 3 then Some (record { hash = hash.0; instruction = instruction; left = left }) else None
+  hash ← hash_at (flag - flag % 2) rest
+  named ← named_from (flag % 2) hash.1
+  if nat_le instruction 3 then Some (record { hash = hash.0; instruction = instruction; left = named.0; part = named.1 }) else None
+
+-- no partition where no byte is left
+unfoldable pub part_or_none : List ℕ → Option (Option ℕ)
+part_or_none [] = Some None
+part_or_none (b ∷ bytes) = option_map Some (part_from (b ∷ bytes))
+
+unfoldable pub subscriber_from : List ℕ → Option Subscriber
+subscriber_from bytes = do
+  hash ← number_at w128 bytes
+  part ← part_or_none hash.1
+  Some (record { hash = hash.0; part = part })
 
 -- no row where no byte is left
 unfoldable pub right_from : List ℕ → Option (Option (List Member))
@@ -54,12 +83,6 @@ agg_from bytes = do
   members ← int_at bytes
   total ← int_at members.1
   whole (record { members = members.0; total = total.0 }, total.1)
-
--- a hash alone
-unfoldable pub hash_from : List ℕ → Option ℕ
-hash_from bytes = do
-  h ← number_at w128 bytes
-  whole h
 
 -- a timestamp alone
 unfoldable pub time_from : List ℕ → Option ℕ

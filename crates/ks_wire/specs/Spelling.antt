@@ -1,18 +1,19 @@
 -- The one spelling of what tasks say to one another and keep.
 -- A subscription and a response have the layout of Kafka Streams' `SubscriptionWrapper` and `SubscriptionResponseWrapper`
 -- (KIP-213), with hashes and lengths of this project's own.
-use Rattle.std.specs.Prelude.{◌≡◌, ℕ, ◌<◌, ◌≤◌, ◌^◌, List, [], ◌∷◌, ◌++◌, length, Option, Some, None, IfSome, Bool, if◌then◌else◌}
+use Rattle.std.specs.Prelude.{◌≡◌, ℕ, ◌+◌, ◌<◌, ◌≤◌, ◌^◌, List, [], ◌∷◌, ◌++◌, length, Option, Some, None, IfSome, Bool, if◌then◌else◌}
 use Rattle.std.specs.Int.{w32, w64, w128, to_be_bytes}
 use Rattle.std.specs.Int.RustNames.{FitsSigned}
 use Rattle.ks_row.specs.Texts.{IsKey}
 use Rattle.ks_row.specs.Rows.{Member}
 use Rattle.ks_row.specs.Spelling.{spelling, int_bytes, FitsRow}
-use Rattle.ks_wire.specs.Values.{SubscriptionValue}
+use Rattle.ks_wire.specs.Values.{SubscriptionValue, IsPart}
 use Rattle.ks_wire.specs.declared.values.Response.{Response}
 use Rattle.ks_wire.specs.declared.values.Delta.{Delta}
 use Rattle.ks_wire.specs.declared.values.Agg.{Agg}
+use Rattle.ks_wire.specs.declared.values.Subscriber.{Subscriber}
 
--- version 0, with the top bit set where there is no hash
+-- the top bit is set where there is no hash
 abbrev pub hash_flag : Option ℕ → ℕ
 hash_flag None = 128
 hash_flag (Some h) = 0
@@ -24,15 +25,28 @@ abbrev pub hash_or_nothing : Option ℕ → List ℕ
 hash_or_nothing None = []
 hash_or_nothing (Some h) = hash_bytes h
 
--- the flag, the instruction, the hash and the left key
+-- version 1 names a partition, version 0 doesn't
+abbrev pub version_of : Option ℕ → ℕ
+version_of None = 0
+version_of (Some i) = 1
+
+abbrev pub part_or_nothing : Option ℕ → List ℕ
+part_or_nothing None = []
+part_or_nothing (Some i) = to_be_bytes w32 i
+
+-- the flag with the version, the instruction, the hash, the left key and the partition
 unfoldable pub subscription_bytes : SubscriptionValue → List ℕ
-subscription_bytes s = hash_flag s.hash ∷ s.instruction ∷ hash_or_nothing s.hash ++ s.left
+subscription_bytes s = (hash_flag s.hash + version_of s.part) ∷ s.instruction ∷ hash_or_nothing s.hash ++ s.left ++ part_or_nothing s.part
+
+-- what a subscription store keeps at a foreign key and a left key
+unfoldable pub subscriber_bytes : Subscriber → List ℕ
+subscriber_bytes s = hash_bytes s.hash ++ part_or_nothing s.part
 
 abbrev pub row_or_nothing : Option (List Member) → List ℕ
 row_or_nothing None = []
 row_or_nothing (Some row) = spelling row
 
--- the flag, the hash and the right row
+-- the flag, whose version stays 0, the hash and the right row
 unfoldable pub response_bytes : Response → List ℕ
 response_bytes r = hash_flag r.hash ∷ hash_or_nothing r.hash ++ row_or_nothing r.right
 
@@ -71,6 +85,11 @@ pub record FitsSubscription (s : SubscriptionValue) : Type 0 where
   pub hash : FitsHash s.hash
   pub instruction : s.instruction ≤ 3
   pub left : IsKey s.left
+  pub part : IsPart s.part
+
+pub record FitsSubscriber (s : Subscriber) : Type 0 where
+  pub hash : s.hash < 2 ^ 128
+  pub part : IsPart s.part
 
 pub record FitsResponse (r : Response) : Type 0 where
   pub hash : FitsHash r.hash

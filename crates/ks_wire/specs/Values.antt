@@ -1,5 +1,5 @@
 -- What a subscription says.
-use Rattle.std.specs.Prelude.{ℕ, List, Option}
+use Rattle.std.specs.Prelude.{ℕ, ◌≤◌, List, Option, IfSome}
 
 pub record SubscriptionValue : Type 0 where
   -- of the left row's bytes, where there is such a row
@@ -8,3 +8,9 @@ pub record SubscriptionValue : Type 0 where
   pub instruction : ℕ
   -- the key of the left row
   pub left : List ℕ
+  -- the partition to answer to, where the left key doesn't tell it
+  pub part : Option ℕ
+
+-- one of at most 64
+abbrev pub IsPart : Option ℕ → Type 0
+IsPart part = IfSome part (λ i. i ≤ 63)

@@ -5,11 +5,12 @@ ghost use Rattle.ks_wire.specs.Values.{SubscriptionValue};
 ghost use Rattle.ks_wire.specs.declared.values.Response.{Response as ResponseValue};
 ghost use Rattle.ks_wire.specs.declared.values.Delta.{Delta as DeltaValue};
 ghost use Rattle.ks_wire.specs.declared.values.Agg.{Agg as AggValue};
-ghost use Rattle.ks_wire.specs.Spelling.{subscription_bytes, response_bytes, delta_bytes, agg_bytes, hash_bytes, time_bytes, subscription_key, window_key, FitsSubscription, FitsResponse, FitsDelta, FitsAgg, FitsKeys, FitsWindow};
-ghost use Rattle.ks_wire.specs.Reading.{subscription_from, response_from, delta_from, agg_from, hash_from, time_from, subscription_key_from, window_key_from};
+ghost use Rattle.ks_wire.specs.declared.values.Subscriber.{Subscriber as SubscriberValue};
+ghost use Rattle.ks_wire.specs.Spelling.{subscription_bytes, response_bytes, delta_bytes, agg_bytes, subscriber_bytes, time_bytes, subscription_key, window_key, FitsSubscription, FitsResponse, FitsDelta, FitsAgg, FitsSubscriber, FitsKeys, FitsWindow};
+ghost use Rattle.ks_wire.specs.Reading.{subscription_from, response_from, delta_from, agg_from, subscriber_from, time_from, subscription_key_from, window_key_from};
 
 use crate::reading;
-use crate::values::{Agg, Delta, Response, Subscription};
+use crate::values::{Agg, Delta, Response, Subscriber, Subscription};
 use ks_row::Key;
 use std::alloc::{AllocError, Global};
 
@@ -53,13 +54,14 @@ pub fn read_agg(bytes: &[u8]) -> Option<Agg>
     reading::agg(bytes)
 }
 
-/// The hash that the bytes spell, all of them; none where there are not sixteen. Takes no memory.
-pub fn read_hash(bytes: &[u8]) -> Option<u128>
-    ensures found { IfSome result (λ v. (v < 2 ^ 128) × (bytes.now ≡ hash_bytes v)) }
-    ensures only { (v : ℕ) → v < 2 ^ 128 → bytes.now ≡ hash_bytes v → result ≡ Some v }
-    ensures exact { result ≡ hash_from bytes.now }
+/// What the bytes, all of them, keep of a subscriber; none where they spell none. Takes no memory.
+pub fn read_subscriber(bytes: &[u8]) -> Option<Subscriber>
+    ensures found { IfSome result (λ v. FitsSubscriber v × (bytes.now ≡ subscriber_bytes v)) }
+    ensures only { (v : SubscriberValue) → FitsSubscriber v → bytes.now ≡ subscriber_bytes v
+        → result ≡ Some v }
+    ensures exact { result ≡ subscriber_from bytes.now }
 {
-    reading::hash(bytes)
+    reading::subscriber(bytes)
 }
 
 /// The timestamp that the bytes spell, all of them; none where there are not eight. Takes no memory.
@@ -99,7 +101,7 @@ pub fn reading_undoes_writing()
     ensures response { IsCodec response_from response_bytes FitsResponse }
     ensures delta { IsCodec delta_from delta_bytes FitsDelta }
     ensures agg { IsCodec agg_from agg_bytes FitsAgg }
-    ensures hash { IsCodec hash_from hash_bytes (λ h. h < 2 ^ 128) }
+    ensures subscriber { IsCodec subscriber_from subscriber_bytes FitsSubscriber }
     ensures time { IsCodec time_from time_bytes (λ t. t < 2 ^ 64) }
     ensures subscription_keys { IsCodec subscription_key_from (λ p. subscription_key p.0 p.1)
         FitsKeys }

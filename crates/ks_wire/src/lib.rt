@@ -8,12 +8,12 @@ mod values;
 mod writing;
 
 pub use codec::{
-    read_agg, read_delta, read_hash, read_response, read_subscription, read_subscription_key,
+    read_agg, read_delta, read_response, read_subscriber, read_subscription, read_subscription_key,
     read_time, read_window_key, reading_undoes_writing,
 };
 pub use judging::spells_row;
-pub use values::{Agg, Delta, Response, Subscription};
+pub use values::{Agg, Delta, Response, Subscriber, Subscription};
 pub use writing::{
-    write_agg, write_delta, write_hash, write_response, write_subscription, write_subscription_key,
-    write_time, write_window_key,
+    write_agg, write_delta, write_response, write_subscriber, write_subscription,
+    write_subscription_key, write_time, write_window_key,
 };

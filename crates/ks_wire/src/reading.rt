@@ -1,10 +1,11 @@
 //! Reading what tasks say to one another and keep: each call gives the value that the bytes spell, all of them, or none.
-ghost use Rattle.std.specs.Prelude.{◌≡◌, IfOk, option_map};
+ghost use Rattle.std.specs.Prelude.{◌≡◌, ◌≤◌, IfOk, IfSome, option_map};
 ghost use Rattle.std.specs.Int.{w128};
 ghost use Rattle.ks_row.specs.Reading.{number_at};
-ghost use Rattle.ks_wire.specs.Reading.{hash_at, subscription_from, right_from, response_from, delta_from, agg_from, hash_from, time_from, long_key_at, subscription_key_from, window_key_from};
+ghost use Rattle.ks_wire.specs.Values.{IsPart};
+ghost use Rattle.ks_wire.specs.Reading.{hash_at, part_from, named_from, subscription_from, part_or_none, subscriber_from, right_from, response_from, delta_from, agg_from, time_from, long_key_at, subscription_key_from, window_key_from};
 
-use crate::values::{Agg, Delta, Response, Subscription};
+use crate::values::{Agg, Delta, Response, Subscriber, Subscription};
 use ks_row::{Key, Row, decode, read_bytes, read_i64, read_u32, read_u64};
 use std::alloc::{AllocError, Global};
 
@@ -37,6 +38,51 @@ fn read_flagged_hash(flag: u8, bytes: &[u8]) -> Option<(Option<u128>, &[u8])>
     }
 }
 
+// A partition of at most 64, in all of the bytes.
+#[tactic(auto, unfolding(crate::specs::Reading::part_from))]
+fn read_part(bytes: &[u8]) -> Option<u8>
+    ensures part { result ≡ part_from bytes.now }
+    ensures most { IfSome result (λ p. p ≤ 63) }
+{
+    let (number, rest) = read_u32(bytes)?;
+    if !rest.is_empty() {
+        return None;
+    }
+    if number <= 63 {
+        Some(number as u8)
+    } else {
+        None
+    }
+}
+
+// The left key, and of version 1 the partition in the last four bytes.
+#[tactic(auto, unfolding(crate::specs::Reading::named_from))]
+fn read_named(
+    alloc: Global,
+    version: u8,
+    bytes: &[u8],
+) -> Result<Option<(Key, Option<u8>)>, AllocError>
+    ensures named { IfOk result (λ o. o ≡ named_from version bytes.now) }
+    ensures most { IfOk result (λ o. IfSome o (λ x. IsPart x.1)) }
+{
+    if version == 0 {
+        let Some(key) = Key::of(alloc, bytes)? else {
+            return Ok(None);
+        };
+        return Ok(Some((key, None)));
+    }
+    let Some((front, rest)) = read_bytes(bytes.len().saturating_sub(4), bytes) else {
+        return Ok(None);
+    };
+    let Some(key) = Key::of(alloc, front)? else {
+        return Ok(None);
+    };
+    let Some(part) = read_part(rest) else {
+        return Ok(None);
+    };
+    Ok(Some((key, Some(part))))
+}
+
 #[tactic(auto, unfolding(crate::specs::Reading::subscription_from))]
 pub(crate) fn subscription(alloc: Global, bytes: &[u8]) -> Result<Option<Subscription>, AllocError>
     ensures { IfOk result (λ o. o ≡ subscription_from bytes.now) }
@@ -44,17 +90,39 @@ pub(crate) fn subscription(alloc: Global, bytes: &[u8]) -> Result<Option<Subscri
     let [flag, instruction, rest @ ..] = bytes else {
         return Ok(None);
     };
-    let Some((hash, rest)) = read_flagged_hash(*flag, rest) else {
+    let version = *flag % 2;
+    let Some((hash, rest)) = read_flagged_hash(*flag - version, rest) else {
         return Ok(None);
     };
-    let Some(left) = Key::of(alloc, rest)? else {
+    let Some((left, part)) = read_named(alloc, version, rest)? else {
         return Ok(None);
     };
     if *instruction <= 3 {
-        Ok(Some(Subscription::new(hash, *instruction, left)))
+        Ok(Some(Subscription::new(hash, *instruction, left, part)))
     } else {
         Ok(None)
     }
+}
+
+// No partition where no byte is left.
+#[tactic(auto, unfolding(crate::specs::Reading::part_or_none))]
+fn read_part_or_none(bytes: &[u8]) -> Option<Option<u8>>
+    ensures { result ≡ part_or_none bytes.now }
+{
+    if bytes.is_empty() {
+        return Some(None);
+    }
+    let part = read_part(bytes)?;
+    Some(Some(part))
+}
+
+#[tactic(auto, unfolding(crate::specs::Reading::subscriber_from))]
+pub(crate) fn subscriber(bytes: &[u8]) -> Option<Subscriber>
+    ensures { result ≡ subscriber_from bytes.now }
+{
+    let (hash, rest) = read_u128(bytes)?;
+    let part = read_part_or_none(rest)?;
+    Some(Subscriber { hash, part })
 }
 
 // No row where no byte is left.
@@ -115,14 +183,6 @@ pub(crate) fn agg(bytes: &[u8]) -> Option<Agg>
     } else {
         None
     }
-}
-
-#[tactic(auto, unfolding(crate::specs::Reading::hash_from))]
-pub(crate) fn hash(bytes: &[u8]) -> Option<u128>
-    ensures { result ≡ hash_from bytes.now }
-{
-    let (hash, rest) = read_u128(bytes)?;
-    if rest.is_empty() { Some(hash) } else { None }
 }
 
 #[tactic(auto, unfolding(crate::specs::Reading::time_from))]

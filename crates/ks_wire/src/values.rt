@@ -1,6 +1,6 @@
 //! What is said and kept.
-ghost use Rattle.std.specs.Prelude.{◌≡◌, ◌≤◌};
-ghost use Rattle.ks_wire.specs.Values.{SubscriptionValue};
+ghost use Rattle.std.specs.Prelude.{◌≡◌, ◌≤◌, IfSome};
+ghost use Rattle.ks_wire.specs.Values.{SubscriptionValue, IsPart};
 
 use ks_row::{Key, Row};
 use std::marker::Model;
@@ -11,29 +11,34 @@ pub struct Subscription {
     hash: Option<u128>,
     instruction: u8,
     left: Key,
+    part: Option<u8>,
 }
 
 impl Model for Subscription {
     ghost use Rattle.std.specs.Prelude.{◌≤◌};
-    ghost use Rattle.ks_wire.specs.Values.{SubscriptionValue};
+    ghost use Rattle.ks_wire.specs.Values.{SubscriptionValue, IsPart};
 
     ghost Value = { SubscriptionValue };
 
-    ghost view = { λ s. record { hash = s.hash; instruction = s.instruction; left = s.left } };
+    ghost view = { λ s. record { hash = s.hash; instruction = s.instruction; left = s.left; part = s.part } };
 
-    ghost invariant = { λ s. s.instruction ≤ 3 };
+    ghost invariant = { λ s. (s.instruction ≤ 3) × IsPart s.part };
 }
 
 impl Subscription {
-    /// `hash` is that of the left row, where there is one; `instruction` is 0 to 3; `left` is the key of the left row.
-    pub fn new(hash: Option<u128>, instruction: u8, left: Key) -> Subscription
-        requires { instruction ≤ 3 }
-        ensures { result ≡ record { hash = hash; instruction = instruction; left = left } }
+    /// `hash` is that of the left row, where there is one; `instruction` is 0 to 3; `left` is the key of the left row; `part` is the
+    /// partition of the left row's task, at most 63, where it can't be found from the key and a count.
+    pub fn new(hash: Option<u128>, instruction: u8, left: Key, part: Option<u8>) -> Subscription
+        requires instruction { instruction ≤ 3 }
+        requires part { IsPart part }
+        ensures { result ≡ record
+            { hash = hash; instruction = instruction; left = left; part = part } }
     {
         Subscription {
             hash,
             instruction,
             left,
+            part,
         }
     }
 
@@ -59,6 +64,14 @@ impl Subscription {
         &self.left
     }
 
+    /// The partition that it names; none where the left key tells it.
+    pub fn part(&self) -> Option<u8>
+        ensures value { result ≡ self.now.part }
+        ensures most { IsPart self.now.part }
+    {
+        self.part
+    }
+
     /// The same key, moved out.
     pub fn into_left(self) -> Key
         ensures { result ≡ self.left }
@@ -74,6 +87,15 @@ pub struct Response {
     pub hash: Option<u128>,
     /// The right row; none where there is none.
     pub right: Option<Row>,
+}
+
+/// What a subscription store keeps of a left row that asked for answers.
+#[derive(Clone, Copy, PartialEq, Eq, Debug)]
+pub struct Subscriber {
+    /// The hash of the left row.
+    pub hash: u128,
+    /// The partition that the subscription named.
+    pub part: Option<u8>,
 }
 
 /// What a change of a table adds to or takes from an aggregate.

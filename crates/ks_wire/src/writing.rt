@@ -1,10 +1,10 @@
 //! What tasks say to one another and keep, as bytes.
-ghost use Rattle.std.specs.Prelude.{◌≡◌, ◌++◌, ◌∷◌, [], IfOk, OnOk};
+ghost use Rattle.std.specs.Prelude.{◌≡◌, ◌+◌, ◌++◌, ◌∷◌, [], IfOk, OnOk};
 ghost use Rattle.ks_row.specs.Spelling.{int_bytes};
 ghost use Rattle.ks_row.specs.Texts.{IsKey};
-ghost use Rattle.ks_wire.specs.Spelling.{hash_flag, hash_or_nothing, hash_bytes, time_bytes, subscription_bytes, response_bytes, delta_bytes, agg_bytes, long_key, subscription_key, window_key, FitsHash, FitsSubscription, FitsResponse, FitsDelta, FitsAgg, FitsKeys, FitsWindow};
+ghost use Rattle.ks_wire.specs.Spelling.{hash_flag, hash_or_nothing, version_of, part_or_nothing, subscriber_bytes, time_bytes, subscription_bytes, response_bytes, delta_bytes, agg_bytes, long_key, subscription_key, window_key, FitsHash, FitsSubscription, FitsSubscriber, FitsResponse, FitsDelta, FitsAgg, FitsKeys, FitsWindow};
 
-use crate::values::{Agg, Delta, Response, Subscription};
+use crate::values::{Agg, Delta, Response, Subscriber, Subscription};
 use ks_row::{Blob, BlobBuilder, Key, encode};
 use std::alloc::{AllocError, Global};
 
@@ -28,6 +28,29 @@ fn push_hash(out: &mut BlobBuilder, hash: Option<u128>) -> Result<(), AllocError
     Ok(())
 }
 
+// The flag with the version.
+fn push_version(
+    out: &mut BlobBuilder,
+    hash: Option<u128>,
+    part: Option<u8>,
+) -> Result<(), AllocError>
+    ensures { OnOk result (out.new ≡ out.old ++ (hash_flag hash + version_of part) ∷ []) }
+{
+    let flag = if hash.is_none() { NO_HASH } else { 0 };
+    let version = if part.is_none() { 0 } else { 1 };
+    out.push(flag + version)?;
+    Ok(())
+}
+
+fn push_part(out: &mut BlobBuilder, part: Option<u8>) -> Result<(), AllocError>
+    ensures { OnOk result (out.new ≡ out.old ++ part_or_nothing part) }
+{
+    if let Some(part) = part {
+        out.extend_from_slice(&(part as u32).to_be_bytes())?;
+    }
+    Ok(())
+}
+
 /// The bytes that spell the subscription.
 #[tactic(auto, unfolding(crate::specs::Spelling::subscription_bytes))]
 pub fn write_subscription(alloc: Global, subscription: &Subscription) -> Result<Blob, AllocError>
@@ -35,10 +58,11 @@ pub fn write_subscription(alloc: Global, subscription: &Subscription) -> Result<
     ensures fits { OnOk result (FitsSubscription subscription.now) }
 {
     let mut out = BlobBuilder::new(alloc);
-    push_flag(&mut out, subscription.hash())?;
+    push_version(&mut out, subscription.hash(), subscription.part())?;
     out.push(subscription.instruction())?;
     push_hash(&mut out, subscription.hash())?;
     out.extend_from_slice(subscription.left().as_str().as_bytes())?;
+    push_part(&mut out, subscription.part())?;
     out.into_blob()
 }
 
@@ -82,11 +106,15 @@ pub fn write_agg(alloc: Global, agg: &Agg) -> Result<Blob, AllocError>
     out.into_blob()
 }
 
-/// The bytes of a hash alone.
-pub fn write_hash(alloc: Global, hash: u128) -> Result<Blob, AllocError>
-    ensures { IfOk result (λ b. b ≡ hash_bytes hash) }
+/// The bytes that a subscription store keeps of a subscriber, whose partition is at most 63.
+#[tactic(auto, unfolding(crate::specs::Spelling::subscriber_bytes))]
+pub fn write_subscriber(alloc: Global, subscriber: Subscriber) -> Result<Blob, AllocError>
+    ensures { IfOk result (λ b. b ≡ subscriber_bytes subscriber) }
 {
-    Blob::from_slice(alloc, &hash.to_be_bytes())
+    let mut out = BlobBuilder::new(alloc);
+    out.extend_from_slice(&subscriber.hash.to_be_bytes())?;
+    push_part(&mut out, subscriber.part)?;
+    out.into_blob()
 }
 
 /// The bytes of a timestamp alone.

@@ -1,29 +1,23 @@
 -- The works of a worker's tasks may be committed.
-use Rattle.std.proofs.Common.{◌≡◌, ◌≢◌, ◌⊎◌, inl, inr, ℕ, zero, suc, ◌<◌, ◌||◌, Bool, true, false, cond, List, [], ◌∷◌, ◌++◌, length, get_or, refl, sym, ap, subst, ◌∙◌, arith, Some}
-use Rattle.std.specs.Prelude.{slice_get}
+use Rattle.std.proofs.Common.{◌≡◌, ◌≢◌, ◌⊎◌, inl, inr, ℕ, zero, suc, ◌<◌, ◌||◌, Bool, true, false, cond, List, [], ◌∷◌, ◌++◌, length, get_or, refl, sym, ap, subst, ◌∙◌, arith}
 use Rattle.std.specs.List.{All}
 use Rattle.std.proofs.lemmas.Bool.{true≢false}
 use Rattle.std.proofs.lemmas.List.Elements.{All-head, All-tail}
-use Rattle.std.proofs.Math.Nat.{mod-lt}
 use Rattle.ks_row.specs.declared.record.TaskId.{TaskId}
 use Rattle.ks_row.specs.Parts.{same_task}
 use Rattle.ks_plan.specs.Drafts.{DraftView}
-use Rattle.ks_plan.specs.Plan.{Kind, plan_of}
-use Rattle.ks_plan.specs.Plan.Kind.{ForeignKeyJoin}
+use Rattle.ks_plan.specs.Plan.{plan_of}
 use Rattle.ks_history.specs.declared.journal.Entry.{Entry}
 use Rattle.ks_history.specs.Machine.{TaskPlan}
 use Rattle.ks_history.specs.State.{Setup, has_task, are_once}
 use Rattle.ks_history.specs.History.{at}
 use Rattle.ks_history.proofs.Names.{same_task-is, same_task-refl}
 use Rattle.ks_law_quiescence.specs.WellFormed.{IsWellFormed}
-use Rattle.ks_law_quiescence.proofs.Fits.{each_at, node_stands}
-use Rattle.ks_law_quiescence.proofs.WellFormed.{well_formed_fits}
 use Rattle.ks_law_restore.specs.Views.{WorkView, IsFrozen, SendsInside, are_topics_once}
-use Rattle.ks_law_settled.specs.Routes.{JoinsHaveParts}
 use Rattle.ks_law_settled.proofs.Once.{inputs_once}
 use Rattle.ks_law_settled.proofs.Inside.{topologies_send_inside}
 use Rattle.ks_commit.specs.Committed.{EachOf, AreApart, tasks_in}
-use Rattle.ks_def_tasks.specs.Rules.{HaveParts, rules_of}
+use Rattle.ks_def_tasks.specs.Rules.{rules_of}
 use Rattle.ks_task.specs.declared.task.Task.{Task}
 use Rattle.ks_task.specs.Tasks.{task_view}
 use Rattle.ks_worker_client.specs.declared.member.Member.{Member}
@@ -36,21 +30,9 @@ use Rattle.ks_worker_acts.specs.Works.{IsCleanTask, IsDirtyTask, AreWorksOf}
 use Rattle.ks_worker_acts.proofs.Outputs.{of_cluster}
 
 -- ---- what a topology's cluster keeps
-within_there : (ks : List Kind) (i : ℕ) (k : Kind) → slice_get ks i ≡ Some k → i < length ks
-within_there [] i k e = absurd cc
-within_there (x ∷ ks) zero k e = omega arith
-within_there (x ∷ ks) (suc i) k e = omega (arith, within_there ks i k e)
-
-joins_have : (d : DraftView) → IsWellFormed d → HaveParts (plan_of d) → JoinsHaveParts (plan_of d)
-joins_have d well have n l r fk kind set e =
-    let p = plan_of d in
-    let node = each_at p 0 p.kinds n (ForeignKeyJoin l r fk kind set) (well_formed_fits d well) (node_stands p n (ForeignKeyJoin l r fk kind set) e) in
-    let within : n < length p.kinds = within_there p.kinds n (ForeignKeyJoin l r fk kind set) e in
-    (have n within, have r (omega (arith, within, node.1)))
-
 module _ (hash : List ℕ → ℕ) (d : DraftView) (setup : Setup) (runs : RunsTopology hash d setup) where
   pub runs_inside : IsWellFormed d → SendsInside setup
-  runs_inside well = subst SendsInside (sym runs.setup_is) (topologies_send_inside (rules_of hash) d well (λ key n h. mod-lt _ h) (joins_have d well runs.parts))
+  runs_inside well = subst SendsInside (sym runs.setup_is) (topologies_send_inside (rules_of hash) d well)
 
   pub runs_once : (sub : ℕ) → are_topics_once (setup.plan.inputs sub) ≡ true
   runs_once sub = subst (λ (s : Setup). are_topics_once (s.plan.inputs sub) ≡ true) (sym runs.setup_is) (inputs_once (plan_of d) sub)

@@ -1,35 +1,35 @@
-use Rattle.std.proofs.Common.{◌∙◌, refl}
+use Rattle.std.proofs.Common.{◌∙◌, map, refl}
 use Rattle.std.proofs.lemmas.Result.{IfOk-weaker}
+use Rattle.ks_plan.specs.declared.node.TopicInfo.{TopicInfo}
+use Rattle.ks_plan.specs.Infos.{topic_infos}
 use Rattle.ks_topo.specs.Topologies.{draft_of}
 use Rattle.ks_plan.specs.Layout.{tasks}
 use Rattle.ks_plan.specs.Plan.{plan_of}
 use Rattle.ks_job.specs.Items.{item_views}
 use Rattle.ks_run_workers.specs.Members.{placing_of}
 use Rattle.ks_run.proofs.Counts.{shown_counts}
-use Rattle.ks_run.proofs.Settles.{setup_is, setup_made, has_begun, parts_ready, records_ready, past_ready, nodes_ready, filled_start, filled_wanted, ran_so}
+use Rattle.ks_run.proofs.Settles.{setup_is, setup_made, has_begun, places_ready, records_ready, past_ready, nodes_ready, filled_start, filled_wanted, ran_so}
 use Rattle.ks_run.proofs.settling.settle.Goals as goal
 
 pub begin-requires : goal.begin-requires
 begin-requires g c =
     let d = draft_of c.args.topology.now in
     let hash = g.H.Hash128.hash_of in
-    let given = c.as_slice.ensures.value ∙ (c.requires.counts ∙ shown_counts d) in
-    setup_made hash d _ (setup_is hash d (g.W.Work.plan c.args.work) c.as_slice.result.now (tasks (plan_of d)) c.requires.work given refl) c.nodes-nodes.ensures.well_formed
+    setup_made hash d _ (setup_is hash d (g.W.Work.plan c.args.work) (map (λ (i : TopicInfo). i.parts) (topic_infos d)) (tasks (plan_of d)) c.requires.work (shown_counts d) refl) c.nodes-nodes.ensures.well_formed
 
 pub run_workers-requires-clause-ready : goal.run_workers-requires-clause-ready
 run_workers-requires-clause-ready g c κs within =
     let d = draft_of c.args.topology.now in
     let hash = g.H.Hash128.hash_of in
     let empty = c.in_ok-empty.empty in
-    let counts = c.args.intake.counts.items in
-    let begun = has_begun hash g.W.Work.plan g.W.Work.good (placing_of c.args.crew.settings) d c.args.work empty c.as_slice.result.now counts c.as_slice.ensures.value c.in_ok-empty.ensures c.requires.work c.requires.counts c.requires.placing in
+    let begun = has_begun hash g.W.Work.plan g.W.Work.good (placing_of c.args.crew.settings) d c.args.work empty c.in_ok-empty.ensures c.requires.work c.requires.placing in
     record {
       new = begun.new;
       topology = begun.start;
       wanted = begun.wanted;
       nodes = nodes_ready d c.nodes-nodes.ensures.well_formed c.requires.job.partitions;
-      counts_are = begun.kept_counts;
-      parts = parts_ready hash d (g.W.Work.plan empty.work) counts c.nodes-nodes.ensures.well_formed c.requires.job.partitions begun.work begun.counts_are;
+      counts_are = begun.counts_are;
+      places = places_ready hash d (g.W.Work.plan empty.work) c.nodes-nodes.ensures.well_formed c.requires.job.partitions begun.work;
       records = records_ready hash d (g.W.Work.plan empty.work) (item_views c.args.intake.records.items) begun.work c.requires.job.records_are;
       past = past_ready hash d (g.W.Work.plan empty.work) c.args.intake.rest begun.work c.requires.job.past;
       room = c.requires.job.room;
@@ -40,20 +40,20 @@ end_by-requires-clause-setup g c κs within =
     let d = draft_of c.args.topology.now in
     let hash = g.H.Hash128.hash_of in
     let placing = placing_of c.args.crew.settings in
-    let begun = has_begun hash g.W.Work.plan g.W.Work.good placing d c.args.work c.in_ok-empty.empty c.as_slice.result.now c.args.intake.counts.items c.as_slice.ensures.value c.in_ok-empty.ensures c.requires.work c.requires.counts c.requires.placing in
+    let begun = has_begun hash g.W.Work.plan g.W.Work.good placing d c.args.work c.in_ok-empty.empty c.in_ok-empty.ensures c.requires.work c.requires.placing in
     filled_start hash g.W.Work.plan g.W.Work.good placing c.args.crew.settings.journal d c.in_ok-empty.empty c.in-Ok.cluster c.args.intake
-    (g.S.Source.left c.args.input.now) (g.S.Source.left c.run_workers.new.input) c.in-Ok.end begun.start begun.wanted begun.counts_are c.requires.job c.in-Ok.ensures.worked
+    (g.S.Source.left c.args.input.now) (g.S.Source.left c.run_workers.new.input) c.in-Ok.end begun.start begun.wanted c.requires.job c.in-Ok.ensures.worked
 
 pub end_by-requires-clause-placing : goal.end_by-requires-clause-placing
 end_by-requires-clause-placing g c κs within =
     let d = draft_of c.args.topology.now in
     let hash = g.H.Hash128.hash_of in
     let placing = placing_of c.args.crew.settings in
-    let begun = has_begun hash g.W.Work.plan g.W.Work.good placing d c.args.work c.in_ok-empty.empty c.as_slice.result.now c.args.intake.counts.items c.as_slice.ensures.value c.in_ok-empty.ensures c.requires.work c.requires.counts c.requires.placing in (
+    let begun = has_begun hash g.W.Work.plan g.W.Work.good placing d c.args.work c.in_ok-empty.empty c.in_ok-empty.ensures c.requires.work c.requires.placing in (
       placing,
       c.requires.settings.threads.0,
       filled_wanted hash g.W.Work.plan g.W.Work.good placing c.args.crew.settings.journal d c.in_ok-empty.empty c.in-Ok.cluster c.args.intake
-          (g.S.Source.left c.args.input.now) (g.S.Source.left c.run_workers.new.input) c.in-Ok.end begun.start begun.wanted begun.counts_are c.requires.job c.in-Ok.ensures.worked,
+          (g.S.Source.left c.args.input.now) (g.S.Source.left c.run_workers.new.input) c.in-Ok.end begun.start begun.wanted c.requires.job c.in-Ok.ensures.worked,
     )
 
 pub returns : goal.returns
@@ -61,9 +61,9 @@ returns g c =
     let d = draft_of c.args.topology.now in
     let hash = g.H.Hash128.hash_of in
     let placing = placing_of c.args.crew.settings in
-    let begun = has_begun hash g.W.Work.plan g.W.Work.good placing d c.args.work c.in_ok-empty.empty c.as_slice.result.now c.args.intake.counts.items c.as_slice.ensures.value c.in_ok-empty.ensures c.requires.work c.requires.counts c.requires.placing in
+    let begun = has_begun hash g.W.Work.plan g.W.Work.good placing d c.args.work c.in_ok-empty.empty c.in_ok-empty.ensures c.requires.work c.requires.placing in
     IfOk-weaker c.end_by.result _ _
     (λ a h. ran_so hash g.W.Work.plan g.W.Work.good placing c.args.crew.settings.journal d c.in_ok-empty.empty c.in-Ok.cluster c.args.intake
-    (g.S.Source.left c.args.input.now) (g.S.Source.left c.run_workers.new.input) c.in-Ok.end begun.start begun.wanted begun.counts_are c.requires.job c.in-Ok.ensures.worked
+    (g.S.Source.left c.args.input.now) (g.S.Source.left c.run_workers.new.input) c.in-Ok.end begun.start begun.wanted c.requires.job c.in-Ok.ensures.worked
     c.nodes-nodes.ensures.well_formed c.topology_fits.ensures c.hashes_fit.ensures (g.S.Source.faults c.args.input.now) (g.S.Source.faults c.run_workers.new.input) a.status a.text.items a.journal c.in-Ok.ensures.faults h)
     c.end_by.ensures

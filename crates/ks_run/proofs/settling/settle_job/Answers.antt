@@ -1,11 +1,10 @@
 use denote.Exit.{no}
 use denote.Param.Send.{sendable, param_sync, arg_sync}
 use denote.Param.SendFields.{declared_sync}
-use Rattle.std.proofs.Common.{◌∙◌, ap, ap₂, sym, subst, map}
+use Rattle.std.proofs.Common.{◌∙◌, ap, ap₂, sym, subst}
 use Rattle.std.proofs.Crossing.{crosses}
 use Rattle.std.specs.Prelude.{Some}
 use Rattle.std.proofs.lemmas.Result.{IfOk-weaker}
-use Rattle.ks_plan.specs.declared.node.TopicInfo.{TopicInfo}
 use Rattle.ks_topo.specs.Topologies.{plan_in}
 use Rattle.ks_def_tasks.specs.Rules.{rules_of}
 use Rattle.ks_job.specs.Items.{item_views}
@@ -23,9 +22,6 @@ settle-requires-sync-W g c κs within = param_sync _ _ (arg_sync _ no _ (declare
 pub settle-requires-clause-placing : goal.settle-requires-clause-placing
 settle-requires-clause-placing g c κs within =
     ap₂ (λ t p. placed_by (plan_in t) p) c.new-work.ensures.topology (c.new-work.ensures.placing ∙ ap Some c.placing_of-placing.ensures)
-
-pub settle-requires-clause-counts : goal.settle-requires-clause-counts
-settle-requires-clause-counts g c κs within = c.in_ok-counts.ensures ∙ ap (map (λ (i : TopicInfo). i.parts)) c.topics.ensures
 
 pub settle-requires-clause-job : goal.settle-requires-clause-job
 settle-requires-clause-job g c κs within =

@@ -1,4 +1,5 @@
 use Rattle.std.proofs.Common.{◌∙◌, ap, sym, subst, filter}
+use Rattle.ks_topo.specs.Topologies.{draft_of}
 use Rattle.ks_growing.specs.Passes.{IsPass}
 use Rattle.ks_shared.specs.Reserved.{is_callers}
 use Rattle.ks_run_workers.proofs.Produced.{still_first}
@@ -17,5 +18,5 @@ close_with-requires g c =
 
 pub returns-clause-fed : goal.returns-clause-fed
 returns-clause-fed g c =
-    closed c.args.shared.growing.first c.in_ok-cluster.cluster c.args.feeder c.feed_and_work.new.feeder _ _ c.in_ok-end.end c.in_ok-end.ensures.fed c.in_ok-cluster.ensures.frame
+    closed (draft_of c.args.topology.now) c.args.shared.growing.first c.in_ok-cluster.cluster c.args.feeder c.feed_and_work.new.feeder _ _ c.in_ok-end.end c.in_ok-end.ensures.fed c.in_ok-cluster.ensures.frame
     (c.in_ok-cluster.ensures.reserved ∙ ap (λ p. filter is_callers p.seen) c.into_pass.ensures)

@@ -40,7 +40,7 @@ work_and_close-requires-clause-may g c κs within =
       may = all_may_run g.W.Work.plan g.W.Work.good g.H.Hash128.hash_of (draft_of c.args.topology.now) c.args.cluster lock (placing_of c.args.crew.settings) c.turns_of.result c.requires.ready.new c.requires.ready.topology
           c.requires.ready.wanted c.requires.settings.threads.0 c.nodes-nodes.ensures.well_formed c.requires.ready.nodes c.turns_of.ensures
           (λ m. m.worker.state) (λ m. m.worker.placing) c.in_ok-members.members.items others c.in_ok-members.ensures.passes fresh c.in_ok-members.ensures.enlisted c.in_ok-members.ensures.placing;
-      feed = fresh_feeder g.W.Work.plan lock c.args.cluster _ first c.requires.ready.counts_are c.requires.ready.parts c.requires.ready.records c.requires.ready.past c.requires.ready.room;
+      feed = fresh_feeder g.W.Work.plan lock (draft_of c.args.topology.now) c.args.cluster _ first c.requires.ready.counts_are c.requires.ready.places c.requires.ready.records c.requires.ready.past c.requires.ready.room;
     }
 
 pub work_and_close-requires-clause-passes : goal.work_and_close-requires-clause-passes
@@ -62,5 +62,5 @@ returns-clause-worked g c =
     let lock = c.in-Ok.shared.growing.id in
     let fresh = first_fresh lock c.args.cluster.journal (frame_of c.args.cluster) c.in-Ok.passes.items _ c.split_first-pass.result.0 c.split_first-pass.ensures c.in-Ok.ensures.fresh in
     IfOk-weaker c.work_and_close.result _ _
-    (λ r h. worked c.args.cluster c.in-Ok.shared.growing.first r.0 c.args.intake _ _ _ r.1 c.requires.ready.new c.in-Ok.ensures.first (fresh_seen g.W.Work.plan lock c.args.cluster 0 c.split_first-pass.result.0 fresh) refl refl refl h)
+    (λ r h. worked (draft_of c.args.topology.now) c.args.cluster c.in-Ok.shared.growing.first r.0 c.args.intake _ _ _ r.1 c.requires.ready.new c.in-Ok.ensures.first (fresh_seen g.W.Work.plan lock c.args.cluster 0 c.split_first-pass.result.0 fresh) refl refl h)
     c.work_and_close.ensures.fed

@@ -8,7 +8,7 @@ use Rattle.ks_settle.proofs.Publishing.{drains_both, drains_most, drains_extend,
 use Rattle.ks_settle.proofs.draining.drain.Goals as goal
 
 pub start-requires-clause-may : goal.start-requires-clause-may
-start-requires-clause-may g c κs within = subst MayDrain (sym c.requires.setup) (may_drain g.H.Hash128.hash_of (draft_of c.args.topology.now) c.nodes-nodes.ensures.well_formed c.requires.parts)
+start-requires-clause-may g c κs within = subst MayDrain (sym c.requires.setup) (may_drain g.H.Hash128.hash_of (draft_of c.args.topology.now) c.nodes-nodes.ensures.well_formed)
 
 pub start-requires-clause-of : goal.start-requires-clause-of
 start-requires-clause-of g c κs within = record {
@@ -27,7 +27,7 @@ drain_all-requires-clause-of g c κs within =
     record {
       well_formed = c.nodes-nodes.ensures.well_formed;
       work = ap (λ (s : Setup). s.plan) setup;
-      may = subst MayDrain (sym setup) (may_drain g.H.Hash128.hash_of (draft_of c.args.topology.now) c.nodes-nodes.ensures.well_formed c.requires.parts);
+      may = subst MayDrain (sym setup) (may_drain g.H.Hash128.hash_of (draft_of c.args.topology.now) c.nodes-nodes.ensures.well_formed);
     }
 
 pub returns-clause-on : goal.returns-clause-on

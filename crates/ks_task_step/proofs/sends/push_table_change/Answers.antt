@@ -1,4 +1,5 @@
-use Rattle.std.proofs.Common.{◌++◌, map, ap, sym, ◌∙◌, append-nil}
+use Rattle.std.proofs.Common.{◌++◌, ap, sym, ◌∙◌, append-nil}
+use Rattle.std.specs.List.{flat_map}
 use Rattle.std.specs.Prelude.{option_copied}
 use Rattle.ks_def_tasks.specs.Step.{row_in}
 use Rattle.ks_task_nodes.specs.Nodes.{node_view}
@@ -10,4 +11,4 @@ pub returns-else-is_other : goal.returns-else-is_other
 returns-else-is_other c =
     let values = c.args.values.now in
     let none = nothing_moved c.args.by.now (option_copied c.args.field) c.args.node.now.topics.number (row_in (olds_in values) c.args.from) (row_in (news_in values) c.args.from) (sym c.in_ok-is_other.ensures ∙ c.if-is_other.false) in
-    sym (append-nil c.args.out.now.items) ∙ ap (λ xs. c.args.out.now.items ++ map (sent_by (node_view c.args.node.now) c.args.time) xs) (sym none)
+    sym (append-nil c.args.out.now.items) ∙ ap (λ xs. c.args.out.now.items ++ flat_map (sent_by (node_view c.args.node.now) c.args.time) xs) (sym none)

@@ -1,7 +1,8 @@
-use Rattle.ks_topo.specs.Topologies.{draft_of}
+use Rattle.ks_topo.specs.Topologies.{draft_of, plan_in}
+use Rattle.ks_run_workers.specs.Placing.{counts_in}
 use Rattle.ks_job.specs.Items.{item_views}
 use Rattle.ks_shared.specs.Calls.{frame_of}
-use Rattle.ks_run_workers.proofs.Fresh.{first_fresh, fresh_pass, fresh_counts, fresh_parts, fresh_records}
+use Rattle.ks_run_workers.proofs.Fresh.{first_fresh, fresh_pass, fresh_counts, fresh_places, fresh_records}
 use Rattle.ks_run_workers.proofs.Produced.{still_first}
 use Rattle.ks_test_workers.proofs.Pairing.{others_two, still_pass, may_play, fresh_pair}
 use Rattle.ks_test_workers.proofs.crews.play.Goals as goal
@@ -14,12 +15,12 @@ produce_all-requires-clause-pass g c =
 pub produce_all-requires-clause-counts : goal.produce_all-requires-clause-counts
 produce_all-requires-clause-counts g c =
     let fresh = first_fresh c.in_ok-made.made.0.growing.id c.args.cluster.journal (frame_of c.args.cluster) c.in_ok-made.made.1.items _ c.split_first-first.result.0 c.split_first-first.ensures c.in_ok-made.ensures.fresh in
-    fresh_counts g.W.Work.plan c.in_ok-made.made.0.growing.id c.args.cluster 0 c.split_first-first.result.0 fresh c.args.counts.now c.requires.ready.counts_are
+    fresh_counts g.W.Work.plan c.in_ok-made.made.0.growing.id c.args.cluster 0 c.split_first-first.result.0 fresh (counts_in (plan_in c.args.topology.now)) c.requires.ready.counts_are
 
-pub produce_all-requires-clause-parts : goal.produce_all-requires-clause-parts
-produce_all-requires-clause-parts g c =
+pub produce_all-requires-clause-places : goal.produce_all-requires-clause-places
+produce_all-requires-clause-places g c =
     let fresh = first_fresh c.in_ok-made.made.0.growing.id c.args.cluster.journal (frame_of c.args.cluster) c.in_ok-made.made.1.items _ c.split_first-first.result.0 c.split_first-first.ensures c.in_ok-made.ensures.fresh in
-    fresh_parts g.W.Work.plan c.in_ok-made.made.0.growing.id c.args.cluster 0 c.split_first-first.result.0 fresh c.args.counts.now c.requires.ready.parts
+    fresh_places g.W.Work.plan c.in_ok-made.made.0.growing.id c.args.cluster 0 c.split_first-first.result.0 fresh (plan_in c.args.topology.now) c.requires.ready.places
 
 pub produce_all-requires-clause-records : goal.produce_all-requires-clause-records
 produce_all-requires-clause-records g c =
@@ -33,14 +34,14 @@ pub play_moves-requires-clause-one : goal.play_moves-requires-clause-one
 play_moves-requires-clause-one g c =
     let pair = c.in_ok-pair.pair in
     let fresh = fresh_pair _ _ _ c.in_ok-made.made.1.items c.split_first-first.result.1.items c.split_first-first.result.0 pair.one.worker.state.session.client.pass pair.two.worker.state.session.client.pass c.split_first-first.ensures c.in_ok-pair.ensures.passes c.in_ok-made.ensures.fresh in
-    may_play g.W.Work.plan g.W.Work.good g.H.Hash128.hash_of (draft_of c.args.topology.now) c.args.scene.now.placing c.args.cluster c.args.counts.now (item_views c.args.items.items) c.requires.ready c.nodes-nodes.ensures.well_formed c.in_ok-made.made.0.growing.id
+    may_play g.W.Work.plan g.W.Work.good g.H.Hash128.hash_of (draft_of c.args.topology.now) c.args.scene.now.placing c.args.cluster (item_views c.args.items.items) c.requires.ready c.nodes-nodes.ensures.well_formed c.in_ok-made.made.0.growing.id
     1 pair.one fresh.1 c.in_ok-pair.ensures.one.0 c.in_ok-pair.ensures.one.1 c.in_ok-pair.ensures.one.2
 
 pub play_moves-requires-clause-two : goal.play_moves-requires-clause-two
 play_moves-requires-clause-two g c =
     let pair = c.in_ok-pair.pair in
     let fresh = fresh_pair _ _ _ c.in_ok-made.made.1.items c.split_first-first.result.1.items c.split_first-first.result.0 pair.one.worker.state.session.client.pass pair.two.worker.state.session.client.pass c.split_first-first.ensures c.in_ok-pair.ensures.passes c.in_ok-made.ensures.fresh in
-    may_play g.W.Work.plan g.W.Work.good g.H.Hash128.hash_of (draft_of c.args.topology.now) c.args.scene.now.placing c.args.cluster c.args.counts.now (item_views c.args.items.items) c.requires.ready c.nodes-nodes.ensures.well_formed c.in_ok-made.made.0.growing.id
+    may_play g.W.Work.plan g.W.Work.good g.H.Hash128.hash_of (draft_of c.args.topology.now) c.args.scene.now.placing c.args.cluster (item_views c.args.items.items) c.requires.ready c.nodes-nodes.ensures.well_formed c.in_ok-made.made.0.growing.id
     2 pair.two fresh.2 c.in_ok-pair.ensures.two.0 c.in_ok-pair.ensures.two.1 c.in_ok-pair.ensures.two.2
 
 pub close-requires-clause-first : goal.close-requires-clause-first

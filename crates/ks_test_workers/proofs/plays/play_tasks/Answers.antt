@@ -8,7 +8,7 @@ use Rattle.ks_cluster.specs.View as kept
 use Rattle.ks_commit.specs.Everything.{everything, IsGoodForAll}
 use Rattle.ks_task.specs.Placing.{placed_by}
 use Rattle.ks_run.proofs.Counts.{shown_counts}
-use Rattle.ks_run.proofs.Settles.{setup_is, setup_made, parts_ready, records_ready, nodes_ready}
+use Rattle.ks_run.proofs.Settles.{setup_is, setup_made, places_ready, records_ready, nodes_ready}
 use Rattle.ks_test_workers.proofs.plays.play_tasks.Goals as goal
 
 pub new-requires : goal.new-requires
@@ -17,7 +17,7 @@ new-requires g c =
     let hash = g.H.Hash128.hash_of in
     let counts = c.in_ok-counts.ensures ∙ (ap (map (λ (i : TopicInfo). i.parts)) c.topics.ensures ∙ shown_counts d) in
     setup_made hash d _
-    (setup_is hash d (g.W.Work.plan c.args.work) c.in_ok-kept.kept.items c.in_ok-tasks.tasks.items c.requires.work (c.in_ok-kept.ensures.items ∙ (c.as_slice.ensures.value ∙ counts)) (c.in_ok-tasks.ensures.items ∙ c.tasks.ensures))
+    (setup_is hash d (g.W.Work.plan c.args.work) c.in_ok-counts.counts.items c.in_ok-tasks.tasks.items c.requires.work counts (c.in_ok-tasks.ensures.items ∙ c.tasks.ensures))
     c.nodes-nodes.ensures.well_formed
 
 pub play-requires : goal.play-requires
@@ -31,12 +31,12 @@ play-requires g c =
       ready = record {
         new = ap (λ k. k.journal) c.in_ok-empty.ensures;
         topology = ap (λ k. kept.setup_of g.W.Work.plan k) c.in_ok-empty.ensures
-            ∙ setup_is hash d (g.W.Work.plan c.args.work) c.in_ok-kept.kept.items c.in_ok-tasks.tasks.items c.requires.work (c.in_ok-kept.ensures.items ∙ (c.as_slice.ensures.value ∙ counts)) (c.in_ok-tasks.ensures.items ∙ c.tasks.ensures);
+            ∙ setup_is hash d (g.W.Work.plan c.args.work) c.in_ok-counts.counts.items c.in_ok-tasks.tasks.items c.requires.work counts (c.in_ok-tasks.ensures.items ∙ c.tasks.ensures);
         nodes = nodes_ready d c.nodes-nodes.ensures.well_formed c.requires.partitions;
         threads = c.requires.threads;
         test = ap (λ k. g.W.Work.good k.work) c.in_ok-empty.ensures ∙ c.requires.good;
-        counts_are = c.as_slice-2.ensures.value ∙ (sym c.as_slice.ensures.value ∙ (sym c.in_ok-kept.ensures.items ∙ sym (ap (λ k. k.counts) c.in_ok-empty.ensures)));
-        parts = parts_ready hash d (g.W.Work.plan empty.work) c.as_slice-2.result.now c.nodes-nodes.ensures.well_formed c.requires.partitions work (c.as_slice-2.ensures.value ∙ counts);
+        counts_are = sym counts ∙ sym (ap (λ k. k.counts) c.in_ok-empty.ensures);
+        places = places_ready hash d (g.W.Work.plan empty.work) c.nodes-nodes.ensures.well_formed c.requires.partitions work;
         records = records_ready hash d (g.W.Work.plan empty.work) (item_views c.args.records.items) work c.requires.records;
       };
     }
@@ -48,7 +48,7 @@ end_play-requires-clause-setup g c κs within =
     let counts = c.in_ok-counts.ensures ∙ (ap (map (λ (i : TopicInfo). i.parts)) c.topics.ensures ∙ shown_counts d) in
     ap (λ f. kept.setup_from (g.W.Work.plan f.work) f.counts f.tasks) c.in_ok-cluster.ensures
     ∙ (ap (λ k. kept.setup_of g.W.Work.plan k) c.in_ok-empty.ensures
-    ∙ setup_is hash d (g.W.Work.plan c.args.work) c.in_ok-kept.kept.items c.in_ok-tasks.tasks.items c.requires.work (c.in_ok-kept.ensures.items ∙ (c.as_slice.ensures.value ∙ counts)) (c.in_ok-tasks.ensures.items ∙ c.tasks.ensures))
+    ∙ setup_is hash d (g.W.Work.plan c.args.work) c.in_ok-counts.counts.items c.in_ok-tasks.tasks.items c.requires.work counts (c.in_ok-tasks.ensures.items ∙ c.tasks.ensures))
 
 pub end_play-requires-clause-parts : goal.end_play-requires-clause-parts
 end_play-requires-clause-parts g c κs within = nodes_ready (draft_of c.args.topology.now) c.nodes-nodes.ensures.well_formed c.requires.partitions
@@ -65,4 +65,4 @@ pub end_play-requires-clause-counts : goal.end_play-requires-clause-counts
 end_play-requires-clause-counts g c κs within =
     let d = draft_of c.args.topology.now in
     let counts = c.in_ok-counts.ensures ∙ (ap (map (λ (i : TopicInfo). i.parts)) c.topics.ensures ∙ shown_counts d) in
-    ap (λ f. f.counts) c.in_ok-cluster.ensures ∙ (ap (λ k. k.counts) c.in_ok-empty.ensures ∙ (c.in_ok-kept.ensures.items ∙ (c.as_slice.ensures.value ∙ counts)))
+    ap (λ f. f.counts) c.in_ok-cluster.ensures ∙ (ap (λ k. k.counts) c.in_ok-empty.ensures ∙ counts)

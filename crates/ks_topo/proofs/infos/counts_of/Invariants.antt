@@ -4,5 +4,5 @@ use Rattle.ks_topo.specs.Built.{naturals}
 use Rattle.ks_topo.proofs.infos.counts_of.Given as goal
 
 -- what was found and what the rest gives
-abbrev pub invariant-loop-count : goal.invariant-loop-count
-invariant-loop-count l = record { found : l.counts.items ++ naturals (drop l.count-index l.topics) ≡ naturals l.topics; within : any_past (drop l.count-index l.topics) ≡ false; count : length l.counts.items ≡ l.count-index }
+abbrev pub invariant-loop-topic : goal.invariant-loop-topic
+invariant-loop-topic l = record { found : l.counts.items ++ naturals (drop l.topic-index l.topics) ≡ naturals l.topics; within : any_past (drop l.topic-index l.topics) ≡ false; count : length l.counts.items ≡ l.topic-index }

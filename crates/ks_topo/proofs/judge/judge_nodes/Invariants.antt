@@ -1,6 +1,6 @@
 use Rattle.std.proofs.Common.{◌≡◌, [], take, drop}
 use Rattle.ks_plan.specs.Drafts.{draft_view, nodes_view}
-use Rattle.ks_plan.specs.Faults.{nodes_fault, parts_before}
+use Rattle.ks_plan.specs.Faults.{nodes_fault, parts_before, origins_before}
 use Rattle.ks_plan.specs.Resolve.{resolved_from}
 use Rattle.ks_topo.proofs.judge.judge_nodes.Given as goal
 
@@ -10,4 +10,5 @@ invariant-loop-i l = record {
   found : nodes_fault (draft_view l.draft) (nodes_view (take l.i l.draft.nodes)) (nodes_view (drop l.i l.draft.nodes)) ≡ nodes_fault (draft_view l.draft) [] (nodes_view l.draft.nodes);
   known : l.known.items ≡ resolved_from l.draft.topics (nodes_view (take l.i l.draft.nodes));
   parts : l.parts.items ≡ parts_before (draft_view l.draft) (nodes_view (take l.i l.draft.nodes));
+  origins : l.origins.items ≡ origins_before (draft_view l.draft) (nodes_view (take l.i l.draft.nodes));
 }

@@ -12,23 +12,27 @@ use Rattle.ks_task_nodes.proofs.Numbers.{kinds_from}
 use Rattle.ks_store.specs.declared.changelogs.Changelog.{Changelog}
 use Rattle.ks_task_step.specs.Steps.{made_or_none, late_or_none}
 use Rattle.ks_store.specs.Changelogs.{stores_in}
+use Rattle.ks_law_topology.proofs.Setups.{task_few}
 use Rattle.ks_task.proofs.task.Task.process.Goals as goal
+
+pub process_record-requires : goal.process_record-requires
+process_record-requires g c = task_few (draft_of c.args.topology.now) c.args.self.now.id c.requires.task.well_formed c.requires.task.there
 
 pub returns-clause-records : goal.returns-clause-records
 returns-clause-records g c =
     let p = plan_of (draft_of c.args.topology.now) in
     let self = c.args.self.now in
     let rules = rules_of g.H.Hash128.hash_of in
-    subst (λ (ns : List TaskNode). IfOk c.process_record.result (λ m. m.records.items ≡ made_or_none rules ns (stores_in self.changelogs.items) self.id.part (arrival_at p.kinds (slice_get (topics_of p) c.args.topic) c.args.rec.now))) c.requires
+    subst (λ (ns : List TaskNode). IfOk c.process_record.result (λ m. m.records.items ≡ made_or_none rules ns (stores_in self.changelogs.items) self.id.part (arrival_at p.kinds (slice_get (topics_of p) c.args.topic) c.args.rec.now))) c.requires.nodes
     (subst (λ (ls : List Changelog). IfOk c.process_record.result (λ m. m.records.items ≡ made_or_none rules (map node_view c.args.nodes.now) (stores_in ls) self.id.part (arrival_at p.kinds (slice_get (topics_of p) c.args.topic) c.args.rec.now))) c.deref.ensures.value
     (subst (λ (ts : List Topic). IfOk c.process_record.result (λ m. m.records.items ≡ made_or_none rules (map node_view c.args.nodes.now) (stores_in c.deref.result.now) self.id.part (arrival_at p.kinds (slice_get ts c.args.topic) c.args.rec.now))) c.purposes-purposes.ensures
-    (subst (λ ks. IfOk c.process_record.result (λ m. m.records.items ≡ made_or_none rules (map node_view c.args.nodes.now) (stores_in c.deref.result.now) self.id.part (arrival_at ks (slice_get c.purposes-purposes.result.now c.args.topic) c.args.rec.now))) (ap kinds_in c.requires ∙ kinds_from p self.id.sub 0 p.kinds) c.process_record.ensures.records)))
+    (subst (λ ks. IfOk c.process_record.result (λ m. m.records.items ≡ made_or_none rules (map node_view c.args.nodes.now) (stores_in c.deref.result.now) self.id.part (arrival_at ks (slice_get c.purposes-purposes.result.now c.args.topic) c.args.rec.now))) (ap kinds_in c.requires.nodes ∙ kinds_from p self.id.sub 0 p.kinds) c.process_record.ensures.records)))
 
 pub returns-clause-late : goal.returns-clause-late
 returns-clause-late g c =
     let p = plan_of (draft_of c.args.topology.now) in
     let self = c.args.self.now in
-    subst (λ (ns : List TaskNode). IfOk c.process_record.result (λ m. m.late ≡ capped (late_or_none ns (stores_in self.changelogs.items) (arrival_at p.kinds (slice_get (topics_of p) c.args.topic) c.args.rec.now)))) c.requires
+    subst (λ (ns : List TaskNode). IfOk c.process_record.result (λ m. m.late ≡ capped (late_or_none ns (stores_in self.changelogs.items) (arrival_at p.kinds (slice_get (topics_of p) c.args.topic) c.args.rec.now)))) c.requires.nodes
     (subst (λ (ls : List Changelog). IfOk c.process_record.result (λ m. m.late ≡ capped (late_or_none (map node_view c.args.nodes.now) (stores_in ls) (arrival_at p.kinds (slice_get (topics_of p) c.args.topic) c.args.rec.now)))) c.deref.ensures.value
     (subst (λ (ts : List Topic). IfOk c.process_record.result (λ m. m.late ≡ capped (late_or_none (map node_view c.args.nodes.now) (stores_in c.deref.result.now) (arrival_at p.kinds (slice_get ts c.args.topic) c.args.rec.now)))) c.purposes-purposes.ensures
-    (subst (λ ks. IfOk c.process_record.result (λ m. m.late ≡ capped (late_or_none (map node_view c.args.nodes.now) (stores_in c.deref.result.now) (arrival_at ks (slice_get c.purposes-purposes.result.now c.args.topic) c.args.rec.now)))) (ap kinds_in c.requires ∙ kinds_from p self.id.sub 0 p.kinds) c.process_record.ensures.late)))
+    (subst (λ ks. IfOk c.process_record.result (λ m. m.late ≡ capped (late_or_none (map node_view c.args.nodes.now) (stores_in c.deref.result.now) (arrival_at ks (slice_get c.purposes-purposes.result.now c.args.topic) c.args.rec.now)))) (ap kinds_in c.requires.nodes ∙ kinds_from p self.id.sub 0 p.kinds) c.process_record.ensures.late)))

@@ -9,6 +9,8 @@ use Rattle.std.specs.FinMap.Entries.{find, put, by_order, where_key}
 use Rattle.ks_def_runs.specs.FinMap as fin
 use Rattle.ks_def_runs.specs.FinMap.{FinMap}
 use Rattle.ks_def_runs.specs.Table.{write}
+use Rattle.ks_def_runs.proofs.Tables.{equal}
+use Rattle.ks_row.proofs.Fields.{some_is}
 use Rattle.ks_def_tasks.specs.Bytes.{with_pair, map_from}
 use Rattle.ks_law_topology.specs.Spelled.{IfThere}
 
@@ -66,6 +68,16 @@ module _ {K X : Type 0} (P : K → X → Type 0) where
 
       pub every_read : (es : List (List ℕ × List ℕ)) → Gives es → Every (fin.entries (map_from R key value es))
       every_read es g = every_pair es g fin.empty every_empty
+
+-- at the key at which it is found
+module _ {K X : Type 0} (P : K → X → Type 0) (R : K → K → Ordering) (anti : IsAntisymmetric R) where
+  pub every_found : (es : List (K × X)) (k : K) (x : X) → Every P es → find R k es ≡ Some x → P k x
+  every_found [] k x h e = absurd cc
+  every_found (e ∷ es) k x h f = by (eq_by_cmp R k e.0) refl (every_found es k x h.1) f
+    where
+      by : (b : Bool) → eq_by_cmp R k e.0 ≡ b → (find R k es ≡ Some x → P k x) → cond b (Some e.1) (find R k es) ≡ Some x → P k x
+      by true b more g = subst (λ c. P c x) (sym (anti k e.0 (equal _ b))) (subst (P e.0) (some_is e.1 x g) h.0)
+      by false b more g = more g
 
 -- and of what is found at a key
 module _ {K X : Type 0} (P : X → Type 0) (R : K → K → Ordering) where
