@@ -42,7 +42,7 @@ fn even_worker(clients: &[Client], placed: &[(TaskId, u8)], worker: u8) -> u8
     worker
 }
 
-/// The same tasks at the same clients, and at each client evenly over its workers.
+/// Each task stays at its client, and each client's tasks are spread evenly over its workers.
 pub fn spread(
     alloc: Global,
     clients: &[Client],

@@ -158,7 +158,7 @@ fn copy_places(alloc: Global, places: &[(TaskId, u8)]) -> Result<Vec<(TaskId, u8
     Ok(made)
 }
 
-/// The same assignment again: a copy with its own memory. Want of memory for the copy is the one error.
+/// A copy of an assignment, with its own memory. Want of memory for the copy is the one error.
 pub fn copy_assignment(alloc: Global, a: &Assignment) -> Result<Assignment, AllocError>
     ensures { IfOk result (λ b. b ≡ a.now) }
 {

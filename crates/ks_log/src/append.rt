@@ -6,14 +6,14 @@ use ks_history::Slot;
 use ks_row::{Rec, TaskId};
 use std::alloc::{AllocError, Global};
 
-/// The same record again: a copy of it, with its own memory. Want of memory for the copy is the one error.
+/// A copy of a record, with its own memory. Want of memory for the copy is the one error.
 pub fn copy(rec: &Rec) -> Result<Rec, AllocError>
     ensures { IfOk result (λ made. made ≡ rec.now) }
 {
     rec.clone()
 }
 
-/// The same records again, in their order. Want of memory for the copies is the one error.
+/// Copies of records, in their order. Want of memory for the copies is the one error.
 pub fn copies(alloc: Global, recs: &[Rec]) -> Result<Vec<Rec>, AllocError>
     ensures { IfOk result (λ made. made.items ≡ recs.now) }
 {

@@ -25,7 +25,7 @@ pub struct JobInput {
     pub rest: JobRest,
 }
 
-/// The same, and the first pass, through which they are fed.
+/// A job's records, what follows them, and the first pass, through which they are fed.
 #[derive(Drop)]
 pub struct JobFeed<W: Work> {
     /// The records that came with the topology.

@@ -69,7 +69,7 @@ pub fn sent(alloc: Global, rec: &Rec, recs: &[Rec]) -> Result<Cluster<Copying>, 
     Ok(cluster)
 }
 
-/// The same, decided.
+/// A cluster whose worker 0 has a decided transaction for the record that it took.
 pub fn decided(alloc: Global, rec: &Rec, recs: &[Rec]) -> Result<Cluster<Copying>, AllocError>
     requires { recs.now ≡ rec.now ∷ [] }
     ensures { IfOk result (λ c. Stands 8 rec.now c) }
@@ -79,7 +79,7 @@ pub fn decided(alloc: Global, rec: &Rec, recs: &[Rec]) -> Result<Cluster<Copying
     Ok(cluster)
 }
 
-/// The same, with its marker.
+/// A cluster whose worker 0 has decided its transaction and written the marker.
 pub fn marked(alloc: Global, rec: &Rec, recs: &[Rec]) -> Result<Cluster<Copying>, AllocError>
     requires { recs.now ≡ rec.now ∷ [] }
     ensures { IfOk result (λ c. Stands 9 rec.now c) }

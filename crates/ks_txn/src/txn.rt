@@ -204,7 +204,7 @@ impl Txn {
         }
     }
 
-    /// The same as a producer of the definitions.
+    /// This producer as the definitions have it.
     pub fn describe(&self, alloc: Global) -> Result<Producer, AllocError>
         ensures { IfOk result (λ p. p ≡ self.now) }
     {

@@ -72,7 +72,7 @@ impl Subscription {
         self.part
     }
 
-    /// The same key, moved out.
+    /// The key of the left row, moved out.
     pub fn into_left(self) -> Key
         ensures { result ≡ self.left }
     {
