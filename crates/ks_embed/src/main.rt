@@ -1,10 +1,11 @@
 //! An example of embedding: a job in memory is run with gates of one's own, and its tables are printed.
 #![tactic(auto)]
 
-ghost use Rattle.std.specs.Prelude.{◌≡◌, ℕ, List, Some, IfOk, false};
+ghost use Rattle.std.specs.Prelude.{◌≡◌, ℕ, List, Some, None, IfOk, false};
 ghost use Rattle.std.specs.Io.KnownBytes.{Appends};
 ghost use Rattle.ks_hash.specs.Murmur3.{murmur3_of};
 ghost use Rattle.ks_def_tasks.specs.Rules.{rules_of};
+ghost use Rattle.ks_run.specs.Commands.{placing_by};
 ghost use Rattle.ks_run.specs.Journals.{IsSettledRun};
 
 mod crashing;
@@ -44,7 +45,8 @@ fn run_bytes<R: Threads + Wait + Sync>(
     out: &mut MemSink,
 ) -> Result<Ended, AllocError>
     ensures settled { IfOk result (λ ended. ended.status ≡ 0 → ((text : List ℕ)
-        × IsSettledRun (rules_of murmur3_of) false (Some job.now) text ended.journal
+        × IsSettledRun (rules_of murmur3_of) (placing_by None) false (Some job.now) text
+        ended.journal
         × Appends (Some out.old.held) (Some out.new.held) text)) }
 {
     // Sixteen gates, which is what `run_job` wants: one for each worker that there may be.

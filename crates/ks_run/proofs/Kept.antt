@@ -152,7 +152,7 @@ module _ (rules : Rules) (placing : Placing) (shown ahead : Bool) (old new : Opt
   })
 
   judged_told : (d : DraftView) (records : List Input) (status : ℕ) (text : List ℕ) (journal : List Entry) → now ≡ before → IsAtEnd new → HasJournal rules placing old journal →
-      SettlesBytes rules old d records journal → Tells rules shown d records status text journal → IsJudged rules placing shown ahead old new before now status text journal
+      SettlesBytes rules placing old d records journal → Tells rules shown d records status text journal → IsJudged rules placing shown ahead old new before now status text journal
   judged_told d records status text journal k z kept h (inl t) = subst (λ s. IsJudged rules placing shown ahead old new before now s text journal) (sym t.0) (record {
     read_fault = λ e. absurd (cc);
     bad_job = λ e. absurd (cc);
@@ -194,6 +194,7 @@ module _ (rules : Rules) (placing : Placing) (shown ahead : Bool) (old new : Opt
         topology = ap draft_in h.items_are;
         inputs = sym (ap records_of h.items_are);
         kept = a.kept;
+        placed = kept.placed;
       })
       (tells rules shown d (records_of is) status text journal a.kept a.told)
 
@@ -238,7 +239,7 @@ module _ (rules : Rules) (shown : Bool) (left : Option (List ℕ)) (valid : IsIn
   none_refused : (text : List ℕ) → IsRefused left text → ⊥
   none_refused text h = not_some (subst (λ b. stop_of (whole b) ≡ None) (sym (known_is left valid.bytes h.bytes valid.known h.known)) valid.unstopped) h.bad.1
 
-  module _ (d : DraftView) (records : List Input) (journal : List Entry) (h : SettlesBytes rules left d records journal) where
+  module _ (placing : Placing) (d : DraftView) (records : List Input) (journal : List Entry) (h : SettlesBytes rules placing left d records journal) where
     same : h.bytes ≡ valid.bytes
     same = known_is left valid.bytes h.bytes valid.known h.known
 
@@ -259,6 +260,6 @@ judged_query rules placing shown ahead old new before now status text journal va
     by : (status ≡ 0) ⊎ (status ≡ 2) ⊎ (status ≡ 3) ⊎ (status ≡ 5) ⊎ (status ≡ 6) → status ≡ 0
     by (inl e) = e
     by (inr (inl e)) = absurd (none_refused rules shown old valid text (h.bad_job e).1)
-    by (inr (inr (inl e))) = let k = (h.late e).2 in absurd (none_late rules shown old valid k.draft k.records journal k.settles text k.late)
-    by (inr (inr (inr (inl e)))) = let k = (h.collision e).2 in absurd (none_collide rules shown old valid k.draft k.records journal k.settles alone text k.collision)
+    by (inr (inr (inl e))) = let k = (h.late e).2 in absurd (none_late rules shown old valid placing k.draft k.records journal k.settles text k.late)
+    by (inr (inr (inr (inl e)))) = let k = (h.collision e).2 in absurd (none_collide rules shown old valid placing k.draft k.records journal k.settles alone text k.collision)
     by (inr (inr (inr (inr e)))) = absurd (calm (h.read_fault e).0)

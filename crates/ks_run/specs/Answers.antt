@@ -31,9 +31,9 @@ pub record IsRefused (left : Option (List ℕ)) (text : List ℕ) : Type 0 where
 pub record IsJudged (rules : Rules) (placing : Placing) (shown ahead : Bool) (old new : Option (List ℕ)) (before now : ℕ) (status : ℕ) (text : List ℕ) (journal : List Entry) : Type 0 where
   pub read_fault : status ≡ 6 → Rose before now × TookFront old new journal × (text ≡ read_fault_text) × IsUndrained journal × IsEmptyIf ahead journal
   pub bad_job : status ≡ 2 → (now ≡ before) × IsRefused old text × IsUndrained journal × IsEmptyIf ahead journal
-  pub settled : status ≡ 0 → (now ≡ before) × IsAtEnd new × IsSettledRun rules shown old text journal
-  pub late : status ≡ 3 → (now ≡ before) × IsAtEnd new × IsLateRun rules shown old text journal
-  pub collision : status ≡ 5 → (now ≡ before) × IsAtEnd new × IsCollidedRun rules shown old text journal
+  pub settled : status ≡ 0 → (now ≡ before) × IsAtEnd new × IsSettledRun rules placing shown old text journal
+  pub late : status ≡ 3 → (now ≡ before) × IsAtEnd new × IsLateRun rules placing shown old text journal
+  pub collision : status ≡ 5 → (now ≡ before) × IsAtEnd new × IsCollidedRun rules placing shown old text journal
   pub kept : HasJournal rules placing old journal
   pub only : (status ≡ 0) ⊎ (status ≡ 2) ⊎ (status ≡ 3) ⊎ (status ≡ 5) ⊎ (status ≡ 6)
 

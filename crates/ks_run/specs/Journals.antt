@@ -54,34 +54,41 @@ pub record IsJournal (rules : Rules) (d : DraftView) (records : List Input) (jou
   pub run : IsRun (setup_of rules (plan_of d)) journal
   pub few : records_in (setup_of rules (plan_of d)) journal < 2 ^ 48
 
--- some bytes, which are those that the source has left where it tells them, are a job, and the journal settles it
-pub record SettlesBytes (rules : Rules) (left : Option (List ℕ)) (d : DraftView) (records : List Input) (journal : List Entry) : Type 0 where
+-- each assignment that was taken is good for the members of its generation, and for what was held and the ends at some moment of that
+-- generation, by the tasks and the changelogs of the topology
+abbrev pub IsPlaced : Rules → Placing → DraftView → List Entry → Type 0
+IsPlaced rules placing d journal =
+    ArePlaced (good_by (changelog_numbers (plan_of d)) (tasks (plan_of d)) placing) (setup_of rules (plan_of d)) journal
+
+-- some bytes, which are those that the source has left where it tells them, are a job, and the journal settles it, with good assignments alone
+pub record SettlesBytes (rules : Rules) (placing : Placing) (left : Option (List ℕ)) (d : DraftView) (records : List Input) (journal : List Entry) : Type 0 where
   pub bytes : List ℕ
   pub known : IfSome left (λ b. b ≡ bytes)
   pub unstopped : stop_of (whole bytes) ≡ None
   pub topology : draft_in (whole bytes).items ≡ Some d
   pub inputs : records ≡ records_of (whole bytes).items
   pub kept : IsJournal rules d records journal
+  pub placed : IsPlaced rules placing d journal
 
 -- ---- status 0: the source held a job, and the text has its tables by its query
-pub record IsSettledRun (rules : Rules) (shown : Bool) (left : Option (List ℕ)) (text : List ℕ) (journal : List Entry) : Type 0 where
+pub record IsSettledRun (rules : Rules) (placing : Placing) (shown : Bool) (left : Option (List ℕ)) (text : List ℕ) (journal : List Entry) : Type 0 where
   pub draft : DraftView
   pub records : List Input
-  pub settles : SettlesBytes rules left draft records journal
+  pub settles : SettlesBytes rules placing left draft records journal
   pub query : TellsQuery rules shown draft records text journal
 
 -- ---- status 3: the source held a job some of whose records are not within grace, and the text has its tables without the late ones
-pub record IsLateRun (rules : Rules) (shown : Bool) (left : Option (List ℕ)) (text : List ℕ) (journal : List Entry) : Type 0 where
+pub record IsLateRun (rules : Rules) (placing : Placing) (shown : Bool) (left : Option (List ℕ)) (text : List ℕ) (journal : List Entry) : Type 0 where
   pub draft : DraftView
   pub records : List Input
-  pub settles : SettlesBytes rules left draft records journal
+  pub settles : SettlesBytes rules placing left draft records journal
   pub late : TellsLate rules shown draft records text journal
 
 -- ---- status 5: the source held a job in whose journal two rows of a key have one hash, and the text names them
-pub record IsCollidedRun (rules : Rules) (shown : Bool) (left : Option (List ℕ)) (text : List ℕ) (journal : List Entry) : Type 0 where
+pub record IsCollidedRun (rules : Rules) (placing : Placing) (shown : Bool) (left : Option (List ℕ)) (text : List ℕ) (journal : List Entry) : Type 0 where
   pub draft : DraftView
   pub records : List Input
-  pub settles : SettlesBytes rules left draft records journal
+  pub settles : SettlesBytes rules placing left draft records journal
   pub collision : TellsCollision rules shown draft text journal
 
 -- ---- jobs that are always answered by their query
@@ -96,12 +103,6 @@ pub record IsInTime (left : Option (List ℕ)) : Type 0 where
 abbrev pub IsWithoutCollision : Rules → Option (List ℕ) → List Entry → Type 0
 IsWithoutCollision rules left journal = (bytes : List ℕ) → left ≡ Some bytes → (d : DraftView) → draft_in (whole bytes).items ≡ Some d →
     first_pair rules.hash (plan_of d) (end_of rules d journal) ≡ None
-
--- each assignment that was taken is good for the members of its generation, and for what was held and the ends at some moment of that
--- generation, by the tasks and the changelogs of the topology
-abbrev pub IsPlaced : Rules → Placing → DraftView → List Entry → Type 0
-IsPlaced rules placing d journal =
-    ArePlaced (good_by (changelog_numbers (plan_of d)) (tasks (plan_of d)) placing) (setup_of rules (plan_of d)) journal
 
 -- these items have no topology that is well formed
 abbrev pub HasNoTopology : List ItemView → Type 0

@@ -93,13 +93,16 @@ fn run_load<R: Threads + Wait + Sync, K: Sink>(
         × IsUndrained result.journal
         × IsEmptyIf (is_some settings.stop) result.journal }
     ensures settled { result.status ≡ 0 → ((text : List ℕ)
-        × IsSettledRun (rules_of murmur3_of) false (Some (load_text orders)) text result.journal
+        × IsSettledRun (rules_of murmur3_of) (placing_of settings) false
+        (Some (load_text orders)) text result.journal
         × Appends (K.held out.old) (K.held out.new) text) }
     ensures late { result.status ≡ 3 → ((text : List ℕ)
-        × IsLateRun (rules_of murmur3_of) false (Some (load_text orders)) text result.journal
+        × IsLateRun (rules_of murmur3_of) (placing_of settings) false
+        (Some (load_text orders)) text result.journal
         × Appends (K.held out.old) (K.held out.new) text) }
     ensures collision { result.status ≡ 5 → ((text : List ℕ)
-        × IsCollidedRun (rules_of murmur3_of) false (Some (load_text orders)) text result.journal
+        × IsCollidedRun (rules_of murmur3_of) (placing_of settings) false
+        (Some (load_text orders)) text result.journal
         × Appends (K.held out.old) (K.held out.new) text) }
     ensures write_fault { result.status ≡ 7 → Rose (K.faults out.old) (K.faults out.new)
         × ((status : ℕ) × (text : List ℕ) × IsLoadJudged (rules_of murmur3_of) (placing_of settings)
@@ -157,17 +160,20 @@ fn run_command<R: Threads + Wait + Sync, S: Source + Send, K: Sink>(
         × IsEmptyIf (is_read_ahead command) result.journal }
     ensures settled { result.status ≡ 0 → (S.faults input.new ≡ S.faults input.old)
         × (IsRun command → IsAtEnd (S.left input.new))
-        × ((text : List ℕ) × IsSettledRun (rules_of murmur3_of) (journal_of command)
+        × ((text : List ℕ) × IsSettledRun (rules_of murmur3_of) (placing_by command)
+        (journal_of command)
         (job_bytes command (S.left input.old)) text result.journal
         × Appends (K.held out.old) (K.held out.new) text) }
     ensures late { result.status ≡ 3 → (S.faults input.new ≡ S.faults input.old)
         × (IsRun command → IsAtEnd (S.left input.new))
-        × ((text : List ℕ) × IsLateRun (rules_of murmur3_of) (journal_of command)
+        × ((text : List ℕ) × IsLateRun (rules_of murmur3_of) (placing_by command)
+        (journal_of command)
         (job_bytes command (S.left input.old)) text result.journal
         × Appends (K.held out.old) (K.held out.new) text) }
     ensures collision { result.status ≡ 5 → (S.faults input.new ≡ S.faults input.old)
         × (IsRun command → IsAtEnd (S.left input.new))
-        × ((text : List ℕ) × IsCollidedRun (rules_of murmur3_of) (journal_of command)
+        × ((text : List ℕ) × IsCollidedRun (rules_of murmur3_of) (placing_by command)
+        (journal_of command)
         (job_bytes command (S.left input.old)) text result.journal
         × Appends (K.held out.old) (K.held out.new) text) }
     ensures write_fault { result.status ≡ 7 → Rose (K.faults out.old) (K.faults out.new)
@@ -234,18 +240,21 @@ pub fn top<R: Threads + Wait + Sync, S: Source + Send, K: Sink>(
     ensures settled { result.status ≡ 0 → (S.faults input.new ≡ S.faults input.old)
         × (IsRun (command_of (words_of words.now)) → IsAtEnd (S.left input.new))
         × ((text : List ℕ) × IsSettledRun (rules_of murmur3_of)
+        (placing_by (command_of (words_of words.now)))
         (journal_of (command_of (words_of words.now)))
         (job_bytes (command_of (words_of words.now)) (S.left input.old)) text result.journal
         × Appends (K.held out.old) (K.held out.new) text) }
     ensures late { result.status ≡ 3 → (S.faults input.new ≡ S.faults input.old)
         × (IsRun (command_of (words_of words.now)) → IsAtEnd (S.left input.new))
         × ((text : List ℕ) × IsLateRun (rules_of murmur3_of)
+        (placing_by (command_of (words_of words.now)))
         (journal_of (command_of (words_of words.now)))
         (job_bytes (command_of (words_of words.now)) (S.left input.old)) text result.journal
         × Appends (K.held out.old) (K.held out.new) text) }
     ensures collision { result.status ≡ 5 → (S.faults input.new ≡ S.faults input.old)
         × (IsRun (command_of (words_of words.now)) → IsAtEnd (S.left input.new))
         × ((text : List ℕ) × IsCollidedRun (rules_of murmur3_of)
+        (placing_by (command_of (words_of words.now)))
         (journal_of (command_of (words_of words.now)))
         (job_bytes (command_of (words_of words.now)) (S.left input.old)) text result.journal
         × Appends (K.held out.old) (K.held out.new) text) }

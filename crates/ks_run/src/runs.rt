@@ -75,18 +75,18 @@ pub fn run_job<H: Hash128 + Send + Sync, R: Threads + Wait + Sync, S: Source + S
         × IsEmptyIf (is_some settings.now.stop) result.journal }
     ensures settled { result.status ≡ 0 → (S.faults input.new ≡ S.faults input.old)
         × IsAtEnd (S.left input.new)
-        × ((text : List ℕ) × IsSettledRun (rules_of H.hash_of) settings.now.journal
-        (S.left input.old) text result.journal
+        × ((text : List ℕ) × IsSettledRun (rules_of H.hash_of) (placing_of settings.now)
+        settings.now.journal (S.left input.old) text result.journal
         × Appends (K.held out.old) (K.held out.new) text) }
     ensures late { result.status ≡ 3 → (S.faults input.new ≡ S.faults input.old)
         × IsAtEnd (S.left input.new)
-        × ((text : List ℕ) × IsLateRun (rules_of H.hash_of) settings.now.journal (S.left input.old)
-        text result.journal
+        × ((text : List ℕ) × IsLateRun (rules_of H.hash_of) (placing_of settings.now)
+        settings.now.journal (S.left input.old) text result.journal
         × Appends (K.held out.old) (K.held out.new) text) }
     ensures collision { result.status ≡ 5 → (S.faults input.new ≡ S.faults input.old)
         × IsAtEnd (S.left input.new)
-        × ((text : List ℕ) × IsCollidedRun (rules_of H.hash_of) settings.now.journal
-        (S.left input.old) text result.journal
+        × ((text : List ℕ) × IsCollidedRun (rules_of H.hash_of) (placing_of settings.now)
+        settings.now.journal (S.left input.old) text result.journal
         × Appends (K.held out.old) (K.held out.new) text) }
     ensures write_fault { result.status ≡ 7 → Rose (K.faults out.old) (K.faults out.new)
         × ((status : ℕ) × (text : List ℕ)

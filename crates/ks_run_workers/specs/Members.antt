@@ -1,5 +1,5 @@
 -- The passes of a crew.
-use Rattle.std.specs.Prelude.{◌≡◌, ◌+◌, ◌≤◌, ℕ, Bool, List, map}
+use Rattle.std.specs.Prelude.{◌≡◌, ◌+◌, ◌≤◌, ℕ, Bool, List, map, unwrap_or}
 use Rattle.atomic_table.specs.Seated.{TableId}
 use Rattle.ks_growing.specs.Passes.{PassView, IsPass, Each}
 use Rattle.ks_assign.specs.declared.clients.Placing.{Placing}
@@ -40,3 +40,7 @@ placing_of settings = record {
   threads = settings.threads;
   wants = record { standbys = settings.standbys; lag = 10000; warmups = 2 };
 }
+
+-- how many turns each worker may take
+abbrev pub turns_in : Settings → ℕ
+turns_in settings = unwrap_or settings.stop 1000000

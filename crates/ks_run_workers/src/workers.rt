@@ -3,7 +3,7 @@ ghost use Rattle.std.specs.Prelude.{◌≡◌, ◌<◌, ◌≤◌, ◌*◌, ℕ,
 ghost use Rattle.ks_topo.specs.Topologies.{draft_of};
 ghost use Rattle.ks_words.specs.Ranges.{HasRanges};
 ghost use Rattle.ks_run_workers.specs.Feeding.{FaultsBy};
-ghost use Rattle.ks_run_workers.specs.Members.{placing_of};
+ghost use Rattle.ks_run_workers.specs.Members.{turns_in, placing_of};
 ghost use Rattle.ks_run_workers.specs.Ready.{IsReady, HasWorked};
 
 use crate::boxed_gate::{BoxedGate, box_gates};
@@ -46,7 +46,8 @@ fn count_workers(settings: &Settings) -> u8
 // The most turns of each worker.
 fn turns_of(settings: &Settings) -> u64
     requires { HasRanges settings.now }
-    ensures { result ≤ 1000000 }
+    ensures exact { result ≡ turns_in settings.now }
+    ensures few { result ≤ 1000000 }
 {
     match settings.stop {
         Some(turns) => turns,

@@ -1,5 +1,6 @@
 pub mod Beginning
 pub mod Crashing
+pub mod Performed
 pub mod Shown
 pub mod Turning
 pub mod Summing

@@ -16,7 +16,7 @@ use Rattle.ks_shared.specs.declared.state.Frame.{Frame}
 use Rattle.ks_worker_client.specs.Turns.{GateCounts}
 use Rattle.ks_worker_client.specs.Calls.{Later}
 use Rattle.ks_worker_state.specs.declared.state.WorkerState.{WorkerState}
-use Rattle.ks_worker_acts.specs.Gained.{StandAmong, HasGained}
+use Rattle.ks_worker_state.specs.Gained.{StandAmong, HasGained}
 use Rattle.std.specs.List.{filter}
 use Rattle.ks_worker_state.specs.State.{task_names, replica_names}
 use Rattle.ks_worker_acts.specs.Telling.{is_clean_task, parks}
@@ -96,14 +96,14 @@ module _ {W G : Type 0} (plan : W → TaskPlan) where
   shows_act d Commit old new l does = shows_none plan old.member.number _ _ l
   shows_act d Abort old new l does = shows_none plan old.member.number _ _ l
   shows_act d Crash old new l does = shows_none plan old.member.number _ _ l
-  shows_act d Leave old new l does = shows_gained plan old.member.number _ _ _ does.gained (last_counts old.member.number old.member.number old.member.instance (replica_names old.replicas.items ++ task_names (filter is_clean_task old.tasks.items)))
+  shows_act d Leave old new l does = shows_gained plan old.member.number _ _ _ does.made.gained (last_counts old.member.number old.member.number old.member.instance (replica_names old.replicas.items ++ task_names (filter is_clean_task old.tasks.items)))
   shows_act d Pump old new l does = shows_none plan old.member.number _ _ l
-  shows_act d Probe old new l does = shows_gained plan old.member.number _ _ _ does.gained (by (old.member.number == old.member.number) (eq-eqb old.member.number old.member.number refl))
+  shows_act d Probe old new l does = shows_gained plan old.member.number _ _ _ does.made.gained (by (old.member.number == old.member.number) (eq-eqb old.member.number old.member.number refl))
     where
       by : (b : Bool) → b ≡ true → 1 ≤ cond b 1 0
       by true e = omega arith
       by false e = absurd cc
-  shows_act d (Evict v) old new l does = shows_evicted plan old.member.number v _ _ l does.gained
+  shows_act d (Evict v) old new l does = shows_evicted plan old.member.number v _ _ l (λ few. (does.made few).gained)
   shows_act d Stop old new l does = shows_none plan old.member.number _ _ l
 
   -- the gate gave an act, and the worker performed it or was cut off

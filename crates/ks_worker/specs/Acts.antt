@@ -1,5 +1,5 @@
 -- What each act does to a worker (Kafka Streams: one pass of a StreamThread's run loop).
-use Rattle.std.specs.Prelude.{◌≡◌, ◌≢◌, ◌⊎◌, ◌≤◌, ℕ, List, [], ◌∷◌, ◌++◌}
+use Rattle.std.specs.Prelude.{◌≡◌, ◌≢◌, ◌⊎◌, ◌≤◌, ◌<◌, ℕ, List, [], ◌∷◌, ◌++◌}
 use Rattle.std.specs.List.{filter}
 use Rattle.ks_row.specs.declared.record.TaskId.{TaskId}
 use Rattle.ks_edge.specs.declared.gate.Act.{Act}
@@ -14,24 +14,27 @@ use Rattle.ks_worker_state.specs.declared.state.WorkerState.{WorkerState}
 use Rattle.ks_worker_state.specs.Worker.{lost}
 use Rattle.ks_worker_state.specs.State.{KnowsTheSame, task_names, replica_names}
 use Rattle.ks_worker_acts.specs.Inputs.{HaveReadOn, HasMoved, HaveReadAll}
-use Rattle.ks_worker_acts.specs.Feeds.{AreFed}
-use Rattle.ks_worker_acts.specs.Gained.{HasGained}
+use Rattle.ks_worker_acts.specs.Picking.{HasPicked}
+use Rattle.ks_worker_acts.specs.Feeds.{AreFed, is_mark}
+use Rattle.ks_worker_state.specs.Gained.{HasMade, HasMadeOnly}
 use Rattle.ks_worker_acts.specs.Telling.{is_clean_task, outside, parks, positions_held}
 use Rattle.ks_worker_acts.specs.declared.commit.commit_end.CommitEnd.{CommitEnd}
 use Rattle.ks_worker_acts.specs.Ends.{HasEnded}
 
--- it read: an input position rose, or nothing stable of what its pass had seen is left
-pub record HasWorked {W G : Type 0} (plan : W → TaskPlan) (old new : WorkerState W G) : Type 0 where
+-- it read, and wrote nothing: an input position rose, or nothing stable of what its pass had seen is left
+pub record HasWorked {W G : Type 0} (plan : W → TaskPlan) (pick : ℕ) (old new : WorkerState W G) : Type 0 where
   pub same : KnowsTheSame old new
+  pub made : new.session.client.pass.made ≡ old.session.client.pass.made
   pub replicas : new.replicas ≡ old.replicas
   pub names : task_names new.tasks.items ≡ task_names old.tasks.items
   pub read : HaveReadOn old.tasks.items new.tasks.items
-  pub either : HasMoved old.tasks.items new.tasks.items
+  pub either : (HasMoved old.tasks.items new.tasks.items × HasPicked plan pick old new)
       ⊎ HaveReadAll (setup_in plan old.session.client.pass.frame) old.session.client.pass.seen new.tasks.items
 
--- it fed its replicas: each position rose, or nothing stable of what its pass had seen is left
+-- it fed its replicas, and wrote waiting markers alone: each position rose, or nothing stable of what its pass had seen is left
 pub record HasPumped {W G : Type 0} (plan : W → TaskPlan) (old new : WorkerState W G) : Type 0 where
   pub same : KnowsTheSame old new
+  pub made : HasMadeOnly is_mark old.session.client.pass new.session.client.pass
   pub tasks : new.tasks ≡ old.tasks
   pub names : replica_names new.replicas.items ≡ replica_names old.replicas.items
   pub fed : AreFed (setup_in plan old.session.client.pass.frame) old.session.client.pass.seen old.replicas.items new.replicas.items
@@ -50,12 +53,12 @@ pub record HasLostAll {W G : Type 0} (old new : WorkerState W G) : Type 0 where
   pub tasks : new.tasks.items ≡ []
   pub replicas : new.replicas.items ≡ []
 
--- it parked its replicas and those of its clean tasks, and is no member any more
+-- it parked its replicas and those of its clean tasks, removed itself, made no other request, and is no member any more
 pub record HasLeft {W G : Type 0} (old new : WorkerState W G) : Type 0 where
   pub member : new.member ≡ outside old.member
   pub tasks : new.tasks.items ≡ []
   pub replicas : new.replicas.items ≡ []
-  pub gained : HasGained old.session.client.pass new.session.client.pass
+  pub made : HasMade old.session.client.pass new.session.client.pass
       (parks old.member.instance (replica_names old.replicas.items ++ task_names (filter is_clean_task old.tasks.items))
       ++ Expire old.member.number ∷ [])
 
@@ -65,21 +68,22 @@ pub record HasTheSame {W G : Type 0} (old new : WorkerState W G) : Type 0 where
   pub tasks : new.tasks ≡ old.tasks
   pub replicas : new.replicas ≡ old.replicas
 
--- it told its positions, and asked for a new generation
+-- it told its positions, asked for a new generation, and made no other request
 pub record HasProbed {W G : Type 0} (d : DraftView) (old new : WorkerState W G) : Type 0 where
   pub same : HasTheSame old new
-  pub gained : HasGained old.session.client.pass new.session.client.pass
+  pub made : HasMade old.session.client.pass new.session.client.pass
       (Hold old.member.number (positions_held (changelog_numbers (plan_of d)) old.tasks.items old.replicas.items)
       ∷ ProbeOf old.member.number old.member.generation ∷ [])
 
--- it removed a worker from the group
+-- it removed a worker from the group, and made no other request
 pub record HasEvicted {W G : Type 0} (w : ℕ) (old new : WorkerState W G) : Type 0 where
   pub same : HasTheSame old new
-  pub gained : w ≤ 15 → HasGained old.session.client.pass new.session.client.pass (Expire w ∷ [])
+  pub made : w ≤ 15 → HasMade old.session.client.pass new.session.client.pass (Expire w ∷ [])
+  pub none : 15 < w → new.session.client.pass.made ≡ old.session.client.pass.made
 
 -- what each act does
 abbrev pub Does : {W G : Type 0} → (W → TaskPlan) → DraftView → Act → WorkerState W G → WorkerState W G → Type 0
-Does plan d (Work pick) old new = HasWorked plan old new
+Does plan d (Work pick) old new = HasWorked plan pick old new
 Does plan d Commit old new = (end : CommitEnd) × HasEnded plan d old new end
 Does plan d Abort old new = HasAborted old new
 Does plan d Crash old new = HasLostAll old new

@@ -18,6 +18,11 @@ use ks_worker_client::Halt;
 use std::alloc::{AllocError, Global};
 use std::sync::Wait;
 
+// How many acts `Work` there were since one moved something, after one more.
+fn count_dry(dry: u32, moved: bool) -> u32 {
+    if moved { 0 } else { dry.saturating_add(1) }
+}
+
 impl<W: Work, G: Gate> Worker<W, G> {
     // Its tasks read; how often in a row that moved nothing is counted.
     fn work<H: Hash128, R: Wait>(
@@ -39,11 +44,7 @@ impl<W: Work, G: Gate> Worker<W, G> {
             self.old.state self.new.state) }
     {
         let moved = work::<H, R, W, G>(rt, alloc, topology, shared, &mut self.state, pick)?;
-        if moved {
-            self.dry = 0;
-        } else {
-            self.dry = self.dry.saturating_add(1);
-        }
+        self.dry = count_dry(self.dry, moved);
         Ok(())
     }
 

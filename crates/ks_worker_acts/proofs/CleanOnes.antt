@@ -1,5 +1,5 @@
 -- A worker that gives up what its dirty tasks took.
-use Rattle.std.proofs.Common.{◌≡◌, ℕ, Bool, true, false, cond, List, [], ◌∷◌, sym, ap, subst}
+use Rattle.std.proofs.Common.{◌≡◌, ℕ, Bool, true, false, cond, List, [], ◌∷◌, sym, ap, subst, arith}
 use Rattle.std.specs.List.{filter}
 use Rattle.std.proofs.lemmas.List.Elements.{All-filter}
 use Rattle.ks_row.specs.declared.record.PartId.{PartId}
@@ -16,6 +16,7 @@ use Rattle.ks_task.specs.declared.task.Task.{Task}
 use Rattle.ks_task.specs.Tasks.{task_view}
 use Rattle.ks_worker_client.specs.declared.member.Member.{Member}
 use Rattle.ks_worker_state.specs.Tasks.{IsHeldTask}
+use Rattle.ks_worker_state.proofs.Names.{times-filter}
 use Rattle.ks_worker_state.specs.Worker.{IsWorker, IsNoneOf, HaveOwnNames}
 
 module _ (p : Task → Bool) where
@@ -42,6 +43,7 @@ module _ (p : Task → Bool) where
     producer = w.producer;
     alone = λ e. none_is_left ts (w.alone e);
     names = own_names ts w.names;
+    once = λ t. omega (arith, w.once t, times-filter p t ts);
     tasks_are = All-filter p (IsHeldTask d (setup_in plan pass.frame) pass.seen m last) ts w.tasks_are;
     replicas_are = w.replicas_are;
   })

@@ -1,5 +1,5 @@
 -- A worker's replicas, fed one after another.
-use Rattle.std.proofs.Common.{◌≡◌, ℕ, zero, suc, ◌+◌, ◌<◌, ◌≤◌, List, [], ◌∷◌, ◌++◌, length, get_or, set, refl, sym, ap, ap₂, subst, arith, add-one}
+use Rattle.std.proofs.Common.{◌≡◌, ◌≢◌, ℕ, zero, suc, ◌+◌, ◌<◌, ◌≤◌, List, [], ◌∷◌, ◌++◌, length, get_or, set, refl, sym, ap, ap₂, subst, ◌∙◌, arith, add-one}
 use Rattle.std.specs.List.{All}
 use Rattle.std.proofs.lemmas.List.Elements.{All-set, All-get_or}
 use Rattle.ks_row.specs.declared.record.PartId.{PartId}
@@ -21,10 +21,11 @@ use Rattle.ks_worker_client.specs.Calls.{Later}
 use Rattle.ks_worker_client.specs.declared.member.Member.{Member}
 use Rattle.ks_worker_client.proofs.Moments.{same_frame}
 use Rattle.ks_worker_state.specs.Standbys.{IsStandby, IsFedStandby}
-use Rattle.ks_worker_state.specs.State.{replica_names}
+use Rattle.ks_worker_state.specs.Gained.{HasMade}
+use Rattle.ks_worker_state.specs.Names.{task_names, replica_names, times}
 use Rattle.ks_worker_state.specs.Worker.{IsWorker}
 use Rattle.ks_worker_state.proofs.Workers.{worker_later}
-use Rattle.ks_worker_acts.specs.Feeds.{IsFedOn, AreFed, IsFedAt}
+use Rattle.ks_worker_acts.specs.Feeds.{IsFedOn, AreFed, IsFedAt, marks_to, marks_of}
 
 -- the first so many were fed, the others are the same
 abbrev pub AreFedTo : Setup → List Entry → ℕ → List Replica → List Replica → Type 0
@@ -77,11 +78,17 @@ module _ (setup : Setup) (h : List Entry) where
     one_more_fed (suc n) (x ∷ xs) (y ∷ ys) [] f g = absurd g
     one_more_fed (suc n) (x ∷ xs) (y ∷ ys) (z ∷ zs) f g = (subst (IsFedOn setup h x) (sym g.0) f.0, one_more_fed n xs ys zs f.1 g.1)
 
+-- its name is the same
+set_id : (rs : List Replica) (i : ℕ) (was now : Replica) → i < length rs → was ≡ get_or rs i was → now.id ≡ was.id → replica_names (set rs i now) ≡ replica_names rs
+set_id [] i was now lt is named = absurd (omega (arith, lt))
+set_id (r ∷ rs) zero was now lt is named = ap (λ (t : TaskId). t ∷ replica_names rs) (named ∙ ap (λ (x : Replica). x.id) is)
+set_id (r ∷ rs) (suc i) was now lt is named = ap (λ (l : List TaskId). r.id ∷ l) (set_id rs i was now (omega (arith, lt)) is named)
+
 -- ---- a worker one of whose replicas was fed
 module _ {W : Type 0} (plan : W → TaskPlan) (old new : PassView Entry (Frame W)) (l : Later plan old new) (net : IsNetwork (setup_in plan old.frame).plan) (d : DraftView) (m : Member) where
-  pub fed_worker : (last : ℕ) (numbers : List (PartId × ℕ)) (ts : List Task) (rs : List Replica) (i : ℕ) (r : Replica) → IsStandby (setup_in plan old.frame) new.seen r →
+  pub fed_worker : (last : ℕ) (numbers : List (PartId × ℕ)) (ts : List Task) (rs : List Replica) (i : ℕ) (was r : Replica) → i < length rs → was ≡ get_or rs i was → r.id ≡ was.id → IsStandby (setup_in plan old.frame) new.seen r →
       IsWorker plan d old m last numbers ts rs → IsWorker plan d new m last numbers ts (set rs i r)
-  fed_worker last numbers ts rs i r standby worker =
+  fed_worker last numbers ts rs i was r lt is named standby worker =
       let w : IsWorker plan d new m last numbers ts rs = worker_later plan old new l net d m last numbers ts rs worker in
       record {
         number = w.number;
@@ -90,6 +97,7 @@ module _ {W : Type 0} (plan : W → TaskPlan) (old new : PassView Entry (Frame W
         producer = w.producer;
         alone = w.alone;
         names = w.names;
+        once = subst (λ (l : List TaskId). (u : TaskId) → times u (task_names ts) + times u l ≤ 1) (sym (set_id rs i was r lt is named)) w.once;
         tasks_are = w.tasks_are;
         replicas_are = All-set (IsStandby (setup_in plan new.frame) new.seen) rs i r (subst (λ f. IsStandby (setup_in plan f) new.seen r) (sym (same_frame plan old new l)) standby) w.replicas_are;
       }
@@ -107,3 +115,15 @@ module _ {W : Type 0} (plan : W → TaskPlan) (old mid : PassView Entry (Frame W
       subst (λ k. AreFedTo (setup_in plan old.frame) old.seen k xs zs) (sym (add-one n))
       (one_more_fed (setup_in plan old.frame) old.seen l.more net l.history n xs ys zs f
       (subst (λ j. IsFedAt (setup_in plan old.frame) j n ys zs) l.seen (subst (λ k. IsFedAt (setup_in plan k) mid.seen n ys zs) (same_frame plan old mid l) g)))
+
+-- ---- markers, where some wait
+module _ {W : Type 0} (n : ℕ) (old new : PassView Entry (Frame W)) where
+  pub marks_none : n ≡ 0 → HasMade old new [] → HasMade old new (marks_of n)
+  marks_none none h = subst (λ k. HasMade old new (marks_of k)) (sym none) h
+
+  pub marks_all : n ≢ 0 → HasMade old new (marks_to 17) → HasMade old new (marks_of n)
+  marks_all some h = by n some
+    where
+      by : (k : ℕ) → k ≢ 0 → HasMade old new (marks_of k)
+      by zero some = absurd (some refl)
+      by (suc k) some = h

@@ -20,35 +20,16 @@ use Rattle.ks_standby.specs.declared.replica.Replica.{Replica}
 use Rattle.ks_standby.specs.Replicas.{replica_view, changelogs_of}
 use Rattle.ks_task.specs.declared.task.Task.{Task}
 use Rattle.ks_task.specs.Tasks.{task_view, IsClean, IsTaskOf}
-use Rattle.ks_task.proofs.Viewing.{clean_is, is_clean}
+pub use Rattle.ks_worker_state.proofs.Clean.{clean_task, task_clean, dirty_task, same_clean}
 use Rattle.ks_worker_client.specs.Calls.{Later}
 use Rattle.ks_worker_client.specs.declared.member.Member.{Member}
 use Rattle.ks_worker_state.specs.Standbys.{IsStandby}
 use Rattle.ks_worker_state.specs.Tasks.{IsHeldTask}
 use Rattle.ks_worker_state.specs.Topology.{RunsTopology}
 use Rattle.ks_worker_state.specs.State.{task_names, replica_names}
-use Rattle.ks_worker_acts.specs.Gained.{HasGained}
+use Rattle.ks_worker_state.specs.Gained.{HasMade}
 use Rattle.ks_worker_acts.specs.Telling.{is_clean_task, parks, RestsOnto}
-use Rattle.ks_worker_acts.proofs.Gains.{gained_none, gained_then}
-
--- ---- clean tasks
-pub clean_task : (t : Task) → is_clean_task t ≡ true → IsClean (task_view t)
-clean_task t h = clean_is t.inputs.items h
-
-pub task_clean : (t : Task) → IsClean (task_view t) → is_clean_task t ≡ true
-task_clean t h = is_clean t.inputs.items t.inputs.items h
-
-pub dirty_task : (t : Task) → (IsClean (task_view t) → ⊥) → is_clean_task t ≡ false
-dirty_task t never = by (is_clean_task t) refl
-  where
-    by : (b : Bool) → is_clean_task t ≡ b → b ≡ false
-    by true e = absurd (never (clean_task t e))
-    by false e = refl
-
--- what a test of a task says is the word for it
-pub same_clean : (t : Task) (r : Bool) → (r ≡ true → IsClean (task_view t)) → (IsClean (task_view t) → r ≡ true) → r ≡ is_clean_task t
-same_clean t true says told = sym (task_clean t (says refl))
-same_clean t false says told = sym (dirty_task t (λ clean. true≢false (sym (told clean))))
+use Rattle.ks_worker_state.proofs.Gains.{made_none, made_then}
 
 -- ---- what the tasks leave
 -- those before the ones that are left have left their replicas
@@ -125,7 +106,7 @@ rests_dirty t olds news never is = record {
 pub record HasParked {W : Type 0} (old now : PassView Entry (Frame W)) (instance : ℕ) (left all : List Replica) : Type 0 where
   pub done : List TaskId
   pub names : done ++ replica_names left ≡ replica_names all
-  pub gained : HasGained old now (parks instance done)
+  pub made : HasMade old now (parks instance done)
 
 parks_both : (instance : ℕ) (xs ys : List TaskId) → parks instance (xs ++ ys) ≡ parks instance xs ++ parks instance ys
 parks_both instance [] ys = refl
@@ -133,14 +114,14 @@ parks_both instance (x ∷ xs) ys = ap (λ l. Park instance x ∷ l) (parks_both
 
 module _ {W : Type 0} (plan : W → TaskPlan) (old : PassView Entry (Frame W)) (instance : ℕ) (all : List Replica) where
   pub parked_first : Later plan old old → HasParked old old instance all all
-  parked_first l = record { done = []; names = refl; gained = gained_none plan old old l }
+  parked_first l = record { done = []; names = refl; made = made_none plan old old l refl }
 
-  pub parked_more : (mid new : PassView Entry (Frame W)) (r : Replica) (left rest : List Replica) → left ≡ r ∷ rest → HasParked old mid instance left all → HasGained mid new (Park instance r.id ∷ []) → HasParked old new instance rest all
+  pub parked_more : (mid new : PassView Entry (Frame W)) (r : Replica) (left rest : List Replica) → left ≡ r ∷ rest → HasParked old mid instance left all → HasMade mid new (Park instance r.id ∷ []) → HasParked old new instance rest all
   parked_more mid new r left rest is p g = record {
     done = p.done ++ r.id ∷ [];
     names = append_assoc p.done (r.id ∷ []) (replica_names rest) ∙ ap (λ l. p.done ++ l) (sym (ap replica_names is)) ∙ p.names;
-    gained = subst (HasGained old new) (sym (parks_both instance p.done (r.id ∷ []))) (gained_then old mid new (parks instance p.done) (Park instance r.id ∷ []) p.gained g);
+    made = subst (HasMade old new) (sym (parks_both instance p.done (r.id ∷ []))) (made_then old mid new (parks instance p.done) (Park instance r.id ∷ []) p.made g);
   }
 
-  pub parked_all : (new : PassView Entry (Frame W)) (left : List Replica) → left ≡ [] → HasParked old new instance left all → HasGained old new (parks instance (replica_names all))
-  parked_all new left is p = subst (λ l. HasGained old new (parks instance l)) (sym (append-nil p.done) ∙ ap (λ l. p.done ++ l) (sym (ap replica_names is)) ∙ p.names) p.gained
+  pub parked_all : (new : PassView Entry (Frame W)) (left : List Replica) → left ≡ [] → HasParked old new instance left all → HasMade old new (parks instance (replica_names all))
+  parked_all new left is p = subst (λ l. HasMade old new (parks instance l)) (sym (append-nil p.done) ∙ ap (λ l. p.done ++ l) (sym (ap replica_names is)) ∙ p.names) p.made

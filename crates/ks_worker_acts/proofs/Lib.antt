@@ -1,7 +1,6 @@
 pub mod InputPlaces
 pub mod Looks
 pub mod WorkerOn
-pub mod Gains
 pub mod FedReplicas
 pub mod Leavers
 pub mod CleanOnes

@@ -3,7 +3,7 @@ use Rattle.std.proofs.Common.{◌≡◌, inl, inr, ℕ, zero, suc, ◌<◌, ◌�
 use Rattle.std.specs.List.{All}
 use Rattle.std.proofs.lemmas.Bool.{true≢false}
 use Rattle.std.proofs.lemmas.List.{take-append-drop, set-get_or}
-use Rattle.std.proofs.lemmas.List.Elements.{All-nil, All-cons, All-append, All-weaker, All-take, All-drop}
+use Rattle.std.proofs.lemmas.List.Elements.{All-nil, All-cons, All-head, All-tail, All-append, All-weaker, All-take, All-drop}
 use Rattle.std.proofs.Math.Seq.{take-append_seam, drop-append_seam}
 use Rattle.ks_row.specs.declared.record.TaskId.{TaskId}
 use Rattle.ks_history.specs.declared.journal.Entry.{Entry}
@@ -17,7 +17,7 @@ use Rattle.ks_task.specs.Tasks.{task_view}
 use Rattle.ks_worker_state.specs.Tasks.{IsReadOnce}
 use Rattle.ks_worker_state.specs.State.{task_names}
 use Rattle.ks_worker_acts.specs.declared.places.InputPlace.{InputPlace}
-use Rattle.ks_worker_acts.specs.Inputs.{AtPlace, ReadsOn, HaveReadOn, HasMoved, HasReadTo, HasLooked}
+use Rattle.ks_worker_acts.specs.Inputs.{AtPlace, ReadsOn, HaveReadOn, HasMoved, HasReadTo, HasReadAt, IsMovedAt, MovesFirst, HasLooked}
 use Rattle.ks_worker_acts.proofs.InputPlaces.{is_place, place_on}
 
 -- ---- reading on
@@ -61,6 +61,12 @@ moved_set [] i topic old new lt is r = absurd (omega (arith, lt))
 moved_set (t ∷ ts) zero topic old new lt is r = inl (topic, subst (λ (o : Task). (task_view o).inputs topic < (task_view new).inputs topic) is r)
 moved_set (t ∷ ts) (suc i) topic old new lt is r = inr (moved_set ts i topic old new (omega (arith, lt)) is r)
 
+-- its others are the same
+set_at : (ts : List Task) (i topic : ℕ) (old new : Task) → i < length ts → old ≡ get_or ts i old → HasReadAt topic (task_view old) (task_view new) → IsMovedAt topic i ts (set ts i new)
+set_at [] i topic old new lt is r = absurd (omega (arith, lt))
+set_at (t ∷ ts) zero topic old new lt is r = (subst (λ (o : Task). HasReadAt topic (task_view o) (task_view new)) is r, refl)
+set_at (t ∷ ts) (suc i) topic old new lt is r = (refl, set_at ts i topic old new (omega (arith, lt)) is r)
+
 -- ---- looks
 module _ (setup : Setup) (h : List Entry) where
   pub looked_place : (i topic : ℕ) (moved : Bool) (ts : List Task) (old new : Task) → i < length ts → old ≡ get_or ts i old → IsReadOnce setup h topic moved old new → (moved ≡ false → new ≡ old) →
@@ -68,6 +74,7 @@ module _ (setup : Setup) (h : List Entry) where
   looked_place i topic moved ts old new lt is r same = record {
     read = read_set ts i old new lt is (record { task = r.read.task; kept = r.read.kept; position = r.read.position; later = r.read.later });
     moves = λ e. moved_set ts i topic old new lt is (r.moves e);
+    first = λ e. inl (set_at ts i topic old new lt is (record { read = r.read; rose = r.moves e; others = r.others }));
     stays = λ e. ap (λ t. set ts i t) (same e ∙ is) ∙ set-get_or ts i old;
     stops = λ e. All-cons (λ (p : InputPlace). AtPlace (HasReadTo setup h p.topic) p.index ts) (record { index = i; topic = topic }) []
         (is_place (HasReadTo setup h topic) i ts old lt (subst (HasReadTo setup h topic) is (subst (λ (t : Task). stable_of (at setup h) (part_of topic (task_view old).task) ≤ (task_view t).inputs topic) (same e) (r.stops e))))
@@ -78,20 +85,46 @@ module _ (setup : Setup) (h : List Entry) where
   looked_none ts = record {
     read = reads_same ts;
     moves = λ e. absurd (true≢false (sym e));
+    first = λ e. absurd (true≢false (sym e));
     stays = λ e. refl;
     stops = λ e. All-nil (λ (p : InputPlace). AtPlace (HasReadTo setup h p.topic) p.index ts);
   }
 
-  -- once a task moved, it doesn't matter at what was looked
-  pub looked_moved : (xs ys : List InputPlace) (a b : List Task) → HasLooked setup h true xs a b → HasLooked setup h true ys a b
-  looked_moved xs ys a b l = record { read = l.read; moves = l.moves; stays = λ e. absurd (true≢false e); stops = λ e. absurd (true≢false e) }
+  first_front : (xs ys : List InputPlace) (a b : List Task) → MovesFirst setup h xs a b → MovesFirst setup h (xs ++ ys) a b
+  first_front [] ys a b m = absurd m
+  first_front (x ∷ xs) ys a b (inl m) = inl m
+  first_front (x ∷ xs) ys a b (inr m) = inr (m.0, first_front xs ys a b m.1)
+
+  first_behind : (xs ys : List InputPlace) (a b : List Task) → All (λ p. AtPlace (HasReadTo setup h p.topic) p.index a) xs → MovesFirst setup h ys a b → MovesFirst setup h (xs ++ ys) a b
+  first_behind [] ys a b stopped m = m
+  first_behind (x ∷ xs) ys a b stopped m =
+      inr (All-head (λ (p : InputPlace). AtPlace (HasReadTo setup h p.topic) p.index a) x xs stopped, first_behind xs ys a b (All-tail (λ (p : InputPlace). AtPlace (HasReadTo setup h p.topic) p.index a) x xs stopped) m)
+
+  -- once a task moved, it doesn't matter what comes behind
+  pub looked_moved : (xs ys : List InputPlace) (a b : List Task) → HasLooked setup h true xs a b → HasLooked setup h true (xs ++ ys) a b
+  looked_moved xs ys a b l = record {
+    read = l.read;
+    moves = l.moves;
+    first = λ e. first_front xs ys a b (l.first e);
+    stays = λ e. absurd (true≢false e);
+    stops = λ e. absurd (true≢false e);
+  }
 
   module _ (more : List Entry) (net : IsNetwork setup.plan) (history : IsHistory setup (h ++ more)) where
+    first_since : (ys : List InputPlace) (b c : List Task) → MovesFirst setup (h ++ more) ys b c → MovesFirst setup h ys b c
+    first_since [] b c m = absurd m
+    first_since (y ∷ ys) b c (inl m) = inl m
+    first_since (y ∷ ys) b c (inr m) = inr (
+      place_on (HasReadTo setup (h ++ more) y.topic) (HasReadTo setup h y.topic) y.index b (λ t s. omega (arith, s, stable_rises setup h more (part_of y.topic (task_view t).task) net history)) m.0,
+      first_since ys b c m.1,
+    )
+
     -- what stood still, and was looked at later
     pub looked_then : (moved : Bool) (xs ys : List InputPlace) (a b c : List Task) → HasLooked setup h false xs a b → HasLooked setup (h ++ more) moved ys b c → HasLooked setup h moved (xs ++ ys) a c
     looked_then moved xs ys a b c f g = record {
       read = reads_twice a b c f.read g.read;
       moves = λ e. subst (λ l. HasMoved l c) (f.stays refl) (g.moves e);
+      first = λ e. first_behind xs ys a c (f.stops refl) (subst (λ l. MovesFirst setup h ys l c) (f.stays refl) (first_since ys b c (g.first e)));
       stays = λ e. g.stays e ∙ f.stays refl;
       stops = λ e. All-append (λ (p : InputPlace). AtPlace (HasReadTo setup h p.topic) p.index a) xs ys (f.stops refl)
           (All-weaker (λ (p : InputPlace). AtPlace (HasReadTo setup (h ++ more) p.topic) p.index b) (λ (p : InputPlace). AtPlace (HasReadTo setup h p.topic) p.index a)
@@ -99,18 +132,11 @@ module _ (setup : Setup) (h : List Entry) where
           (λ t s. omega (arith, s, stable_rises setup h more (part_of p.topic (task_view t).task) net history)) r)) ys (g.stops e));
     }
 
-  -- all were looked at, from one on and round once
-  pub looked_round : (moved : Bool) (ps : List InputPlace) (k : ℕ) (a b : List Task) → HasLooked setup h moved (drop k ps ++ take k ps) a b → HasLooked setup h moved ps a b
-  looked_round moved ps k a b l = record {
-    read = l.read;
-    moves = l.moves;
-    stays = l.stays;
-    stops = λ e. subst (All (λ (p : InputPlace). AtPlace (HasReadTo setup h p.topic) p.index a)) (take-append-drop k ps)
-        (All-append (λ (p : InputPlace). AtPlace (HasReadTo setup h p.topic) p.index a) (take k ps) (drop k ps) (back_all (l.stops e)) (front_all (l.stops e)));
-  }
-    where
-      front_all : All (λ (p : InputPlace). AtPlace (HasReadTo setup h p.topic) p.index a) (drop k ps ++ take k ps) → All (λ (p : InputPlace). AtPlace (HasReadTo setup h p.topic) p.index a) (drop k ps)
-      front_all all = subst (All (λ (p : InputPlace). AtPlace (HasReadTo setup h p.topic) p.index a)) (take-append_seam (drop k ps) (take k ps)) (All-take (λ (p : InputPlace). AtPlace (HasReadTo setup h p.topic) p.index a) (length (drop k ps)) (drop k ps ++ take k ps) all)
-
-      back_all : All (λ (p : InputPlace). AtPlace (HasReadTo setup h p.topic) p.index a) (drop k ps ++ take k ps) → All (λ (p : InputPlace). AtPlace (HasReadTo setup h p.topic) p.index a) (take k ps)
-      back_all all = subst (All (λ (p : InputPlace). AtPlace (HasReadTo setup h p.topic) p.index a)) (drop-append_seam (drop k ps) (take k ps)) (All-drop (λ (p : InputPlace). AtPlace (HasReadTo setup h p.topic) p.index a) (length (drop k ps)) (drop k ps ++ take k ps) all)
+  -- what was looked at round once, from one on, is all
+  pub stops_round : (ps : List InputPlace) (k : ℕ) (a : List Task) → All (λ p. AtPlace (HasReadTo setup h p.topic) p.index a) (drop k ps ++ take k ps) → All (λ p. AtPlace (HasReadTo setup h p.topic) p.index a) ps
+  stops_round ps k a all =
+      let P : InputPlace → Type 0 = λ p. AtPlace (HasReadTo setup h p.topic) p.index a in
+      subst (All P) (take-append-drop k ps)
+      (All-append P (take k ps) (drop k ps)
+      (subst (All P) (drop-append_seam (drop k ps) (take k ps)) (All-drop P (length (drop k ps)) (drop k ps ++ take k ps) all))
+      (subst (All P) (take-append_seam (drop k ps) (take k ps)) (All-take P (length (drop k ps)) (drop k ps ++ take k ps) all)))

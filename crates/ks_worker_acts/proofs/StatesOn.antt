@@ -1,8 +1,9 @@
 -- A worker's state from call to call of an act.
-use Rattle.std.proofs.Common.{◌≡◌, ℕ, ◌+◌, ◌<◌, true, false, ◌&&◌, Bool, List, [], ◌∷◌, ◌++◌, length, take, drop, get_or, refl, sym, ap, ap₂, subst, ◌∙◌, arith, add-one}
+use Rattle.std.proofs.Common.{◌≡◌, ℕ, suc, ◌+◌, ◌<◌, true, false, ◌&&◌, Bool, List, [], ◌∷◌, ◌++◌, length, take, drop, get_or, refl, sym, ap, ap₂, subst, ◌∙◌, arith, add-one}
 use Rattle.std.specs.Prelude.{◌==◌}
 use Rattle.std.proofs.lemmas.Bool.{eqb-true}
 use Rattle.std.proofs.Math.Seq.{take-suc}
+use Rattle.std.proofs.lemmas.List.{take-append-drop}
 use Rattle.std.specs.List.{All, filter}
 use Rattle.std.proofs.lemmas.List.Elements.{All-nil, All-head, All-tail}
 use Rattle.ks_row.specs.declared.record.PartId.{PartId}
@@ -32,7 +33,7 @@ use Rattle.ks_worker_state.specs.Tasks.{IsHeldTask}
 use Rattle.ks_worker_acts.specs.declared.places.InputPlace.{InputPlace}
 use Rattle.ks_worker_acts.specs.Inputs.{HasLooked}
 use Rattle.ks_worker_acts.specs.Telling.{is_clean_task, outside, RestsOnto, task_positions, replica_positions, positions_held}
-use Rattle.ks_worker_acts.proofs.Looks.{looked_then, looked_round}
+use Rattle.ks_worker_acts.proofs.Looks.{looked_then, looked_moved}
 
 module _ {W G : Type 0} where
   pub knows_same : (s : WorkerState W G) → KnowsTheSame s s
@@ -59,13 +60,26 @@ module _ {W : Type 0} (plan : W → TaskPlan) (old mid : PassView Entry (Frame W
       subst (λ l. HasLooked (setup_in plan old.frame) old.seen false l a c) (sym (take-suc ps i p lt) ∙ ap (λ k. take k ps) (sym (add-one i)))
       (looked_on net (take i ps) (get_or ps i p ∷ []) a b c f (subst (λ m. HasLooked (setup_in plan mid.frame) mid.seen m (get_or ps i p ∷ []) b c) none g))
 
+  -- a place more was looked at, and its task moved
+  pub looked_found : (net : IsNetwork (setup_in plan old.frame).plan) (i : ℕ) (p : InputPlace) (ps : List InputPlace) (a b c : List Task) (moved : Bool) → i < length ps → moved ≡ true →
+      HasLooked (setup_in plan old.frame) old.seen false (take i ps) a b → HasLooked (setup_in plan mid.frame) mid.seen moved (get_or ps i p ∷ []) b c → HasLooked (setup_in plan old.frame) old.seen true ps a c
+  looked_found net i p ps a b c moved lt found f g =
+      subst (λ l. HasLooked (setup_in plan old.frame) old.seen true l a c) (take-append-drop (suc i) ps)
+      (looked_moved (setup_in plan old.frame) old.seen (take (suc i) ps) (drop (suc i) ps) a c
+      (subst (λ l. HasLooked (setup_in plan old.frame) old.seen true l a c) (sym (take-suc ps i p lt))
+      (looked_on net (take i ps) (get_or ps i p ∷ []) a b c f (subst (λ m. HasLooked (setup_in plan mid.frame) mid.seen m (get_or ps i p ∷ []) b c) found g))))
+
   -- the places behind one were looked at, and then those before it
   pub looked_back : (net : IsNetwork (setup_in plan old.frame).plan) (ps back front : List InputPlace) (k : ℕ) (a b c : List Task) (first moved : Bool) → back ≡ drop k ps → front ≡ take k ps → first ≡ false →
-      HasLooked (setup_in plan old.frame) old.seen first back a b → HasLooked (setup_in plan mid.frame) mid.seen moved front b c → HasLooked (setup_in plan old.frame) old.seen moved ps a c
+      HasLooked (setup_in plan old.frame) old.seen first back a b → HasLooked (setup_in plan mid.frame) mid.seen moved front b c → HasLooked (setup_in plan old.frame) old.seen moved (drop k ps ++ take k ps) a c
   looked_back net ps back front k a b c first moved is_back is_front none f g =
-      looked_round (setup_in plan old.frame) old.seen moved ps k a c
-      (subst (λ l. HasLooked (setup_in plan old.frame) old.seen moved l a c) (ap₂ (λ (x y : List InputPlace). x ++ y) is_back is_front)
-      (looked_on net back front a b c (subst (λ m. HasLooked (setup_in plan old.frame) old.seen m back a b) none f) g))
+      subst (λ l. HasLooked (setup_in plan old.frame) old.seen moved l a c) (ap₂ (λ (x y : List InputPlace). x ++ y) is_back is_front)
+      (looked_on net back front a b c (subst (λ m. HasLooked (setup_in plan old.frame) old.seen m back a b) none f) g)
+
+-- the places behind one were looked at, and a task moved there
+pub looked_behind : (setup : Setup) (h : List Entry) (ps back : List InputPlace) (k : ℕ) (a b : List Task) (first : Bool) → back ≡ drop k ps → first ≡ true → HasLooked setup h first back a b → HasLooked setup h true (drop k ps ++ take k ps) a b
+looked_behind setup h ps back k a b first is found f =
+    looked_moved setup h (drop k ps) (take k ps) a b (subst (λ l. HasLooked setup h true l a b) is (subst (λ m. HasLooked setup h m back a b) found f))
 
 -- no place
 pub none_there : (xs : List InputPlace) → (length xs == 0) ≡ true → [] ≡ xs
@@ -114,6 +128,7 @@ module _ {W : Type 0} (plan : W → TaskPlan) (old new : PassView Entry (Frame W
         producer = nothing_known (setup_in plan new.frame) new.seen (outside m) refl (subst (λ f. IsHistory (setup_in plan f) new.seen) (sym (same_frame plan old new l)) (subst (IsHistory (setup_in plan old.frame)) (sym l.seen) l.history));
         alone = λ e. refl;
         names = tt;
+        once = λ t. omega arith;
         tasks_are = All-nil (IsHeldTask then_d (setup_in plan new.frame) new.seen (outside m) 0);
         replicas_are = All-nil (IsStandby (setup_in plan new.frame) new.seen);
       })))

@@ -15,7 +15,7 @@ use Rattle.ks_task.specs.declared.task.Task.{Task}
 use Rattle.ks_task.specs.Tasks.{task_view, IsClean}
 use Rattle.ks_worker_state.specs.Worker.{IsNoneOf, HaveOwnNames}
 use Rattle.ks_worker_acts.specs.Works.{IsCleanTask, IsDirtyTask, AreCleanOf}
-use Rattle.ks_worker_state.specs.State.{task_names}
+use Rattle.ks_worker_state.specs.Names.{task_names, times}
 use Rattle.ks_worker_acts.specs.Told.{IsToldTask, AreTold}
 use Rattle.ks_worker_acts.proofs.Lists.{same_default, set_name}
 
@@ -121,3 +121,14 @@ kept_names (t ∷ ts) (x ∷ xs) kept own = by (λ more. kept_names ts (x ∷ xs
       subst (λ (n : TaskId). IsNoneOf n xs) (sym (ap (λ (u : Task). (task_view u).task) c.1)) (kept_all (λ (other : Task). same_task (task_view t).task (task_view other).task ≡ false) ts xs c.2 (λ k d lt clean. own.0 k d lt)),
       more c.2,
     )
+
+-- no name stands there more often
+pub kept_times : (u : TaskId) (ts xs : List Task) → AreCleanOf ts xs → times u (task_names xs) ≤ times u (task_names ts)
+kept_times u ts [] kept = omega arith
+kept_times u [] (x ∷ xs) kept = absurd kept
+kept_times u (t ∷ ts) (x ∷ xs) kept = by (λ more. kept_times u ts (x ∷ xs) more) (λ more. kept_times u ts xs more) kept
+  where
+    by : (AreCleanOf ts (x ∷ xs) → times u (task_names (x ∷ xs)) ≤ times u (task_names ts)) → (AreCleanOf ts xs → times u (task_names xs) ≤ times u (task_names ts)) →
+        (IsDirtyTask t × AreCleanOf ts (x ∷ xs)) ⊎ (IsCleanTask t × (x ≡ t) × AreCleanOf ts xs) → times u (task_names (x ∷ xs)) ≤ times u (task_names (t ∷ ts))
+    by same more (inl d) = omega (arith, same d.1)
+    by same more (inr c) = let name : times u ((task_view x).task ∷ []) ≡ times u ((task_view t).task ∷ []) = ap (λ (o : Task). times u ((task_view o).task ∷ [])) c.1 in omega (arith, more c.2, name)

@@ -1,5 +1,5 @@
 -- A worker after a commit of its tasks.
-use Rattle.std.proofs.Common.{◌≡◌, ℕ, List, [], refl, sym, ap, subst, arith, append-nil}
+use Rattle.std.proofs.Common.{◌≡◌, ◌≤◌, ℕ, List, [], refl, sym, ap, subst, arith, append-nil}
 use Rattle.std.specs.List.{All}
 use Rattle.ks_row.specs.declared.record.PartId.{PartId}
 use Rattle.ks_plan.specs.Drafts.{DraftView}
@@ -30,7 +30,8 @@ use Rattle.ks_row.specs.declared.record.TaskId.{TaskId}
 use Rattle.ks_worker_acts.specs.Works.{AreWorksOf, AreCleanOf}
 use Rattle.ks_worker_acts.specs.Told.{AreTold}
 use Rattle.ks_worker_acts.proofs.Lists.{names_stay, no_more}
-use Rattle.ks_worker_acts.proofs.Told.{kept_names, kept_none}
+use Rattle.ks_worker_state.specs.Names.{task_names, times}
+use Rattle.ks_worker_acts.proofs.Told.{kept_names, kept_none, kept_times}
 use Rattle.ks_worker_acts.proofs.Held.{kept_held, told_held}
 
 module _ {W : Type 0} (plan : W → TaskPlan) (old new : PassView Entry (Frame W)) where
@@ -56,27 +57,28 @@ module _ {W : Type 0} (plan : W → TaskPlan) (old new : PassView Entry (Frame W
 
   module _ (l : Later plan old new) (net : IsNetwork (setup_in plan old.frame).plan) (d : DraftView) (m : Member) (last next : ℕ) (numbers sent : List (PartId × ℕ)) (ts : List Task) (rs : List Replica)
       (w : IsWorker plan d old m last numbers ts rs) (knows : KnowsProducer (setup_in plan old.frame) new.seen m next sent) where
-    goes_on : (xs : List Task) → All (IsHeldTask d (setup_in plan old.frame) new.seen m next) xs → HaveOwnNames xs → (ts ≡ [] → xs ≡ []) → IsWorker plan d new m next sent xs rs
-    goes_on xs held names none = record {
+    goes_on : (xs : List Task) → All (IsHeldTask d (setup_in plan old.frame) new.seen m next) xs → HaveOwnNames xs → ((u : TaskId) → times u (task_names xs) ≤ times u (task_names ts)) → (ts ≡ [] → xs ≡ []) → IsWorker plan d new m next sent xs rs
+    goes_on xs held names fewer none = record {
       number = w.number;
       instance = w.instance;
       seen = subst (λ f. MemberHasSeen (setup_in plan f) new.seen m next) (sym (same_frame plan old new l)) knows.0;
       producer = subst (λ f. IsProducer (setup_in plan f) new.seen m next sent) (sym (same_frame plan old new l)) knows.1;
       alone = λ e. none (w.alone e);
       names = names;
+      once = λ u. omega (arith, w.once u, fewer u);
       tasks_are = subst (λ f. All (IsHeldTask d (setup_in plan f) new.seen m next) xs) (sym (same_frame plan old new l)) held;
       replicas_are = subst (λ f. All (IsStandby (setup_in plan f) new.seen) rs) (sym (same_frame plan old new l)) (standbys_later plan old new l net rs w.replicas_are);
     }
 
     module _ (fs : List WorkView) (rests : RestsAreHeld (setup_in plan old.frame) old.seen new.seen m last next fs) (are : AreWorksOf (setup_in plan old.frame).plan ts fs) where
       pub worker_aborted : (xs : List Task) → AreCleanOf ts xs → IsWorker plan d new m next sent xs rs
-      worker_aborted xs kept = goes_on xs (kept_held (setup_in plan old.frame) old.seen new.seen d m last next fs rests ts w.names w.tasks_are are xs kept) (kept_names ts xs kept w.names) (kept_none ts xs kept)
+      worker_aborted xs kept = goes_on xs (kept_held (setup_in plan old.frame) old.seen new.seen d m last next fs rests ts w.names w.tasks_are are xs kept) (kept_names ts xs kept w.names) (λ u. kept_times u ts xs kept) (kept_none ts xs kept)
 
       pub worker_committed : (ends : List (TaskId × PartId × ℕ)) → WorkedAreHeld (setup_in plan old.frame) old.seen new.seen m last next fs ends →
           ((sub : ℕ) → (setup_in plan old.frame).plan.changelogs sub ≡ changelog_numbers (plan_of d) sub) → (xs : List Task) → AreTold d ends ts xs → IsWorker plan d new m next sent xs rs
       worker_committed ends worked logs xs told =
           goes_on xs (told_held (setup_in plan old.frame) old.seen new.seen d m last next fs rests ts w.names w.tasks_are are ends worked logs xs told)
-          (names_stay ts xs (sym told.names) w.names) (no_more ts xs told.count)
+          (names_stay ts xs (sym told.names) w.names) (λ u. omega (arith, ap (times u) told.names)) (no_more ts xs told.count)
 
   pub worker_lost : (d : DraftView) (m : Member) (last : ℕ) (numbers : List (PartId × ℕ)) (ts : List Task) (rs : List Replica) → Later plan old new → IsWorker plan d old m last numbers ts rs → IsWorker plan d new (lost m) 0 [] [] []
   worker_lost d m last numbers ts rs l w = crashed plan d new m w.number w.instance

@@ -1,5 +1,5 @@
 -- A worker whose tasks read.
-use Rattle.std.proofs.Common.{◌≡◌, ℕ, ◌<◌, true, false, List, [], ◌∷◌, length, get_or, set, refl, sym, subst}
+use Rattle.std.proofs.Common.{◌≡◌, ℕ, ◌+◌, ◌<◌, ◌≤◌, ◌%◌, true, false, List, [], ◌∷◌, ◌++◌, length, take, drop, get_or, set, refl, sym, ap, subst, ◌∙◌}
 use Rattle.std.specs.List.{All}
 use Rattle.std.proofs.lemmas.List.Elements.{All-cons, All-head, All-tail, All-get_or, All-set}
 use Rattle.ks_row.specs.declared.record.PartId.{PartId}
@@ -20,13 +20,15 @@ use Rattle.ks_task.specs.Tasks.{task_view}
 use Rattle.ks_worker_client.specs.Calls.{Later}
 use Rattle.ks_worker_client.specs.declared.member.Member.{Member}
 use Rattle.ks_worker_client.proofs.Moments.{same_frame}
+use Rattle.ks_worker_state.specs.Names.{replica_names, times}
 use Rattle.ks_worker_state.specs.Tasks.{IsHeldTask}
 use Rattle.ks_worker_state.specs.Topology.{RunsTopology}
 use Rattle.ks_worker_state.specs.Worker.{IsWorker, IsNoneOf, HaveOwnNames}
 use Rattle.ks_worker_state.proofs.Workers.{worker_later}
 use Rattle.ks_worker_acts.specs.declared.places.InputPlace.{InputPlace}
-use Rattle.ks_worker_acts.specs.Inputs.{IsInputAt, HaveReadOn, HaveReadAll, HasReadTo, places_from, HasLooked}
+use Rattle.ks_worker_acts.specs.Inputs.{AtPlace, IsInputAt, HaveReadOn, HaveReadAll, HasReadTo, MovesFirst, places_from, from_pick, HasLooked}
 use Rattle.ks_worker_acts.proofs.InputPlaces.{place_within, place_is, all_inputs}
+use Rattle.ks_worker_acts.proofs.Looks.{read_names, stops_round}
 
 -- ---- at a place
 pub input_within : (inputs : ℕ → List ℕ) (ts : List Task) (p : InputPlace) → IsInputAt inputs ts p → p.index < length ts
@@ -74,6 +76,7 @@ module _ {W : Type 0} (plan : W → TaskPlan) (old new : PassView Entry (Frame W
         producer = w.producer;
         alone = λ e. none_left ts (set ts i t) read (w.alone e);
         names = names_on ts (set ts i t) read w.names;
+        once = subst (λ (l : List TaskId). (u : TaskId) → times u l + times u (replica_names rs) ≤ 1) (sym (read_names ts (set ts i t) read)) w.once;
         tasks_are = All-set (IsHeldTask d (setup_in plan new.frame) new.seen m last) ts i t (subst (λ f. IsHeldTask d (setup_in plan f) new.seen m last t) (sym (same_frame plan old new l)) held) w.tasks_are;
         replicas_are = w.replicas_are;
       }))
@@ -85,3 +88,19 @@ read_all hash d setup h ts now runs l =
     subst (λ (r : List Task). HaveReadAll setup h r) (sym (l.stays refl))
     (subst (λ (s : Setup). All (λ t. (u : ℕ) → has_topic u (s.plan.inputs (task_view t).task.sub) ≡ true → HasReadTo setup h u t) ts) (sym runs.setup_is)
     (all_inputs (λ u t. HasReadTo setup h u t) (input_numbers (plan_of d)) ts (l.stops refl)))
+
+-- the same, where they were looked at from one on and round once
+pub read_round_all : (hash : List ℕ → ℕ) (d : DraftView) (setup : Setup) (h : List Entry) (ts now : List Task) (places : List InputPlace) (k : ℕ) → RunsTopology hash d setup → places ≡ places_from (input_numbers (plan_of d)) 0 ts →
+    HasLooked setup h false (drop k places ++ take k places) ts now → HaveReadAll setup h now
+read_round_all hash d setup h ts now places k runs are l =
+    subst (λ (r : List Task). HaveReadAll setup h r) (sym (l.stays refl))
+    (subst (λ (s : Setup). All (λ t. (u : ℕ) → has_topic u (s.plan.inputs (task_view t).task.sub) ≡ true → HasReadTo setup h u t) ts) (sym runs.setup_is)
+    (all_inputs (λ u t. HasReadTo setup h u t) (input_numbers (plan_of d)) ts
+    (subst (λ (ps : List InputPlace). All (λ p. AtPlace (HasReadTo setup h p.topic) p.index ts) ps) are (stops_round setup h places k ts (l.stops refl)))))
+
+-- they were looked at from the one on that the pick names
+pub picked : (hash : List ℕ → ℕ) (d : DraftView) (setup : Setup) (h : List Entry) (ts now : List Task) (places : List InputPlace) (pick k : ℕ) → RunsTopology hash d setup → places ≡ places_from (input_numbers (plan_of d)) 0 ts → k ≡ pick % length places →
+    MovesFirst setup h (drop k places ++ take k places) ts now → MovesFirst setup h (from_pick pick (places_from setup.plan.inputs 0 ts)) ts now
+picked hash d setup h ts now places pick k runs are is m =
+    let own : places ≡ places_from setup.plan.inputs 0 ts = are ∙ ap (λ (s : Setup). places_from s.plan.inputs 0 ts) (sym runs.setup_is) in
+    subst (λ ps. MovesFirst setup h (from_pick pick ps) ts now) own (subst (λ n. MovesFirst setup h (drop n places ++ take n places) ts now) is m)

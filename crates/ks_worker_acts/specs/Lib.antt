@@ -1,5 +1,5 @@
 pub mod Inputs
-pub mod Gained
+pub mod Picking
 pub mod Feeds
 pub mod Telling
 pub mod Works

@@ -11,16 +11,12 @@ use Rattle.ks_standby.specs.declared.replica.Replica.{Replica}
 use Rattle.ks_standby.specs.Replicas.{position_sum}
 use Rattle.ks_task.specs.declared.task.Task.{Task}
 use Rattle.ks_task.specs.Tasks.{task_view}
-use Rattle.ks_task.specs.Views.{are_committed}
 use Rattle.ks_worker_client.specs.declared.member.Member.{Member}
 use Rattle.ks_worker_state.specs.Standbys.{IsStandby}
 use Rattle.ks_worker_state.specs.Tasks.{IsHeldTask}
+pub use Rattle.ks_worker_state.specs.Tasks.{is_clean_task}
 use Rattle.ks_worker_state.specs.Topology.{RunsTopology}
 use Rattle.ks_worker_state.specs.State.{task_names, replica_names}
-
--- it took nothing since its last commit: each of its input positions is the committed offset
-abbrev pub is_clean_task : Task → Bool
-is_clean_task t = are_committed t.inputs.items t.inputs.items
 
 -- a member that left: it has no epoch, and keeps its generation
 abbrev pub outside : Member → Member

@@ -1,12 +1,12 @@
 //! The act by which a worker's replicas are fed, and waiting markers are written.
-ghost use Rattle.std.specs.Prelude.{◌≡◌, ◌<◌, ◌≢◌, length, OnOk};
+ghost use Rattle.std.specs.Prelude.{◌≡◌, ◌<◌, length, OnOk};
 ghost use Rattle.ks_topo.specs.Topologies.{draft_of};
 ghost use Rattle.ks_shared.specs.Calls.{setup_in};
 ghost use Rattle.ks_worker_client.specs.Turns.{counts_after};
 ghost use Rattle.ks_worker_client.specs.Calls.{MayCall, Later};
 ghost use Rattle.ks_worker_state.specs.State.{MayAct, LaterState, KnowsTheSame, IsWorkerState, replica_names};
-ghost use Rattle.ks_worker_acts.specs.Feeds.{IsFedAt, AreFed, marks_to};
-ghost use Rattle.ks_worker_acts.specs.Gained.{HasGained};
+ghost use Rattle.ks_worker_acts.specs.Feeds.{IsFedAt, AreFed, marks_of};
+ghost use Rattle.ks_worker_state.specs.Gained.{HasMade};
 
 use ks_cluster::Work;
 use ks_edge::Gate;
@@ -35,6 +35,7 @@ fn feed_place<H: Hash128, R: Wait, W: Work, G: Gate>(
     ensures gate { state.new.session.client.gate
         ≡ counts_after state.old.session.client.gate result }
     ensures later { LaterState W.plan state.old state.new }
+    ensures made { state.new.session.client.pass.made ≡ state.old.session.client.pass.made }
     ensures same { KnowsTheSame state.old state.new }
     ensures tasks { state.new.tasks ≡ state.old.tasks }
     ensures worker { OnOk result (IsWorkerState W.plan (draft_of topology.now) state.new) }
@@ -67,6 +68,7 @@ fn feed_all<H: Hash128, R: Wait, W: Work, G: Gate>(
     ensures gate { state.new.session.client.gate
         ≡ counts_after state.old.session.client.gate result }
     ensures later { LaterState W.plan state.old state.new }
+    ensures made { state.new.session.client.pass.made ≡ state.old.session.client.pass.made }
     ensures same { KnowsTheSame state.old state.new }
     ensures tasks { state.new.tasks ≡ state.old.tasks }
     ensures worker { OnOk result (IsWorkerState W.plan (draft_of topology.now) state.new) }
@@ -90,8 +92,7 @@ fn write_waiting<R: Wait, W: Work, G: Gate>(
     requires may { MayCall W.plan shared.now.growing.id client.old.pass client.old.gate }
     ensures gate { client.new.gate ≡ counts_after client.old.gate result }
     ensures later { Later W.plan client.old.pass client.new.pass }
-    ensures marked { OnOk result (waiting ≢ 0
-        → HasGained client.old.pass client.new.pass (marks_to 17)) }
+    ensures marked { OnOk result (HasMade client.old.pass client.new.pass (marks_of waiting)) }
 {
     if waiting == 0 {
         return Ok(());
@@ -102,7 +103,8 @@ fn write_waiting<R: Wait, W: Work, G: Gate>(
     Ok(())
 }
 
-/// Feeds its replicas once each; then, where `status` gave waiting markers, writes the first waiting one of each producer.
+/// Feeds its replicas once each; then, where `status` gave waiting markers, writes the first waiting one of each producer. It makes no
+/// other request.
 ///
 /// After `Cut` or want of memory the worker is to be crashed.
 pub fn pump<H: Hash128, R: Wait, W: Work, G: Gate>(
@@ -124,8 +126,8 @@ pub fn pump<H: Hash128, R: Wait, W: Work, G: Gate>(
         replica_names state.new.replicas.items ≡ replica_names state.old.replicas.items) }
     ensures fed { OnOk result (AreFed (setup_in W.plan state.old.session.client.pass.frame)
         state.old.session.client.pass.seen state.old.replicas.items state.new.replicas.items) }
-    ensures marked { OnOk result (waiting ≢ 0 → HasGained state.old.session.client.pass
-        state.new.session.client.pass (marks_to 17)) }
+    ensures marked { OnOk result (HasMade state.old.session.client.pass
+        state.new.session.client.pass (marks_of waiting)) }
 {
     feed_all::<H, R, W, G>(rt, alloc, topology, shared, state)?;
     write_waiting(rt, alloc, shared, &mut state.session.client, waiting)?;

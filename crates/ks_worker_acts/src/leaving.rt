@@ -8,7 +8,7 @@ ghost use Rattle.ks_worker_client.specs.Turns.{counts_after};
 ghost use Rattle.ks_worker_client.specs.Calls.{MayCall, Later};
 ghost use Rattle.ks_worker_state.specs.Standbys.{IsStandby};
 ghost use Rattle.ks_worker_state.specs.State.{MayAct, LaterState, IsWorkerState, task_names, replica_names};
-ghost use Rattle.ks_worker_acts.specs.Gained.{HasGained};
+ghost use Rattle.ks_worker_state.specs.Gained.{HasMade};
 ghost use Rattle.ks_worker_acts.specs.Telling.{is_clean_task, parks, outside, RestsOnto};
 
 use ks_cluster::Work;
@@ -58,7 +58,7 @@ fn park_all<R: Wait, W: Work, G: Gate>(
         replicas.items }
     ensures gate { client.new.gate ≡ counts_after client.old.gate result }
     ensures later { Later W.plan client.old.pass client.new.pass }
-    ensures parked { OnOk result (HasGained client.old.pass client.new.pass
+    ensures parked { OnOk result (HasMade client.old.pass client.new.pass
         (parks instance (replica_names replicas.items))) }
 {
     let mut rest = replicas.into_iter();
@@ -87,7 +87,7 @@ pub fn leave<R: Wait, W: Work, G: Gate>(
     ensures tasks { OnOk result (state.new.tasks.items ≡ []) }
     ensures replicas { OnOk result (state.new.replicas.items ≡ []) }
     ensures worker { OnOk result ((d : DraftView) → IsWorkerState W.plan d state.new) }
-    ensures left { OnOk result (HasGained state.old.session.client.pass
+    ensures left { OnOk result (HasMade state.old.session.client.pass
         state.new.session.client.pass
         (parks state.old.member.instance (replica_names state.old.replicas.items
         ++ task_names (filter is_clean_task state.old.tasks.items))

@@ -6,7 +6,7 @@ ghost use Rattle.ks_topo.specs.Topologies.{draft_of, plan_in};
 ghost use Rattle.ks_task.specs.Tasks.{task_view};
 ghost use Rattle.ks_worker_client.specs.Turns.{counts_after};
 ghost use Rattle.ks_worker_state.specs.State.{MayAct, LaterState, KnowsTheSame, IsWorkerState};
-ghost use Rattle.ks_worker_acts.specs.Gained.{HasGained};
+ghost use Rattle.ks_worker_state.specs.Gained.{HasMade};
 ghost use Rattle.ks_worker_acts.specs.Telling.{position_total, task_positions, replica_positions, positions_held};
 
 use ks_cluster::Work;
@@ -98,7 +98,7 @@ pub fn probe<H: Hash128, R: Wait, W: Work, G: Gate>(
     ensures tasks { state.new.tasks ≡ state.old.tasks }
     ensures replicas { state.new.replicas ≡ state.old.replicas }
     ensures worker { OnOk result (IsWorkerState W.plan (draft_of topology.now) state.new) }
-    ensures told { OnOk result (HasGained state.old.session.client.pass
+    ensures told { OnOk result (HasMade state.old.session.client.pass
         state.new.session.client.pass
         (Hold state.old.member.number (positions_held (changelog_numbers (plan_in topology.now))
         state.old.tasks.items state.old.replicas.items)

@@ -1,5 +1,5 @@
 //! The act by which a worker's tasks read.
-ghost use Rattle.std.specs.Prelude.{◌≡◌, ◌<◌, true, false, [], ◌∷◌, length, OnOk, IfOk};
+ghost use Rattle.std.specs.Prelude.{◌≡◌, ◌<◌, ◌++◌, true, false, [], ◌∷◌, length, take, drop, OnOk, IfOk};
 ghost use Rattle.std.specs.List.{All};
 ghost use Rattle.ks_plan.specs.Infos.{input_numbers};
 ghost use Rattle.ks_topo.specs.Topologies.{draft_of, plan_in};
@@ -7,6 +7,7 @@ ghost use Rattle.ks_shared.specs.Calls.{setup_in};
 ghost use Rattle.ks_worker_client.specs.Turns.{counts_after};
 ghost use Rattle.ks_worker_state.specs.State.{MayAct, LaterState, KnowsTheSame, IsWorkerState, task_names};
 ghost use Rattle.ks_worker_acts.specs.Inputs.{IsInputAt, HaveReadOn, HasMoved, HaveReadAll, HasLooked};
+ghost use Rattle.ks_worker_acts.specs.Picking.{HasPicked};
 
 use crate::places::{InputPlace, places_of};
 use ks_cluster::Work;
@@ -33,6 +34,7 @@ fn read_place<H: Hash128, R: Wait, W: Work, G: Gate>(
     ensures gate { state.new.session.client.gate
         ≡ counts_after state.old.session.client.gate result }
     ensures later { LaterState W.plan state.old state.new }
+    ensures made { state.new.session.client.pass.made ≡ state.old.session.client.pass.made }
     ensures same { KnowsTheSame state.old state.new }
     ensures replicas { state.new.replicas ≡ state.old.replicas }
     ensures worker { OnOk result (IsWorkerState W.plan (draft_of topology.now) state.new) }
@@ -70,6 +72,7 @@ fn read_first<H: Hash128, R: Wait, W: Work, G: Gate>(
     ensures gate { state.new.session.client.gate
         ≡ counts_after state.old.session.client.gate result }
     ensures later { LaterState W.plan state.old state.new }
+    ensures made { state.new.session.client.pass.made ≡ state.old.session.client.pass.made }
     ensures same { KnowsTheSame state.old state.new }
     ensures replicas { state.new.replicas ≡ state.old.replicas }
     ensures worker { OnOk result (IsWorkerState W.plan (draft_of topology.now) state.new) }
@@ -104,13 +107,14 @@ fn read_round<H: Hash128, R: Wait, W: Work, G: Gate>(
     ensures gate { state.new.session.client.gate
         ≡ counts_after state.old.session.client.gate result }
     ensures later { LaterState W.plan state.old state.new }
+    ensures made { state.new.session.client.pass.made ≡ state.old.session.client.pass.made }
     ensures same { KnowsTheSame state.old state.new }
     ensures replicas { state.new.replicas ≡ state.old.replicas }
     ensures worker { OnOk result (IsWorkerState W.plan (draft_of topology.now) state.new) }
     ensures looked { IfOk result (λ moved. HasLooked
         (setup_in W.plan state.old.session.client.pass.frame) state.old.session.client.pass.seen
-        moved
-        places.now state.old.tasks.items state.new.tasks.items) }
+        moved (drop start places.now ++ take start places.now)
+        state.old.tasks.items state.new.tasks.items) }
 {
     let (front, back) = places.split_at(start);
     if read_first::<H, R, W, G>(rt, alloc, topology, shared, state, back)? {
@@ -136,6 +140,7 @@ pub fn work<H: Hash128, R: Wait, W: Work, G: Gate>(
     ensures gate { state.new.session.client.gate
         ≡ counts_after state.old.session.client.gate result }
     ensures later { LaterState W.plan state.old state.new }
+    ensures made { state.new.session.client.pass.made ≡ state.old.session.client.pass.made }
     ensures same { KnowsTheSame state.old state.new }
     ensures replicas { state.new.replicas ≡ state.old.replicas }
     ensures worker { OnOk result (IsWorkerState W.plan (draft_of topology.now) state.new) }
@@ -144,6 +149,8 @@ pub fn work<H: Hash128, R: Wait, W: Work, G: Gate>(
     ensures read { OnOk result (HaveReadOn state.old.tasks.items state.new.tasks.items) }
     ensures moved { IfOk result (λ moved. moved ≡ true
         → HasMoved state.old.tasks.items state.new.tasks.items) }
+    ensures first { IfOk result (λ moved. moved ≡ true
+        → HasPicked W.plan pick state.old state.new) }
     ensures dry { IfOk result (λ moved. moved ≡ false
         → HaveReadAll (setup_in W.plan state.old.session.client.pass.frame)
         state.old.session.client.pass.seen state.new.tasks.items) }

@@ -1,11 +1,11 @@
 //! The act by which a worker removes another one from the group.
-ghost use Rattle.std.specs.Prelude.{◌≡◌, ◌≤◌, [], ◌∷◌, OnOk};
+ghost use Rattle.std.specs.Prelude.{◌≡◌, ◌≤◌, ◌<◌, [], ◌∷◌, OnOk};
 ghost use Rattle.ks_plan.specs.Drafts.{DraftView};
 ghost use Rattle.ks_history.specs.declared.journal.Request.TheVariants.{Expire};
 ghost use Rattle.ks_worker_client.specs.Turns.{counts_after};
 ghost use Rattle.ks_worker_client.specs.Calls.{MayCall};
 ghost use Rattle.ks_worker_state.specs.State.{LaterState, KnowsTheSame, IsWorkerState};
-ghost use Rattle.ks_worker_acts.specs.Gained.{HasGained};
+ghost use Rattle.ks_worker_state.specs.Gained.{HasMade};
 
 use ks_cluster::Work;
 use ks_edge::Gate;
@@ -38,8 +38,10 @@ pub fn evict<R: Wait, W: Work, G: Gate>(
     ensures replicas { state.new.replicas ≡ state.old.replicas }
     ensures worker { (d : DraftView) → IsWorkerState W.plan d state.old
         → IsWorkerState W.plan d state.new }
-    ensures expired { OnOk result (w ≤ 15 → HasGained state.old.session.client.pass
+    ensures expired { OnOk result (w ≤ 15 → HasMade state.old.session.client.pass
         state.new.session.client.pass (Expire w ∷ [])) }
+    ensures quiet { 15 < w → state.new.session.client.pass.made
+        ≡ state.old.session.client.pass.made }
 {
     if w > LAST_WORKER {
         return Ok(());

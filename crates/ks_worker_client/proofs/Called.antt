@@ -58,6 +58,13 @@ module _ {W : Type 0} (plan : W → TaskPlan) (old new : PassView Entry (Frame W
     pub read_setup : setup_of plan c.before ≡ setup_in plan new.frame
     read_setup = before_is ∙ sym (ap (λ (k : PassView Entry (Frame W)). setup_in plan k.frame) c.same)
 
+    -- such a call makes no entry
+    pub read_made : c.after ≡ c.before → new.made ≡ old.made
+    read_made same =
+        let long : length c.after.journal ≡ length c.before.journal = ap (λ (k : ClusterView W). length k.journal) same in
+        let more : new.made ≡ old.made + (length c.after.journal - length c.before.journal) = ap (λ (k : PassView Entry (Frame W)). k.made) c.same in
+        omega (arith, long, more)
+
     -- a call that adds its entry
     pub wrote : (request : Request) (reply : Reply) → AddsEntry plan c.before c.after request reply → Wrote plan old new request reply
     wrote request reply a =

@@ -1,4 +1,4 @@
-//! The calls of a worker's client that read. Each passes a step of the turn first: `Halt::Cut`, where the gate cuts the worker off
+//! The calls of a worker's client that read: none writes an entry. Each passes a step of the turn first: `Halt::Cut`, where the gate cuts the worker off
 //! there. `Halt::OutOfMemory`: memory ran out.
 ghost use Rattle.std.specs.Prelude.{◌≡◌, ◌≤◌, true, IfOk};
 ghost use Rattle.std.specs.List.{All};
@@ -35,6 +35,7 @@ impl<W: Work, G: Gate> ClusterClient<W, G> {
             (state_seen W.plan self.old.pass) part from most }
         ensures gate { self.new.gate ≡ counts_after self.old.gate result }
         ensures later { Later W.plan self.old.pass self.new.pass }
+        ensures made { self.new.pass.made ≡ self.old.pass.made }
         ensures records { IfOk result (λ r. r.0.items
             ≡ (fetched (state_seen W.plan self.new.pass) part from most).0) }
         ensures next { IfOk result (λ r. r.1
@@ -59,6 +60,7 @@ impl<W: Work, G: Gate> ClusterClient<W, G> {
         requires task { has_task task (setup_in W.plan self.old.pass.frame).tasks ≡ true }
         ensures gate { self.new.gate ≡ counts_after self.old.gate result }
         ensures later { Later W.plan self.old.pass self.new.pass }
+        ensures made { self.new.pass.made ≡ self.old.pass.made }
         ensures offsets { IfOk result (λ r. IfOk r (λ v. v.items
             ≡ committed_offsets (setup_in W.plan self.old.pass.frame)
             (state_seen W.plan self.new.pass) task)) }
@@ -81,6 +83,7 @@ impl<W: Work, G: Gate> ClusterClient<W, G> {
         requires parts { All (IsPart (setup_in W.plan self.old.pass.frame)) parts.now }
         ensures gate { self.new.gate ≡ counts_after self.old.gate result }
         ensures later { Later W.plan self.old.pass self.new.pass }
+        ensures made { self.new.pass.made ≡ self.old.pass.made }
         ensures ends { IfOk result (λ v. v.items
             ≡ ends_of (state_seen W.plan self.new.pass) parts.now) }
     {
@@ -99,6 +102,7 @@ impl<W: Work, G: Gate> ClusterClient<W, G> {
         requires may { MayCall W.plan shared.now.growing.id self.old.pass self.old.gate }
         ensures gate { self.new.gate ≡ counts_after self.old.gate result }
         ensures later { Later W.plan self.old.pass self.new.pass }
+        ensures made { self.new.pass.made ≡ self.old.pass.made }
         ensures status { IfOk result (λ r. r ≡ status (setup_in W.plan self.old.pass.frame)
             (state_seen W.plan self.new.pass)) }
     {

@@ -1,8 +1,8 @@
 -- A replica that is fed.
-use Rattle.std.proofs.Common.{◌≡◌, ℕ, zero, suc, ◌+◌, ◌<◌, ◌||◌, Bool, true, false, add-one, List, [], ◌∷◌, ◌++◌, length, take, get_or, refl, sym, ap, ap₂, subst, ◌∙◌, arith}
-use Rattle.std.specs.Prelude.{◌==◌}
+use Rattle.std.proofs.Common.{◌≡◌, ◌⊎◌, inl, inr, ℕ, zero, suc, ◌+◌, ◌<◌, ◌≤◌, ◌||◌, Bool, true, false, cond, add-one, List, [], ◌∷◌, ◌++◌, length, take, get_or, refl, sym, ap, ap₂, subst, ◌∙◌, arith}
+use Rattle.std.specs.Prelude.{◌==◌, nat_lt}
 use Rattle.std.proofs.Math.Seq.{take-suc}
-use Rattle.std.proofs.lemmas.Bool.{true≢false, eq-eqb}
+use Rattle.std.proofs.lemmas.Bool.{true≢false, eq-eqb, eqb-true, ltb-false}
 use Rattle.ks_row.specs.declared.record.Rec.{Rec}
 use Rattle.ks_row.specs.declared.record.TaskId.{TaskId}
 use Rattle.ks_history.specs.declared.journal.Entry.{Entry}
@@ -14,8 +14,9 @@ use Rattle.ks_history.specs.History.{at, IsHistory}
 use Rattle.ks_law_restore.specs.Replicas.{fed_replica}
 use Rattle.ks_law_restore.proofs.Lasting.{replica_stands}
 use Rattle.ks_law_restore.proofs.Replicas.{feeding_follows}
-use Rattle.ks_law_commit.specs.Moves.{IsFed}
-use Rattle.ks_law_commit.proofs.Bounds.{replica_is_within}
+use Rattle.ks_law_commit.specs.Bounds.{stable_of}
+use Rattle.ks_law_commit.specs.Moves.{IsMoved, IsFed}
+use Rattle.ks_law_commit.proofs.Bounds.{replica_is_within, stable_rises}
 use Rattle.ks_law_commit.proofs.Moving.{feeding_moves, fed_twice}
 use Rattle.ks_growing.specs.Passes.{PassView}
 use Rattle.ks_shared.specs.declared.state.Frame.{Frame}
@@ -24,7 +25,7 @@ use Rattle.ks_worker_client.specs.Calls.{Later, state_seen}
 use Rattle.ks_worker_client.proofs.Moments.{same_frame}
 use Rattle.ks_standby.specs.declared.replica.Replica.{Replica}
 use Rattle.ks_standby.specs.Replicas.{replica_view, changelogs_of}
-use Rattle.ks_worker_state.specs.Standbys.{IsStandby, IsFedStandby}
+use Rattle.ks_worker_state.specs.Standbys.{IsStandby, IsFedStandby, HasReadStable}
 
 module _ (setup : Setup) where
   -- it may be fed where it stands
@@ -151,3 +152,62 @@ module _ {W : Type 0} (plan : W → TaskPlan) (pass new : PassView Entry (Frame 
       (λ i. (records i, goes i)) ∙ ap₂ (λ f j. fetched (at (setup_in plan f) j) (record { topic = topic; part = part }) from 4096) (same_frame plan pass new l) l.seen in
       subst (λ j. IsFedStandby setup pass.seen j (topic ∷ []) old fed) (sym l.seen)
       (standby_fed setup pass.seen l.more old fed topic part from next recs net l.history s there is at_it here view logs)
+
+-- ---- what moves nothing
+neither : (a b : Bool) → a || b ≡ false → (a ≡ false) × (b ≡ false)
+neither true b e = absurd (true≢false e)
+neither false b e = (refl, e)
+
+only_one : (u topic : ℕ) → has_topic u (topic ∷ []) ≡ true → u ≡ topic
+only_one u topic h = by (u == topic) refl h
+  where
+    by : (b : Bool) → (u == topic) ≡ b → b || false ≡ true → u ≡ topic
+    by true e h = eqb-true u topic e
+    by false e h = absurd (true≢false (sym h))
+
+some_topic : (u : ℕ) (xs ys : List ℕ) → has_topic u (xs ++ ys) ≡ true → (has_topic u xs ≡ true) ⊎ (has_topic u ys ≡ true)
+some_topic u [] ys h = inr h
+some_topic u (x ∷ xs) ys h = by (u == x) h (some_topic u xs ys)
+  where
+    by : (b : Bool) → b || has_topic u (xs ++ ys) ≡ true → (has_topic u (xs ++ ys) ≡ true → (has_topic u xs ≡ true) ⊎ (has_topic u ys ≡ true)) → (b || has_topic u xs ≡ true) ⊎ (has_topic u ys ≡ true)
+    by true g more = inl refl
+    by false g more = more g
+
+module _ (setup : Setup) (h : List Entry) where
+  -- a fetch that doesn't move it leaves nothing stable
+  still : (stable old new next : ℕ) → IsMoved stable old new → new ≡ next → next ≤ old → stable ≤ new
+  still stable old new next (inl rose) is most = absurd (omega (arith, rose, is, most))
+  still stable old new next (inr past) is most = past
+
+  pub stops_by : (old fed : Replica) (topic from next : ℕ) (recs : List (ℕ × Rec)) → IsFed setup h (topic ∷ []) (replica_view old) (replica_view fed) → from ≡ (replica_view old).position topic →
+      replica_view fed ≡ fed_replica (replica_view old) topic recs next → nat_lt from next ≡ false → HasReadStable setup h (topic ∷ []) (replica_view fed)
+  stops_by old fed topic from next recs f at_it view stays u there =
+      subst (λ n. stable_of (at setup h) (part_of n (replica_view fed).task) ≤ (replica_view fed).position n) (sym (only_one u topic there)) here
+    where
+      placed : (replica_view fed).position topic ≡ next
+      placed = ap (λ (v : ReplicaView). v.position topic) view ∙ ap (λ b. cond b next ((replica_view old).position topic)) (eq-eqb topic topic refl)
+
+      here : stable_of (at setup h) (part_of topic (replica_view fed).task) ≤ (replica_view fed).position topic
+      here = subst (λ (t : TaskId). stable_of (at setup h) (part_of topic t) ≤ (replica_view fed).position topic) (sym f.task)
+          (still (stable_of (at setup h) (part_of topic (replica_view old).task)) ((replica_view old).position topic) ((replica_view fed).position topic) next
+          (f.moved topic (ap (λ b. b || false) (eq-eqb topic topic refl))) placed (omega (arith, at_it, ltb-false from next stays)))
+
+module _ {W : Type 0} (plan : W → TaskPlan) (old mid : PassView Entry (Frame W)) (l : Later plan old mid) (net : IsNetwork (setup_in plan old.frame).plan) where
+  pub read_since : (topics : List ℕ) (r : ReplicaView) → HasReadStable (setup_in plan mid.frame) mid.seen topics r → HasReadStable (setup_in plan old.frame) old.seen topics r
+  read_since topics r h u there =
+      let setup : Setup = setup_in plan old.frame in
+      let then_read : stable_of (at setup (old.seen ++ l.more)) (part_of u r.task) ≤ r.position u =
+      subst (λ j. stable_of (at setup j) (part_of u r.task) ≤ r.position u) l.seen (subst (λ f. stable_of (at (setup_in plan f) mid.seen) (part_of u r.task) ≤ r.position u) (same_frame plan old mid l) (h u there)) in
+      omega (arith, then_read, stable_rises setup old.seen l.more (part_of u r.task) net l.history)
+
+  -- nothing moved it so far, nor does the next changelog
+  pub read_more : (b c : Replica) (xs : List ℕ) (topic : ℕ) (moved moves : Bool) → moved || moves ≡ false → (moved ≡ false → HasReadStable (setup_in plan old.frame) old.seen xs (replica_view b)) →
+      IsFed (setup_in plan mid.frame) mid.seen (topic ∷ []) (replica_view b) (replica_view c) → (moves ≡ false → HasReadStable (setup_in plan mid.frame) mid.seen (topic ∷ []) (replica_view c)) →
+      HasReadStable (setup_in plan old.frame) old.seen (xs ++ topic ∷ []) (replica_view c)
+  read_more b c xs topic moved moves none before f after u there = by (some_topic u xs (topic ∷ []) there)
+    where
+      by : (has_topic u xs ≡ true) ⊎ (has_topic u (topic ∷ []) ≡ true) → stable_of (at (setup_in plan old.frame) old.seen) (part_of u (replica_view c).task) ≤ (replica_view c).position u
+      by (inl early) =
+          subst (λ (t : TaskId). stable_of (at (setup_in plan old.frame) old.seen) (part_of u t) ≤ (replica_view c).position u) (sym f.task)
+          (let past = before (neither moved moves none).0 u early in omega (arith, past, f.later u))
+      by (inr late) = read_since (topic ∷ []) (replica_view c) (after (neither moved moves none).1) u late

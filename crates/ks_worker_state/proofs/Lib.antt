@@ -4,3 +4,6 @@ pub mod Workers
 pub mod Restored
 pub mod Producers
 pub mod States
+pub mod Clean
+pub mod Names
+pub mod Gains

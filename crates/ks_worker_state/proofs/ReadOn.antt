@@ -1,5 +1,6 @@
 -- A task reads what one fetch gives.
-use Rattle.std.proofs.Common.{◌≡◌, ◌≢◌, ℕ, ◌+◌, ◌<◌, ◌≤◌, true, false, List, [], ◌∷◌, ◌++◌, refl, sym, ap, ap₂, subst, ◌∙◌, arith}
+use Rattle.std.proofs.Common.{◌≡◌, ◌≢◌, ℕ, ◌+◌, ◌<◌, ◌≤◌, true, false, cond, List, [], ◌∷◌, ◌++◌, refl, sym, ap, ap₂, subst, ◌∙◌, arith}
+use Rattle.std.specs.Prelude.{◌==◌}
 use Rattle.ks_row.specs.declared.record.Rec.{Rec}
 use Rattle.ks_row.specs.declared.record.PartId.{PartId}
 use Rattle.ks_row.specs.declared.record.TaskId.{TaskId}
@@ -8,7 +9,7 @@ use Rattle.ks_plan.specs.Plan.{plan_of}
 use Rattle.ks_plan.specs.Infos.{input_numbers}
 use Rattle.ks_history.specs.declared.journal.Entry.{Entry}
 use Rattle.ks_history.specs.Machine.{TaskPlan, IsNetwork, has_topic, part_of}
-use Rattle.ks_history.specs.State.{Setup, IsSetup, IsPart, has_task}
+use Rattle.ks_history.specs.State.{Setup, IsSetup, IsPart, has_task, with_number}
 use Rattle.ks_history.specs.Reads.{MayFetch, fetched}
 use Rattle.ks_history.specs.Follows.{TaskView}
 use Rattle.ks_history.specs.History.{at}
@@ -39,6 +40,17 @@ takes_on plan v topic (r ∷ rs) = takes_on plan (take_view plan v topic r.0 r.1
 
 pub still_input : (inputs : ℕ → List ℕ) (plan : TaskPlan) (topic : ℕ) (v new : TaskView) (rs : List (ℕ × Rec)) → new ≡ take_all plan v topic rs → has_topic topic (inputs v.task.sub) ≡ true → has_topic topic (inputs new.task.sub) ≡ true
 still_input inputs plan topic v new rs is h = subst (λ (t : TaskId). has_topic topic (inputs t.sub) ≡ true) (sym (ap (λ (w : TaskView). w.task) is ∙ takes_on plan v topic rs)) h
+
+-- it moves no other input
+other_number : (f : ℕ → ℕ) (topic n u : ℕ) → (u == topic) ≡ false → with_number f topic n u ≡ f u
+other_number f topic n u e = ap (λ b. cond b n (f u)) e
+
+others_on : (plan : TaskPlan) (v : TaskView) (topic : ℕ) (rs : List (ℕ × Rec)) (u : ℕ) → (u == topic) ≡ false → (take_all plan v topic rs).inputs u ≡ v.inputs u
+others_on plan v topic [] u e = refl
+others_on plan v topic (r ∷ rs) u e = others_on plan (take_view plan v topic r.0 r.1) topic rs u e ∙ other_number v.inputs topic (r.0 + 1) u e
+
+others_stay : (plan : TaskPlan) (v : TaskView) (topic next : ℕ) (rs : List (ℕ × Rec)) (u : ℕ) → (u == topic) ≡ false → (skip_view (take_all plan v topic rs) topic next).inputs u ≡ v.inputs u
+others_stay plan v topic next rs u e = other_number (take_all plan v topic rs).inputs topic next u e ∙ others_on plan v topic rs u e
 
 -- what it makes of its inputs' records goes where all tasks send
 pub takes_inside : (setup : Setup) (topic : ℕ) (rs : List (ℕ × Rec)) (v : TaskView) → SendsInside setup → has_task v.task setup.tasks ≡ true → has_topic topic (setup.plan.inputs v.task.sub) ≡ true → MakesInside setup v →
@@ -90,6 +102,7 @@ module _ {W : Type 0} (plan : W → TaskPlan) (old new : PassView Entry (Frame W
       pub read_stops : next ≡ from → IsReadOnce (setup_in plan old.frame) old.seen topic false task task
       read_stops same = record {
         read = record { task = refl; kept = λ u. refl; position = λ u. refl; later = λ u. omega arith };
+        others = λ u e. refl;
         moves = λ e. absurd cc;
         stops = λ e.
             let rise = stable_rises (setup_in plan old.frame) old.seen l.more (part_of topic (task_view task).task) net l.history in
@@ -118,6 +131,7 @@ module _ {W : Type 0} (plan : W → TaskPlan) (old new : PassView Entry (Frame W
             let both = reading_moves (setup_in plan old.frame) new.seen (task_view task) topic 32 more in
             record {
               read = subst (HasRead topic (task_view task)) (sym seen_view) both.0;
+              others = λ u e. ap (λ (v : TaskView). v.inputs u) view ∙ others_stay (setup_in plan old.frame).plan (task_view task) topic next recs u e;
               moves = λ e. subst (λ (v : TaskView). (task_view task).inputs topic < v.inputs topic) (sym seen_view) both.1;
               stops = λ e. absurd cc;
             }

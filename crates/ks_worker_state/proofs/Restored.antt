@@ -1,5 +1,5 @@
 -- The task of a replica that has reached the ends is held.
-use Rattle.std.proofs.Common.{◌≡◌, ℕ, ◌+◌, ◌≤◌, ◌&&◌, ◌||◌, Bool, true, false, cond, Option, None, List, [], ◌∷◌, ◌++◌, map, refl, sym, ap, ap₂, subst, ◌∙◌, arith}
+use Rattle.std.proofs.Common.{◌≡◌, ◌≢◌, inr, ℕ, ◌+◌, ◌≤◌, ◌&&◌, ◌||◌, Bool, true, false, cond, Option, Some, None, List, [], ◌∷◌, ◌++◌, map, refl, sym, ap, ap₂, subst, ◌∙◌, arith}
 use Rattle.std.specs.Prelude.{◌==◌, nat_le, Result, Ok, Err, IfOk, IfErr}
 use Rattle.std.specs.List.{All}
 use Rattle.std.proofs.lemmas.List.Elements.{All-nil, All-cons}
@@ -28,18 +28,18 @@ use Rattle.ks_growing.specs.Passes.{PassView}
 use Rattle.ks_shared.specs.declared.state.Frame.{Frame}
 use Rattle.ks_shared.specs.Calls.{setup_in}
 use Rattle.ks_worker_client.specs.Calls.{Later, state_seen}
-use Rattle.ks_worker_client.proofs.Moments.{same_frame}
+use Rattle.ks_worker_client.proofs.Moments.{same_frame, not_later, later_twice}
 use Rattle.ks_plan.specs.Plan.{plan_of}
 use Rattle.ks_plan.specs.Layout.{tasks}
 use Rattle.ks_plan.specs.Infos.{changelog_numbers}
 use Rattle.ks_task.specs.Tasks.{task_view, IsTaskOf}
 use Rattle.ks_worker_state.specs.Topology.{RunsTopology}
-use Rattle.ks_worker_state.specs.Standbys.{IsStandby, IsFedStandby}
+use Rattle.ks_worker_state.specs.Standbys.{IsStandby, IsFedStandby, HasReadStable}
 use Rattle.ks_task.specs.declared.task.Task.{Task}
 use Rattle.ks_worker_client.specs.declared.member.Member.{Member}
 use Rattle.ks_worker_client.specs.Members.{MemberHasSeen}
 use Rattle.ks_worker_state.specs.Tasks.{IsHeldTask}
-use Rattle.ks_worker_state.specs.Restoring.{reached_in, IsMadeAtTheEnds}
+use Rattle.ks_worker_state.specs.Restoring.{reached_in, IsMadeAtTheEnds, IsShortOfTheEnds, IsRefused, IsGivenBack}
 
 -- ---- the partitions of a task's changelogs
 pub parts_are : (setup : Setup) (t : TaskId) (topics : List ℕ) → IsSetup setup → has_task t setup.tasks ≡ true → ((n : ℕ) → has_topic n topics ≡ true → has_topic n (setup.plan.changelogs t.sub) ≡ true) → All (IsPart setup) (map (λ n. part_of n t) topics)
@@ -155,9 +155,42 @@ module _ {W : Type 0} (plan : W → TaskPlan) (old told new : PassView Entry (Fr
             (is ∙ told_ends ∙ ap (λ (u : TaskId). ends_of (state_seen plan told) (map (λ topic. part_of topic u) topics)) named) reached);
       }
 
+  -- or it stands short of them
+  pub short_of_the_ends : (t : TaskId) (r fed : Replica) (topics ends given : List ℕ) → t ≡ r.id → topics ≡ changelogs_of r → IsFedStandby (setup_in plan told.frame) told.seen new.seen topics r fed →
+      HasReadStable (setup_in plan told.frame) told.seen topics (replica_view fed) → ends ≡ ends_of (state_seen plan told) (map (λ topic. part_of topic t) topics) → given ≡ ends → reached_in (replica_view fed).position topics given ≡ false →
+      IsShortOfTheEnds plan old new fed
+  short_of_the_ends t r fed topics ends given named own f read told_ends is short =
+      let logs : topics ≡ changelogs_of fed = own ∙ sym f.changelogs in
+      let id : t ≡ fed.id = named ∙ sym f.fed.task in
+      record {
+        told = told;
+        since = two;
+        before = three;
+        read = subst (λ l. HasReadStable (setup_in plan told.frame) told.seen l (replica_view fed)) logs read;
+        short = subst (λ l. reached_in (replica_view fed).position l (ends_of (state_seen plan told) (map (λ topic. part_of topic fed.id) l)) ≡ false) logs
+            (subst (λ l. reached_in (replica_view fed).position topics l ≡ false)
+            (is ∙ told_ends ∙ ap (λ (u : TaskId). ends_of (state_seen plan told) (map (λ topic. part_of topic u) topics)) id) short);
+      }
+
+-- why it was given back, since an earlier moment
+module _ {W : Type 0} (plan : W → TaskPlan) (old asked : PassView Entry (Frame W)) (l : Later plan old asked) where
+  pub short_since : (new : PassView Entry (Frame W)) (w generation : ℕ) (r : Replica) → IsShortOfTheEnds plan asked new r → IsGivenBack plan old new w generation r
+  short_since new w generation r s = inr (record { told = s.told; since = later_twice plan old asked s.told l s.since; before = s.before; read = s.read; short = s.short })
+
+  pub is_refused : (w generation : ℕ) (t u : TaskId) → u ≡ t → committed_refusal (state_seen plan asked) w generation u ≢ None → IsRefused plan old asked w generation t
+  is_refused w generation t u named some = record {
+    asked = asked;
+    since = l;
+    before = not_later plan asked (subst (λ f. IsHistory (setup_in plan f) asked.seen) (sym (same_frame plan old asked l)) (subst (IsHistory (setup_in plan old.frame)) (sym l.seen) l.history));
+    refused = subst (λ v. committed_refusal (state_seen plan asked) w generation v ≢ None) named some;
+  }
+
 -- what an answer says that was given
 pub ok_said : {A E : Type 0} (r : Result A E) (x : A) (P : A → Type 0) → r ≡ Ok x → IfOk r P → P x
 ok_said r x P is h = subst (λ q. IfOk q P) is h
 
 pub free_said : {A : Type 0} (o : Option Refused) (r : Result A Refused) (x : A) → r ≡ Ok x → Refuses o r → o ≡ None
 free_said o r x is h = subst (Refuses o) is h
+
+pub refused_said : {A : Type 0} (o : Option Refused) (r : Result A Refused) (e : Refused) → r ≡ Err e → Refuses o r → o ≢ None
+refused_said o r e is h none = let some : o ≡ Some e = subst (Refuses o) is h in absurd cc

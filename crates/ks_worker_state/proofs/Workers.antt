@@ -47,6 +47,7 @@ module _ {W : Type 0} (plan : W → TaskPlan) (old new : PassView Entry (Frame W
       producer = subst (λ f. IsProducer (setup_in plan f) new.seen m last numbers) (sym (same_frame plan old new l)) (producer_later m last numbers w.seen w.producer);
       alone = w.alone;
       names = w.names;
+      once = w.once;
       tasks_are = subst (λ f. All (IsHeldTask d (setup_in plan f) new.seen m last) ts) (sym (same_frame plan old new l)) (tasks_later d m last ts w.seen w.tasks_are);
       replicas_are = subst (λ f. All (IsStandby (setup_in plan f) new.seen) rs) (sym (same_frame plan old new l)) (standbys_later rs w.replicas_are);
     }
@@ -63,6 +64,7 @@ crashed plan d pass m few small history = record {
   producer = nothing_known (setup_in plan pass.frame) pass.seen (lost m) refl history;
   alone = λ e. refl;
   names = tt;
+  once = λ t. omega arith;
   tasks_are = All-nil (IsHeldTask d (setup_in plan pass.frame) pass.seen (lost m) 0);
   replicas_are = All-nil (IsStandby (setup_in plan pass.frame) pass.seen);
 }

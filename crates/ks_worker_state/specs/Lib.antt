@@ -1,3 +1,5 @@
+pub mod Gained
+pub mod Names
 pub mod Restoring
 pub mod Standbys
 pub mod Tasks

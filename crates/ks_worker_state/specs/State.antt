@@ -1,15 +1,12 @@
 -- A worker's state as a whole: what each part of its turn asks of it, and what it leaves (Kafka Streams: a StreamThread's run loop).
-use Rattle.std.specs.Prelude.{◌≡◌, ℕ, List, map}
+use Rattle.std.specs.Prelude.{◌≡◌, ℕ, List}
 use Rattle.atomic_table.specs.Seated.{TableId}
-use Rattle.ks_row.specs.declared.record.TaskId.{TaskId}
 use Rattle.ks_plan.specs.Drafts.{DraftView}
 use Rattle.ks_history.specs.Machine.{TaskPlan}
 use Rattle.ks_shared.specs.Calls.{setup_in}
-use Rattle.ks_standby.specs.declared.replica.Replica.{Replica}
-use Rattle.ks_task.specs.declared.task.Task.{Task}
-use Rattle.ks_task.specs.Tasks.{task_view}
 use Rattle.ks_worker_client.specs.Calls.{MayCall, Later}
 use Rattle.ks_worker_state.specs.declared.state.WorkerState.{WorkerState}
+pub use Rattle.ks_worker_state.specs.Names.{task_names, replica_names}
 use Rattle.ks_worker_state.specs.Topology.{RunsTopology}
 use Rattle.ks_worker_state.specs.Worker.{IsWorker}
 
@@ -34,9 +31,3 @@ pub record KnowsTheSame {W G : Type 0} (old new : WorkerState W G) : Type 0 wher
   pub member : new.member ≡ old.member
   pub last : new.session.last ≡ old.session.last
   pub numbers : new.session.numbers.items ≡ old.session.numbers.items
-
-abbrev pub task_names : List Task → List TaskId
-task_names tasks = map (λ t. (task_view t).task) tasks
-
-abbrev pub replica_names : List Replica → List TaskId
-replica_names replicas = map (λ (r : Replica). r.id) replicas

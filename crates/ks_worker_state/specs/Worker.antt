@@ -17,6 +17,7 @@ use Rattle.ks_worker_client.specs.Calls.{Later}
 use Rattle.ks_standby.specs.declared.replica.Replica.{Replica}
 use Rattle.ks_task.specs.declared.task.Task.{Task}
 use Rattle.ks_task.specs.Tasks.{task_view}
+use Rattle.ks_worker_state.specs.Names.{AreHeldOnce}
 use Rattle.ks_worker_state.specs.Standbys.{IsStandby}
 use Rattle.ks_worker_state.specs.Tasks.{IsHeldTask}
 
@@ -38,6 +39,7 @@ pub record IsWorker {W : Type 0} (plan : W → TaskPlan) (d : DraftView) (pass :
   -- who is no member has no task
   pub alone : m.is_member ≡ false → tasks ≡ []
   pub names : HaveOwnNames tasks
+  pub once : AreHeldOnce tasks replicas
   pub tasks_are : All (IsHeldTask d (setup_in plan pass.frame) pass.seen m last) tasks
   pub replicas_are : All (IsStandby (setup_in plan pass.frame) pass.seen) replicas
 

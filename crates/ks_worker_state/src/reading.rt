@@ -1,4 +1,4 @@
-//! A worker's tasks read.
+//! A worker's tasks read. This writes no entry.
 ghost use Rattle.std.specs.Prelude.{◌≡◌, true, false, OnOk, IfOk};
 ghost use Rattle.ks_history.specs.Machine.{has_topic};
 ghost use Rattle.ks_plan.specs.Infos.{input_numbers};
@@ -70,6 +70,7 @@ pub fn read_once<H: Hash128, R: Wait, W: Work, G: Gate>(
     ensures last { session.new.last ≡ session.old.last }
     ensures numbers { session.new.numbers ≡ session.old.numbers }
     ensures later { Later W.plan session.old.client.pass session.new.client.pass }
+    ensures made { session.new.client.pass.made ≡ session.old.client.pass.made }
     ensures task { OnOk result (IsHeldTask (draft_of topology.now)
         (setup_in W.plan session.old.client.pass.frame)
         session.new.client.pass.seen member.now session.old.last task.new) }

@@ -1,4 +1,4 @@
-//! A task is made of a replica.
+//! A task is made of a replica. This writes no entry.
 ghost use Rattle.std.specs.Prelude.{◌≡◌, ◌≤◌, true, map, OnOk, IfOk, IfErr};
 ghost use Rattle.ks_history.specs.Machine.{part_of};
 ghost use Rattle.ks_history.specs.Reads.{ends_of};
@@ -18,7 +18,7 @@ ghost use Rattle.ks_worker_state.specs.Standbys.{IsStandby};
 ghost use Rattle.ks_worker_client.specs.Members.{MemberHasSeen};
 ghost use Rattle.ks_worker_state.specs.Tasks.{IsHeldTask};
 ghost use Rattle.ks_worker_state.specs.Topology.{RunsTopology};
-ghost use Rattle.ks_worker_state.specs.Restoring.{reached_in, IsMadeAtTheEnds};
+ghost use Rattle.ks_worker_state.specs.Restoring.{reached_in, IsMadeAtTheEnds, IsShortOfTheEnds, IsGivenBack};
 
 use crate::feeding::feed_to_the_end;
 use crate::topics::changelogs_in;
@@ -82,6 +82,7 @@ fn ends_of_task<R: Wait, W: Work, G: Gate>(
         ≡ (setup_in W.plan client.old.pass.frame).plan.changelogs task.sub }
     ensures gate { client.new.gate ≡ counts_after client.old.gate result }
     ensures later { Later W.plan client.old.pass client.new.pass }
+    ensures made { client.new.pass.made ≡ client.old.pass.made }
     ensures ends { IfOk result (λ v. v.items ≡ ends_of (state_seen W.plan client.new.pass)
         (map (λ topic. part_of topic task) changelogs.now)) }
 {
@@ -133,11 +134,14 @@ fn restore_with<H: Hash128, R: Wait, W: Work, G: Gate>(
         ≡ input_numbers (plan_in topology.now) replica.id.sub }
     ensures gate { client.new.gate ≡ counts_after client.old.gate result }
     ensures later { Later W.plan client.old.pass client.new.pass }
+    ensures made { client.new.pass.made ≡ client.old.pass.made }
     ensures task { IfOk result (λ r. IfOk r (IsMadeAtTheEnds W.plan (draft_of topology.now)
         client.old.pass client.new.pass replica.id offsets.now)) }
     ensures standby { IfOk result (λ r. IfErr r (λ b. IsStandby
         (setup_in W.plan client.old.pass.frame) client.new.pass.seen b)) }
     ensures same { IfOk result (λ r. IfErr r (λ b. b.id ≡ replica.id)) }
+    ensures back { IfOk result (λ r. IfErr r (IsShortOfTheEnds W.plan client.old.pass
+        client.new.pass)) }
 {
     let task = replica.id();
     let changelogs = changelogs_in(topology, task.sub);
@@ -150,7 +154,8 @@ fn restore_with<H: Hash128, R: Wait, W: Work, G: Gate>(
 }
 
 /// Makes a task of a replica, where the group answers its committed offsets and the replica, fed until no fetch moves it, has reached the
-/// ends of its changelogs; else the replica is given back, for a later try.
+/// ends of its changelogs; else the replica is given back, for a later try: the group refused the offsets, or a transaction that writes
+/// to a changelog isn't decided yet.
 ///
 /// The committed offsets are asked for first and the ends then, so that nothing is committed for the task behind these ends while it is
 /// the worker's.
@@ -176,6 +181,7 @@ pub fn restore<H: Hash128, R: Wait, W: Work, G: Gate>(
     ensures last { session.new.last ≡ session.old.last }
     ensures numbers { session.new.numbers ≡ session.old.numbers }
     ensures later { Later W.plan session.old.client.pass session.new.client.pass }
+    ensures made { session.new.client.pass.made ≡ session.old.client.pass.made }
     ensures task { IfOk result (λ r. IfOk r (λ t. IsHeldTask (draft_of topology.now)
         (setup_in W.plan session.old.client.pass.frame) session.new.client.pass.seen member
         session.old.last t)) }
@@ -183,6 +189,8 @@ pub fn restore<H: Hash128, R: Wait, W: Work, G: Gate>(
     ensures standby { IfOk result (λ r. IfErr r (λ b. IsStandby
         (setup_in W.plan session.old.client.pass.frame) session.new.client.pass.seen b)) }
     ensures same { IfOk result (λ r. IfErr r (λ b. b.id ≡ replica.id)) }
+    ensures back { IfOk result (λ r. IfErr r (IsGivenBack W.plan session.old.client.pass
+        session.new.client.pass member.number member.generation)) }
 {
     let task = replica.id();
     let answer = session

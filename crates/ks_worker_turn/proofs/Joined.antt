@@ -62,6 +62,7 @@ module _ {W : Type 0} (plan : W → TaskPlan) (old new : PassView Entry (Frame W
             (subst (IsProducer (setup_in plan old.frame) new.seen (renewed_member m e) (touched m.number new.seen)) (sym empty) (begun m e wrote net)));
         alone = w.alone;
         names = w.names;
+        once = w.once;
         tasks_are = subst (All (IsHeldTask d (setup_in plan new.frame) new.seen (renewed_member m e) now)) (sym none) (All-nil (IsHeldTask d (setup_in plan new.frame) new.seen (renewed_member m e) now));
         replicas_are = subst (λ f. All (IsStandby (setup_in plan f) new.seen) rs) (sym frame) (standbys_later plan old new l net rs w.replicas_are);
       }
@@ -79,6 +80,7 @@ now_listed plan d pass m b last numbers ts rs alone w = record {
   producer = record { past = w.producer.past; idle = w.producer.idle; numbered = w.producer.numbered };
   alone = alone;
   names = w.names;
+  once = w.once;
   tasks_are = λ k x lt. let h = w.tasks_are k x lt in record { of = h.of; held = h.held; inside = h.inside };
   replicas_are = w.replicas_are;
 }

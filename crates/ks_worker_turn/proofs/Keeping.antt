@@ -12,7 +12,8 @@ use Rattle.ks_history.specs.Reads.{status}
 use Rattle.ks_worker_client.specs.declared.client.ClusterClient.{ClusterClient}
 use Rattle.ks_worker_client.specs.declared.member.Member.{Member}
 use Rattle.ks_worker_client.specs.Calls.{Later, state_seen}
-use Rattle.ks_worker_client.proofs.Moments.{same_frame}
+use Rattle.ks_history.specs.History.{IsHistory}
+use Rattle.ks_worker_client.proofs.Moments.{same_frame, not_later}
 use Rattle.ks_worker_state.specs.declared.state.WorkerState.{WorkerState}
 use Rattle.ks_worker_state.specs.State.{LaterState, MayAct}
 use Rattle.ks_worker_state.proofs.States.{runs_later, may_act_on}
@@ -21,6 +22,11 @@ use Rattle.ks_worker_turn.specs.Acting.{KeepsWorker}
 
 pub network_later : {W : Type 0} (plan : W → TaskPlan) (old new : PassView Entry (Frame W)) → Later plan old new → IsNetwork (setup_in plan old.frame).plan → IsNetwork (setup_in plan new.frame).plan
 network_later plan old new l net = subst (λ f. IsNetwork (setup_in plan f).plan) (sym (same_frame plan old new l)) net
+
+-- a moment that was come to is one later than itself
+pub later_still : {W : Type 0} (plan : W → TaskPlan) (old new : PassView Entry (Frame W)) → Later plan old new → Later plan new new
+later_still plan old new l =
+    not_later plan new (subst (λ f. IsHistory (setup_in plan f) new.seen) (sym (same_frame plan old new l)) (subst (IsHistory (setup_in plan old.frame)) (sym l.seen) l.history))
 
 module _ {W G : Type 0} (plan : W → TaskPlan) where
   pub keeps_both : (a b c : WorkerState W G) → LaterState plan a b → KeepsWorker plan a b → KeepsWorker plan b c → KeepsWorker plan a c

@@ -1,7 +1,13 @@
+pub mod Activated
 pub mod Assigned
+pub mod Begun
+pub mod PlacesHeld
+pub mod Holding
 pub mod Joined
 pub mod Keeping
 pub mod Listing
 pub mod Offered
 pub mod Placed
+pub mod Requests
 pub mod Rested
+pub mod Taken

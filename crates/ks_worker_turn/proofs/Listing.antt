@@ -1,6 +1,8 @@
 -- Lists with one more, or one less.
-use Rattle.std.proofs.Common.{◌≡◌, ℕ, zero, suc, ◌||◌, Bool, true, false, List, [], ◌∷◌, take, drop, refl, sym, ap, subst, ◌∙◌, arith}
+use Rattle.std.proofs.Common.{◌≡◌, ◌≤◌, ◌<◌, ℕ, zero, suc, ◌+◌, ◌||◌, Bool, true, false, List, [], ◌∷◌, ◌++◌, length, get_or, take, drop, add-one, refl, sym, ap, subst, ◌∙◌, arith}
 use Rattle.std.specs.List.{All, insert}
+use Rattle.std.proofs.Math.Seq.{take-suc}
+use Rattle.std.proofs.lemmas.List.{take_all}
 use Rattle.std.proofs.lemmas.List.Elements.{All-append, All-take, All-drop, All-cons, All-nil}
 use Rattle.ks_row.specs.declared.record.TaskId.{TaskId}
 use Rattle.ks_row.specs.Parts.{same_task}
@@ -9,7 +11,8 @@ use Rattle.ks_history.proofs.Names.{same_task-is, same_task-refl}
 use Rattle.ks_task.specs.declared.task.Task.{Task}
 use Rattle.ks_task.specs.Tasks.{task_view}
 use Rattle.ks_worker_state.specs.Worker.{IsNoneOf, HaveOwnNames}
-use Rattle.ks_worker_state.specs.State.{task_names}
+use Rattle.ks_standby.specs.declared.replica.Replica.{Replica}
+use Rattle.ks_worker_state.specs.Names.{task_names, replica_names}
 use Rattle.ks_worker_turn.specs.Lists.{HasPut, HasTaken}
 
 module _ {A : Type 0} (P : A → Type 0) where
@@ -67,3 +70,31 @@ names_insert (u ∷ us) (suc i) t own none = (
 
 pub names_put : (old new : List Task) (t : Task) → HasPut old t new → HaveOwnNames old → IsNoneOf (name_of t) old → HaveOwnNames new
 names_put old new t h own none = subst HaveOwnNames (sym h.is) (names_insert old h.place t own none)
+
+-- ---- a task among replicas
+names_both : (xs ys : List Replica) → replica_names (xs ++ ys) ≡ replica_names xs ++ replica_names ys
+names_both [] ys = refl
+names_both (x ∷ xs) ys = ap (λ (l : List TaskId). x.id ∷ l) (names_both xs ys)
+
+neither : (t : TaskId) (xs ys : List TaskId) → has_task t xs ≡ false → has_task t ys ≡ false → has_task t (xs ++ ys) ≡ false
+neither t [] ys f g = g
+neither t (x ∷ xs) ys f g = by (same_task t x) f (λ h. neither t xs ys h g)
+  where
+    by : (b : Bool) → (b || has_task t xs) ≡ false → (has_task t xs ≡ false → has_task t (xs ++ ys) ≡ false) → (b || has_task t (xs ++ ys)) ≡ false
+    by true e h = absurd cc
+    by false e h = h e
+
+-- none so far, and not this one
+pub absent_more : (t : TaskId) (rs : List Replica) (i : ℕ) (d : Replica) → i < length rs → same_task t (get_or rs i d).id ≡ false → has_task t (replica_names (take i rs)) ≡ false → has_task t (replica_names (take (i + 1) rs)) ≡ false
+absent_more t rs i d lt other none =
+    ap (λ l. has_task t (replica_names l)) (ap (λ k. take k rs) (add-one i) ∙ take-suc rs i d lt)
+    ∙ ap (has_task t) (names_both (take i rs) (get_or rs i d ∷ []))
+    ∙ neither t (replica_names (take i rs)) ((get_or rs i d).id ∷ []) none (ap (λ b. b || false) other)
+
+pub absent_all : (t : TaskId) (rs : List Replica) (i : ℕ) → length rs ≤ i → has_task t (replica_names (take i rs)) ≡ false → has_task t (replica_names rs) ≡ false
+absent_all t rs i most none = ap (λ l. has_task t (replica_names l)) (sym (take_all i rs most)) ∙ none
+
+-- as a look at one tells
+pub absent_next : (t : TaskId) (rs : List Replica) (i : ℕ) (r : Replica) (u : TaskId) → i < length rs → r ≡ get_or rs i r → u ≡ r.id → same_task t u ≡ false → has_task t (replica_names (take i rs)) ≡ false → has_task t (replica_names (take (i + 1) rs)) ≡ false
+absent_next t rs i r u lt is named other none =
+    absent_more t rs i r lt (subst (λ (x : Replica). same_task t x.id ≡ false) is (subst (λ v. same_task t v ≡ false) named other)) none

@@ -1,6 +1,7 @@
 -- The assignment that a worker offers its generation.
-use Rattle.std.proofs.Common.{◌≡◌, ℕ, true, List, [], ◌++◌, Option, Some, None, Result, Ok, Err, refl, sym, ap, subst, ◌∙◌, append-nil}
-use Rattle.std.specs.Prelude.{IfOk, IfSome}
+use Rattle.std.proofs.Common.{◌≡◌, ◌≢◌, ℕ, Bool, true, false, List, [], ◌++◌, Option, Some, None, Result, Ok, Err, refl, sym, ap, subst, ◌∙◌, append-nil}
+use Rattle.std.specs.Prelude.{IfOk, IfSome, is_some}
+use Rattle.ks_row.specs.declared.assignment.Refused.{Refused}
 use Rattle.ks_row.specs.declared.assignment.Assignment.{Assignment}
 use Rattle.ks_row.specs.declared.record.TaskId.{TaskId}
 use Rattle.ks_plan.specs.Drafts.{DraftView}
@@ -9,6 +10,11 @@ use Rattle.ks_plan.specs.Layout.{tasks}
 use Rattle.ks_plan.specs.Plan.{plan_of}
 use Rattle.ks_history.specs.declared.journal.Entry.{Entry}
 use Rattle.ks_history.specs.declared.journal.Status.{Status}
+use Rattle.ks_history.specs.declared.journal.Reply.{Reply}
+use Rattle.ks_history.specs.declared.journal.Reply.TheVariants.{Truth}
+use Rattle.ks_history.specs.declared.journal.Request.TheVariants.{Assign}
+use Rattle.ks_history.specs.History.{IsHistory}
+use Rattle.ks_cluster.specs.Replies.{truth_or}
 use Rattle.ks_history.specs.Machine.{TaskPlan}
 use Rattle.ks_history.specs.Reads.{status}
 use Rattle.ks_history.specs.State.{Setup}
@@ -16,13 +22,14 @@ use Rattle.ks_cluster.specs.Placed.{PlacementTest, IsGoodAt, is_good_by}
 use Rattle.ks_growing.specs.Passes.{PassView}
 use Rattle.ks_shared.specs.declared.state.Frame.{Frame}
 use Rattle.ks_shared.specs.Calls.{setup_in, good_in}
-use Rattle.ks_worker_client.specs.Calls.{Later, state_seen}
-use Rattle.ks_worker_client.proofs.Moments.{same_frame}
+use Rattle.ks_worker_client.specs.Calls.{Later, Wrote, state_seen}
+use Rattle.ks_worker_client.proofs.Moments.{same_frame, not_later}
 use Rattle.ks_assign.specs.declared.clients.Placing.{Placing}
 use Rattle.ks_assign_group.specs.Groups.{IsGoodBy}
 use Rattle.ks_assign_group.specs.Laws.{ArePlaces}
 use Rattle.ks_assign_group.proofs.Places.{good_places}
 use Rattle.ks_worker_state.specs.Topology.{RunsTopology}
+use Rattle.ks_worker_turn.specs.Beginning.{HasOffered}
 use Rattle.ks_worker_turn.specs.Placing.{PlacesBy, MayOffer}
 
 -- a placing that serves goes on to serve
@@ -55,3 +62,39 @@ pub may_offers : {W : Type 0} (plan : W → TaskPlan) (good : W → PlacementTes
     RunsTopology hash d (setup_in plan frame) → PlacesBy good placing d frame → IfSome o (IsGoodBy (changelog_numbers (plan_of d)) (tasks (plan_of d)) placing told) → IfSome o (MayOffer plan good frame told)
 may_offers plan good hash d placing frame told None runs places is = tt
 may_offers plan good hash d placing frame told (Some a) runs places is = may_offer plan good hash d placing frame told a runs places is
+
+-- ---- offered
+pub has_one : (o : Option Assignment) → is_some o ≡ true → o ≢ None
+has_one None e none = absurd cc
+has_one (Some a) e none = absurd cc
+
+pub has_none : (o : Option Assignment) → is_some o ≡ false → o ≡ None
+has_none None e = refl
+has_none (Some a) e = absurd cc
+
+pub offered_now : {W : Type 0} (plan : W → TaskPlan) (old new : PassView Entry (Frame W)) (w generation : ℕ) (a : Assignment) (reply : Reply) (Then : Type 0) → Later plan old new → Wrote plan old new (Assign w generation a) reply →
+    (reply ≡ Truth true → Then) → HasOffered plan old new w generation a Then
+offered_now plan old new w generation a reply Then l wrote taken = record {
+  moment = new;
+  reply = reply;
+  wrote = wrote;
+  before = not_later plan new (subst (λ f. IsHistory (setup_in plan f) new.seen) (sym (same_frame plan old new l)) (subst (IsHistory (setup_in plan old.frame)) (sym l.seen) l.history));
+  taken = taken;
+}
+
+-- what wasn't taken wasn't answered true
+pub not_taken : (n : Result Bool Refused) (b : Bool) → n ≡ Ok b → b ≡ false → truth_or n ≡ Truth true → ⊥
+not_taken (Ok true) b is e t = cc
+not_taken (Ok false) b is e t = cc
+not_taken (Err r) b is e t = cc
+
+pub was_refused : (n : Result Bool Refused) → ((b : Bool) → n ≡ Ok b → ⊥) → truth_or n ≡ Truth true → ⊥
+was_refused (Ok b) never t = never b refl
+was_refused (Err r) never t = cc
+
+-- what is said of an offer
+pub of_offer : (o : Option Assignment) (a : Assignment) (P : Assignment → Type 0) → o ≡ Some a → P a → IfSome o P
+of_offer o a P is h = subst (λ q. IfSome q P) (sym is) h
+
+pub of_none : (o : Option Assignment) (P : Assignment → Type 0) → o ≡ None → IfSome o P
+of_none o P is = subst (λ q. IfSome q P) (sym is) tt

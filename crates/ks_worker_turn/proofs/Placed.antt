@@ -1,5 +1,5 @@
 -- What a worker keeps while it takes its places.
-use Rattle.std.proofs.Common.{◌≡◌, ◌≤◌, ◌<◌, ℕ, zero, suc, ◌||◌, Bool, true, false, List, [], ◌∷◌, length, Option, Some, None, Result, Ok, Err, refl, sym, ap, subst, ◌∙◌, arith}
+use Rattle.std.proofs.Common.{◌≡◌, ◌≤◌, ◌<◌, ℕ, zero, suc, ◌+◌, ◌||◌, Bool, true, false, List, [], ◌∷◌, length, Option, Some, None, Result, Ok, Err, refl, sym, ap, subst, ◌∙◌, arith}
 use Rattle.std.specs.Prelude.{OnOk, IfOk, IfErr, IfSome, IsNone, slice_index_or}
 use Rattle.std.specs.List.{All}
 use Rattle.std.proofs.lemmas.List.Elements.{All-nil}
@@ -16,7 +16,7 @@ use Rattle.ks_history.specs.Machine.{TaskPlan, IsNetwork}
 use Rattle.ks_history.specs.State.{Setup, has_task}
 use Rattle.ks_history.specs.History.{at}
 use Rattle.ks_history.specs.Follows.{ReplicaView, ReplicaFollows}
-use Rattle.ks_history.proofs.Names.{same_task-refl}
+use Rattle.ks_history.proofs.Names.{same_task-refl, same_task-is}
 use Rattle.ks_law_restore.specs.Replicas.{fresh_replica}
 use Rattle.ks_law_restore.proofs.Replicas.{replica_starts}
 use Rattle.ks_law_sharing.specs.Tasks.{HasSeen}
@@ -38,9 +38,11 @@ use Rattle.ks_worker_state.specs.Standbys.{IsStandby}
 use Rattle.ks_worker_state.specs.Tasks.{IsHeldTask}
 use Rattle.ks_worker_state.specs.Topology.{RunsTopology}
 use Rattle.ks_worker_state.specs.Worker.{IsWorker}
-use Rattle.ks_worker_state.specs.State.{task_names}
+use Rattle.ks_worker_state.specs.Names.{task_names, replica_names, times, AreHeldOnce}
+use Rattle.ks_worker_state.proofs.Names.{times-none}
 use Rattle.ks_worker_state.proofs.Workers.{worker_later}
 use Rattle.ks_worker_turn.specs.Lists.{HasPut, HasTaken}
+use Rattle.ks_worker_turn.proofs.Holding.{replicas_put, replicas_taken, tasks_put, times_same, times_other}
 use Rattle.ks_worker_turn.proofs.Listing.{all_put, all_taken, one_taken, names_put, none_of}
 
 -- what holds whatever was answered
@@ -48,38 +50,68 @@ pub where_ok : {A E P : Type 0} (r : Result A E) → P → OnOk r P
 where_ok (Ok x) p = p
 where_ok (Err e) p = tt
 
+-- what follows from an answer
+pub ok_then : {A E Q : Type 0} (r : Result A E) (P : A → Type 0) → ((x : A) → P x → Q) → IfOk r P → OnOk r Q
+ok_then (Ok x) P f h = f x h
+ok_then (Err e) P f h = tt
+
+pub if_ok_with : {A E : Type 0} {P : A → Type 0} (r : Result A E) → ((x : A) → P x) → IfOk r P
+if_ok_with (Ok x) f = f x
+if_ok_with (Err e) f = tt
+
+pub ok_both : {A E P Q R : Type 0} (r : Result A E) → (P → Q → R) → OnOk r P → OnOk r Q → OnOk r R
+ok_both (Ok x) f p q = f p q
+ok_both (Err e) f p q = tt
+
+-- with one more name, which none has
+once_more : (ts : List Task) (rs : List Replica) (t : TaskId) → AreHeldOnce ts rs → has_task t (task_names ts) ≡ false → has_task t (replica_names rs) ≡ false → (u : TaskId) →
+    times u (t ∷ []) + (times u (task_names ts) + times u (replica_names rs)) ≤ 1
+once_more ts rs t once none apart u = by (same_task u t) refl
+  where
+    by : (b : Bool) → same_task u t ≡ b → times u (t ∷ []) + (times u (task_names ts) + times u (replica_names rs)) ≤ 1
+    by true e =
+        let one = times-none u (task_names ts) (ap (λ v. has_task v (task_names ts)) (same_task-is u t e) ∙ none) in
+        let two = times-none u (replica_names rs) (ap (λ v. has_task v (replica_names rs)) (same_task-is u t e) ∙ apart) in
+        omega (arith, times_same u t e, one, two)
+    by false e = omega (arith, times_other u t e, once u)
+
 -- ---- other lists, at the same moment
 module _ {W : Type 0} (plan : W → TaskPlan) (d : DraftView) (pass : PassView Entry (Frame W)) (m : Member) (last : ℕ) (numbers : List (PartId × ℕ)) where
-  pub with_replicas : (ts : List Task) (rs new : List Replica) → All (IsStandby (setup_in plan pass.frame) pass.seen) new → IsWorker plan d pass m last numbers ts rs → IsWorker plan d pass m last numbers ts new
-  with_replicas ts rs new all w = record {
+  pub with_replicas : (ts : List Task) (rs new : List Replica) → AreHeldOnce ts new → All (IsStandby (setup_in plan pass.frame) pass.seen) new → IsWorker plan d pass m last numbers ts rs → IsWorker plan d pass m last numbers ts new
+  with_replicas ts rs new once all w = record {
     number = w.number;
     instance = w.instance;
     seen = w.seen;
     producer = w.producer;
     alone = w.alone;
     names = w.names;
+    once = once;
     tasks_are = w.tasks_are;
     replicas_are = all;
   }
 
   pub without_one : (ts : List Task) (rs new : List Replica) (r : Replica) → HasTaken rs r new → IsWorker plan d pass m last numbers ts rs → IsWorker plan d pass m last numbers ts new
-  without_one ts rs new r taken w = with_replicas ts rs new (all_taken (IsStandby (setup_in plan pass.frame) pass.seen) rs new r taken w.replicas_are) w
+  without_one ts rs new r taken w = with_replicas ts rs new (λ u. omega (arith, w.once u, replicas_taken u rs new r taken)) (all_taken (IsStandby (setup_in plan pass.frame) pass.seen) rs new r taken w.replicas_are) w
 
   pub its_standby : (ts : List Task) (rs new : List Replica) (r : Replica) → HasTaken rs r new → IsWorker plan d pass m last numbers ts rs → IsStandby (setup_in plan pass.frame) pass.seen r
   its_standby ts rs new r taken w = one_taken (IsStandby (setup_in plan pass.frame) pass.seen) rs new r taken w.replicas_are
 
-  pub with_one : (ts : List Task) (rs new : List Replica) (r : Replica) → IsStandby (setup_in plan pass.frame) pass.seen r → HasPut rs r new → IsWorker plan d pass m last numbers ts rs → IsWorker plan d pass m last numbers ts new
-  with_one ts rs new r standby put w = with_replicas ts rs new (all_put (IsStandby (setup_in plan pass.frame) pass.seen) rs new r put w.replicas_are standby) w
+  pub with_one : (ts : List Task) (rs new : List Replica) (r : Replica) → has_task r.id (task_names ts) ≡ false → has_task r.id (replica_names rs) ≡ false → IsStandby (setup_in plan pass.frame) pass.seen r → HasPut rs r new → IsWorker plan d pass m last numbers ts rs → IsWorker plan d pass m last numbers ts new
+  with_one ts rs new r none apart standby put w =
+      with_replicas ts rs new (λ u. omega (arith, once_more ts rs r.id w.once none apart u, replicas_put u rs new r put)) (all_put (IsStandby (setup_in plan pass.frame) pass.seen) rs new r put w.replicas_are standby) w
 
-  pub with_task : (ts new : List Task) (rs : List Replica) (t : Task) (r : Replica) → m.is_member ≡ true → (task_view t).task ≡ r.id → has_task r.id (task_names ts) ≡ false → IsHeldTask d (setup_in plan pass.frame) pass.seen m last t → HasPut ts t new →
+  pub with_task : (ts new : List Task) (rs : List Replica) (t : Task) (r : Replica) → m.is_member ≡ true → (task_view t).task ≡ r.id → has_task r.id (task_names ts) ≡ false → has_task r.id (replica_names rs) ≡ false → IsHeldTask d (setup_in plan pass.frame) pass.seen m last t → HasPut ts t new →
       IsWorker plan d pass m last numbers ts rs → IsWorker plan d pass m last numbers new rs
-  with_task ts new rs t r inside named none held put w = record {
+  with_task ts new rs t r inside named none apart held put w = record {
     number = w.number;
     instance = w.instance;
     seen = w.seen;
     producer = w.producer;
     alone = λ out. absurd (true≢false (sym inside ∙ out));
     names = names_put ts new t put w.names (none_of (task_view t).task ts (subst (λ u. has_task u (task_names ts) ≡ false) (sym named) none));
+    once = λ u.
+        let name : times u ((task_view t).task ∷ []) ≡ times u (r.id ∷ []) = ap (λ n. times u (n ∷ [])) named in
+        omega (arith, once_more ts rs r.id w.once none apart u, tasks_put u ts new t put, name);
     tasks_are = all_put (IsHeldTask d (setup_in plan pass.frame) pass.seen m last) ts new t put w.tasks_are held;
     replicas_are = w.replicas_are;
   }
@@ -94,6 +126,7 @@ module _ {W : Type 0} (plan : W → TaskPlan) (d : DraftView) (pass : PassView E
     producer = record { past = w.producer.past; idle = w.producer.idle; numbered = w.producer.numbered };
     alone = w.alone;
     names = w.names;
+    once = w.once;
     tasks_are = subst (All (IsHeldTask d (setup_in plan pass.frame) pass.seen (record m { generation = g }) last)) (sym none) (All-nil (IsHeldTask d (setup_in plan pass.frame) pass.seen (record m { generation = g }) last));
     replicas_are = w.replicas_are;
   }
@@ -103,15 +136,15 @@ module _ {W : Type 0} (plan : W → TaskPlan) (d : DraftView) (old new : PassVie
   pub worker_moved : (ts : List Task) (rs : List Replica) → IsWorker plan d old m last numbers ts rs → IsWorker plan d new m now sent ts rs
   worker_moved ts rs w = subst (λ n. IsWorker plan d new m n sent ts rs) (sym same) (subst (λ n. IsWorker plan d new m last n ts rs) (sym equal) (worker_later plan old new l net d m last numbers ts rs w))
 
-  pub activated : (ts left : List Task) (rs : List Replica) (t : Task) (r : Replica) → m.is_member ≡ true → (task_view t).task ≡ r.id → has_task r.id (task_names ts) ≡ false → IsHeldTask d (setup_in plan old.frame) new.seen m last t →
+  pub activated : (ts left : List Task) (rs : List Replica) (t : Task) (r : Replica) → m.is_member ≡ true → (task_view t).task ≡ r.id → has_task r.id (task_names ts) ≡ false → has_task r.id (replica_names rs) ≡ false → IsHeldTask d (setup_in plan old.frame) new.seen m last t →
       IsWorker plan d old m last numbers ts rs → HasPut ts t left → IsWorker plan d new m now sent left rs
-  activated ts left rs t r inside named none held w put =
-      with_task plan d new m now sent ts left rs t r inside named none
+  activated ts left rs t r inside named none apart held w put =
+      with_task plan d new m now sent ts left rs t r inside named none apart
       (subst (λ f. IsHeldTask d (setup_in plan f) new.seen m now t) (sym (same_frame plan old new l)) (subst (λ n. IsHeldTask d (setup_in plan old.frame) new.seen m n t) (sym same) held)) put (worker_moved ts rs w)
 
-  pub kept_back : (ts : List Task) (rs left : List Replica) (r : Replica) → IsStandby (setup_in plan old.frame) new.seen r → IsWorker plan d old m last numbers ts rs → HasPut rs r left → IsWorker plan d new m now sent ts left
-  kept_back ts rs left r standby w put =
-      with_one plan d new m now sent ts rs left r (subst (λ f. IsStandby (setup_in plan f) new.seen r) (sym (same_frame plan old new l)) standby) put (worker_moved ts rs w)
+  pub kept_back : (ts : List Task) (rs left : List Replica) (r : Replica) → has_task r.id (task_names ts) ≡ false → has_task r.id (replica_names rs) ≡ false → IsStandby (setup_in plan old.frame) new.seen r → IsWorker plan d old m last numbers ts rs → HasPut rs r left → IsWorker plan d new m now sent ts left
+  kept_back ts rs left r none apart standby w put =
+      with_one plan d new m now sent ts rs left r none apart (subst (λ f. IsStandby (setup_in plan f) new.seen r) (sym (same_frame plan old new l)) standby) put (worker_moved ts rs w)
 
 -- want of memory, as what ends the turn
 pub halted_ok : {A E P Q : Type 0} (q : Result A Halt) (r : Result A E) → q ≡ with_halt r → (P → Q) → OnOk r P → OnOk q Q
@@ -131,6 +164,14 @@ err_said r x P is h = subst (λ q. IfErr q P) is h
 pub none_said : {A P : Type 0} (o : Option A) → o ≡ None → (IsNone o → P) → P
 none_said None e f = f refl
 none_said (Some x) e f = absurd cc
+
+-- a name that isn't there, under its other name
+pub named_as : (t u : TaskId) (names : List TaskId) → u ≡ t → has_task t names ≡ false → has_task u names ≡ false
+named_as t u names same none = ap (λ v. has_task v names) same ∙ none
+
+-- a test of the tasks that were looked through
+pub named_tasks : (t : TaskId) (seen ts : List Task) {b : Bool} → seen ≡ ts → has_task t (task_names seen) ≡ b → has_task t (task_names ts) ≡ b
+named_tasks t seen ts {b = b} is h = subst (λ l. has_task t (task_names l) ≡ b) is h
 
 -- no task has the replica's name
 pub unnamed : (t u : TaskId) (seen old new : List Task) → u ≡ t → seen ≡ old → new ≡ old → has_task t (task_names seen) ≡ false → has_task u (task_names new) ≡ false

@@ -1,5 +1,9 @@
 pub mod Acting
+pub mod Beginning
+pub mod Held
 pub mod Lists
 pub mod Places
 pub mod Placing
+pub mod Requests
 pub mod Resting
+pub mod Restored

@@ -1,9 +1,8 @@
 -- Where an assignment places a task (KIP-441: active tasks, standbys, warmups).
-use Rattle.std.specs.Prelude.{ℕ, ◌+◌, ◌==◌, ◌&&◌, ◌||◌, Bool, false, List, [], ◌∷◌}
+use Rattle.std.specs.Prelude.{ℕ, ◌==◌, ◌&&◌, ◌||◌, Bool, false, List, [], ◌∷◌}
 use Rattle.ks_row.specs.declared.record.TaskId.{TaskId}
 use Rattle.ks_row.specs.declared.assignment.Assignment.{Assignment}
 use Rattle.ks_row.specs.Parts.{same_task}
-use Rattle.ks_assign.specs.Placement.{load}
 
 -- the task is placed with the worker
 abbrev pub has_place : TaskId → ℕ → List (TaskId × ℕ) → Bool
@@ -12,7 +11,3 @@ has_place t w (p ∷ places) = (same_task t p.0 && (p.1 == w)) || has_place t w 
 
 abbrev pub is_placed : Assignment → ℕ → TaskId → Bool
 is_placed a w t = has_place t w a.active || (has_place t w a.standby || has_place t w a.warmup)
-
--- so many tasks are active with the worker, and so many others are standbys or warmups there
-abbrev pub places_so_many : Assignment → ℕ → ℕ → ℕ → Bool
-places_so_many a w tasks replicas = (tasks == load w a.active) && (replicas == load w a.standby + load w a.warmup)

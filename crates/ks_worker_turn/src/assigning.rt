@@ -1,5 +1,5 @@
 //! The assignment of a generation.
-ghost use Rattle.std.specs.Prelude.{◌≡◌, ◌≤◌, true, IfOk, IfSome};
+ghost use Rattle.std.specs.Prelude.{◌≡◌, ◌≢◌, ◌⊎◌, ◌≤◌, ℕ, true, [], Some, None, IfOk, IfSome, OnOk};
 ghost use Rattle.ks_history.specs.History.{are_places};
 ghost use Rattle.ks_history.specs.Reads.{status};
 ghost use Rattle.ks_plan.specs.Infos.{changelog_numbers};
@@ -9,9 +9,12 @@ ghost use Rattle.ks_cluster.specs.Placed.{IsGoodAt};
 ghost use Rattle.ks_shared.specs.Calls.{setup_in, good_in};
 ghost use Rattle.ks_worker_client.specs.Turns.{counts_after};
 ghost use Rattle.ks_worker_client.specs.Calls.{MayCall, Later, state_seen};
-ghost use Rattle.ks_assign_group.specs.Groups.{IsGoodBy};
+ghost use Rattle.ks_worker_state.specs.Gained.{HasMadeOnly};
+ghost use Rattle.ks_assign_group.specs.Groups.{IsGoodBy, clients_of};
 ghost use Rattle.ks_worker_turn.specs.Acting.{WasAssigned};
+ghost use Rattle.ks_worker_turn.specs.Beginning.{HasOffered};
 ghost use Rattle.ks_worker_turn.specs.Placing.{MayOffer};
+ghost use Rattle.ks_worker_turn.specs.Requests.{is_of_turn};
 
 use ks_assign::Placing;
 use ks_assign_group::assign_group;
@@ -34,8 +37,10 @@ pub fn new_assignment(
     told: &Status,
 ) -> Result<Option<Assignment>, AllocError>
     requires threads { 1 ≤ placing.now.threads }
-    ensures { IfOk result (λ o. IfSome o (IsGoodBy (changelog_numbers (plan_in topology.now))
+    ensures good { IfOk result (λ o. IfSome o (IsGoodBy (changelog_numbers (plan_in topology.now))
         (tasks (plan_in topology.now)) placing.now told.now)) }
+    ensures none { IfOk result (λ o. o ≡ None → (told.now.assignment ≢ None)
+        ⊎ (clients_of placing.now.threads told.now.members ≡ [])) }
 {
     if told.assignment.is_some() {
         return Ok(None);
@@ -63,8 +68,12 @@ fn offer_assignment<R: Wait, W: Work, G: Gate>(
         (setup_in W.plan client.old.pass.frame) client.old.pass.seen generation assignment }
     ensures gate { client.new.gate ≡ counts_after client.old.gate result }
     ensures later { Later W.plan client.old.pass client.new.pass }
+    ensures made { OnOk result ((instance : ℕ) → HasMadeOnly (is_of_turn number instance)
+        client.old.pass client.new.pass) }
     ensures told { IfOk result (λ o. IfSome o (λ a. WasAssigned W.plan client.old.pass
         client.new.pass generation)) }
+    ensures offered { IfOk result (λ o. HasOffered W.plan client.old.pass client.new.pass
+        number generation assignment (o ≡ Some assignment)) }
 {
     let answer = client.assign(rt, alloc, shared, number, generation, &assignment)?;
     let Ok(taken) = answer else {
@@ -96,8 +105,14 @@ pub fn assignment_of<R: Wait, W: Work, G: Gate>(
     requires offer { IfSome offer (MayOffer W.plan W.good client.old.pass.frame told) }
     ensures gate { client.new.gate ≡ counts_after client.old.gate result }
     ensures later { Later W.plan client.old.pass client.new.pass }
+    ensures made { OnOk result ((instance : ℕ) → HasMadeOnly (is_of_turn number instance)
+        client.old.pass client.new.pass) }
     ensures told { IfOk result (λ o. IfSome o (λ a. WasAssigned W.plan client.old.pass
         client.new.pass told.generation)) }
+    ensures given { IfOk result (λ o. told.assignment ≢ None → o ≡ told.assignment) }
+    ensures offered { IfOk result (λ o. told.assignment ≡ None
+        → IfSome offer (λ a. HasOffered W.plan
+        client.old.pass client.new.pass number told.generation a (o ≡ Some a))) }
 {
     if told.assignment.is_some() {
         return Ok(told.assignment);

@@ -1,13 +1,16 @@
 //! A worker's turn up to its act.
 ghost use Rattle.std.specs.Prelude.{◌≡◌, ◌⊎◌, ◌<◌, [], OnOk};
 ghost use Rattle.ks_history.specs.Reads.{status};
-ghost use Rattle.ks_topo.specs.Topologies.{draft_of};
+ghost use Rattle.ks_plan.specs.Layout.{tasks};
+ghost use Rattle.ks_topo.specs.Topologies.{draft_of, plan_in};
 ghost use Rattle.ks_shared.specs.Calls.{setup_in};
 ghost use Rattle.ks_worker_client.specs.Turns.{counts_after};
 ghost use Rattle.ks_worker_client.specs.Calls.{state_seen};
 ghost use Rattle.ks_worker_state.specs.State.{IsWorkerState, LaterState, MayAct};
 ghost use Rattle.ks_worker_turn.specs.Acting.{WasAssigned};
+ghost use Rattle.ks_worker_turn.specs.Beginning.{HasPlaced, HasBegun};
 ghost use Rattle.ks_worker_turn.specs.Placing.{PlacesBy};
+ghost use Rattle.ks_worker_turn.specs.Requests.{MakesTurn};
 
 use crate::assigning::{assignment_of, new_assignment};
 use crate::heeding::heed_status;
@@ -44,10 +47,14 @@ fn place_tasks<H: Hash128, R: Wait, W: Work, G: Gate>(
     ensures gate { state.new.session.client.gate
         ≡ counts_after state.old.session.client.gate result }
     ensures later { LaterState W.plan state.old state.new }
+    ensures made { OnOk result (MakesTurn state.old state.new) }
     ensures worker { OnOk result (IsWorkerState W.plan (draft_of topology.now) state.new) }
     ensures generation { OnOk result ((state.new.member.generation ≡ state.old.member.generation)
         ⊎ WasAssigned W.plan state.old.session.client.pass state.new.session.client.pass
         state.new.member.generation) }
+    ensures placed { OnOk result (HasPlaced W.plan placing.now.threads
+        (tasks (plan_in topology.now))
+        state.old state.new) }
 {
     let generation = told.generation;
     let offer = or_halt(new_assignment(alloc, topology, placing, &told))?;
@@ -77,10 +84,13 @@ pub fn begin_turn<H: Hash128, R: Wait, W: Work, G: Gate>(
     ensures gate { state.new.session.client.gate
         ≡ counts_after state.old.session.client.gate result }
     ensures later { LaterState W.plan state.old state.new }
+    ensures made { OnOk result (MakesTurn state.old state.new) }
     ensures worker { OnOk result (IsWorkerState W.plan (draft_of topology.now) state.new) }
     ensures generation { OnOk result ((state.new.member.generation ≡ state.old.member.generation)
         ⊎ WasAssigned W.plan state.old.session.client.pass state.new.session.client.pass
         state.new.member.generation) }
+    ensures begun { OnOk result (HasBegun W.plan placing.now.threads (tasks (plan_in topology.now))
+        state.old state.new) }
 {
     join_group(rt, alloc, shared, state)?;
     let status = heed_status(rt, alloc, shared, state)?;

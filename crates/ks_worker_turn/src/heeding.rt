@@ -7,7 +7,7 @@ ghost use Rattle.ks_worker_client.specs.Turns.{counts_after};
 ghost use Rattle.ks_worker_client.specs.Calls.{MayCall, state_seen};
 ghost use Rattle.ks_worker_state.specs.State.{LaterState};
 ghost use Rattle.ks_worker_turn.specs.Acting.{KeepsWorker};
-ghost use Rattle.ks_worker_turn.specs.Resting.{KeepsStandbys, HaveRested};
+ghost use Rattle.ks_worker_turn.specs.Resting.{HaveLeft, is_generation_over, HaveRested};
 
 use crate::lists::put_replica;
 use ks_cluster::Work;
@@ -23,7 +23,7 @@ use std::sync::Wait;
 
 // A task rests: of a clean one the replica is kept, a dirty one is let go.
 fn rest_task(replicas: &mut Vec<Replica>, task: Task) -> Result<(), AllocError>
-    ensures { OnOk result (KeepsStandbys (task ∷ []) replicas.old.items replicas.new.items) }
+    ensures { OnOk result (HaveLeft (task ∷ []) replicas.old.items replicas.new.items) }
 {
     match task.rest() {
         Ok(replica) => put_replica(replicas, replica),
@@ -34,7 +34,7 @@ fn rest_task(replicas: &mut Vec<Replica>, task: Task) -> Result<(), AllocError>
 // All tasks rest.
 fn rest_tasks(tasks: &mut Vec<Task>, replicas: &mut Vec<Replica>) -> Result<(), AllocError>
     ensures tasks { OnOk result (tasks.new.items ≡ []) }
-    ensures replicas { OnOk result (KeepsStandbys tasks.old.items replicas.old.items
+    ensures replicas { OnOk result (HaveLeft tasks.old.items replicas.old.items
         replicas.new.items) }
 {
     while let Some(task) = tasks.pop() {
@@ -60,8 +60,7 @@ fn rest_where_over(
 
 // Whether a generation is over for a worker: there is a newer one than its own, or the group doesn't list it any more.
 fn is_over(own: u64, generation: u64, listed: bool) -> bool
-    ensures newer { own < generation → result ≡ true }
-    ensures unlisted { listed ≡ false → result ≡ true }
+    ensures { result ≡ is_generation_over own generation listed }
 {
     own < generation || !listed
 }
@@ -94,12 +93,18 @@ pub fn heed_status<R: Wait, W: Work, G: Gate>(
     ensures gate { state.new.session.client.gate
         ≡ counts_after state.old.session.client.gate result }
     ensures later { LaterState W.plan state.old state.new }
+    ensures made { state.new.session.client.pass.made ≡ state.old.session.client.pass.made }
     ensures worker { OnOk result (KeepsWorker W.plan state.old state.new) }
     ensures status { IfOk result (λ s. s ≡ status
         (setup_in W.plan state.old.session.client.pass.frame)
         (state_seen W.plan state.new.session.client.pass)) }
     ensures member { IfOk result (λ s. state.new.member
         ≡ record state.old.member { is_member = has_number state.old.member.number s.members }) }
+    ensures rested { IfOk result (λ s. HaveRested
+        (is_generation_over state.old.member.generation s.generation
+        (has_number state.old.member.number s.members))
+        state.old.tasks.items state.old.replicas.items
+        state.new.tasks.items state.new.replicas.items) }
     ensures newer { IfOk result (λ s. state.old.member.generation < s.generation
         → state.new.tasks.items ≡ []) }
 {

@@ -4,6 +4,7 @@
 
 mod assigning;
 mod beginning;
+mod having;
 mod heeding;
 mod joining;
 mod lists;

@@ -1,7 +1,7 @@
 //! Tasks and replicas in the order of their names.
-ghost use Rattle.std.specs.Prelude.{◌≡◌, ◌≤◌, length, OnOk, IfSome, IsNone};
+ghost use Rattle.std.specs.Prelude.{◌≡◌, ◌≤◌, false, length, OnOk, IfSome, IsNone};
 ghost use Rattle.ks_history.specs.State.{has_task};
-ghost use Rattle.ks_worker_state.specs.State.{task_names};
+ghost use Rattle.ks_worker_state.specs.Names.{task_names, replica_names};
 ghost use Rattle.ks_worker_turn.specs.Lists.{HasPut, HasTaken};
 
 use ks_row::TaskId;
@@ -60,9 +60,10 @@ pub fn take_replica(replicas: &mut Vec<Replica>, task: TaskId) -> Option<Replica
     ensures taken { IfSome result (λ r. HasTaken replicas.old.items r replicas.new.items) }
     ensures named { IfSome result (λ r. r.id ≡ task) }
     ensures none { IsNone result → replicas.new.items ≡ replicas.old.items }
+    ensures absent { IsNone result → has_task task (replica_names replicas.old.items) ≡ false }
 {
     for i in 0..replicas.len() {
-        if replicas[i].id().is(task) {
+        if task.is(replicas[i].id()) {
             return Some(replicas.remove(i));
         }
     }

@@ -1,8 +1,11 @@
 //! A worker parks the replicas that it has no place for.
-ghost use Rattle.std.specs.Prelude.{◌≡◌, OnOk};
-ghost use Rattle.ks_topo.specs.Topologies.{draft_of};
+ghost use Rattle.std.specs.Prelude.{◌≡◌, [], ◌∷◌, OnOk};
+ghost use Rattle.ks_plan.specs.Layout.{tasks};
+ghost use Rattle.ks_topo.specs.Topologies.{draft_of, plan_in};
 ghost use Rattle.ks_worker_client.specs.Turns.{counts_after};
 ghost use Rattle.ks_worker_state.specs.State.{IsWorkerState, LaterState, MayAct};
+ghost use Rattle.ks_worker_turn.specs.Held.{HasParkedOne, HasParked};
+ghost use Rattle.ks_worker_turn.specs.Requests.{MakesTurn};
 
 use crate::lists::take_replica;
 use crate::placing::is_placed;
@@ -30,9 +33,13 @@ fn park_replica<H: Hash128, R: Wait, W: Work, G: Gate>(
     ensures gate { state.new.session.client.gate
         ≡ counts_after state.old.session.client.gate result }
     ensures later { LaterState W.plan state.old state.new }
+    ensures made { OnOk result (MakesTurn state.old state.new) }
     ensures worker { OnOk result (IsWorkerState W.plan (draft_of topology.now) state.new) }
     ensures member { state.new.member ≡ state.old.member }
     ensures tasks { state.new.tasks.items ≡ state.old.tasks.items }
+    ensures parked { OnOk result (HasParkedOne state.old.member.instance task
+        state.old.session.client.pass state.new.session.client.pass
+        state.old.replicas.items state.new.replicas.items) }
 {
     let Some(replica) = take_replica(&mut state.replicas, task) else {
         return Ok(());
@@ -57,9 +64,14 @@ fn park_unplaced<H: Hash128, R: Wait, W: Work, G: Gate>(
     ensures gate { state.new.session.client.gate
         ≡ counts_after state.old.session.client.gate result }
     ensures later { LaterState W.plan state.old state.new }
+    ensures made { OnOk result (MakesTurn state.old state.new) }
     ensures worker { OnOk result (IsWorkerState W.plan (draft_of topology.now) state.new) }
     ensures member { state.new.member ≡ state.old.member }
     ensures tasks { state.new.tasks.items ≡ state.old.tasks.items }
+    ensures parked { OnOk result (HasParked assignment.now state.old.member.number
+        state.old.member.instance (task ∷ [])
+        state.old.session.client.pass state.new.session.client.pass
+        state.old.replicas.items state.new.replicas.items) }
 {
     if is_placed(assignment, state.member.number, task) {
         return Ok(());
@@ -82,9 +94,14 @@ pub fn park_others<H: Hash128, R: Wait, W: Work, G: Gate>(
     ensures gate { state.new.session.client.gate
         ≡ counts_after state.old.session.client.gate result }
     ensures later { LaterState W.plan state.old state.new }
+    ensures made { OnOk result (MakesTurn state.old state.new) }
     ensures worker { OnOk result (IsWorkerState W.plan (draft_of topology.now) state.new) }
     ensures member { state.new.member ≡ state.old.member }
     ensures tasks { state.new.tasks.items ≡ state.old.tasks.items }
+    ensures parked { OnOk result (HasParked assignment.now state.old.member.number
+        state.old.member.instance (tasks (plan_in topology.now))
+        state.old.session.client.pass state.new.session.client.pass
+        state.old.replicas.items state.new.replicas.items) }
 {
     let tasks = topology.tasks();
     for i in 0..tasks.len() {

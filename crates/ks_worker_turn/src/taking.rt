@@ -1,17 +1,25 @@
 //! A worker takes the replicas and tasks that are placed with it.
-ghost use Rattle.std.specs.Prelude.{◌≡◌, ◌≤◌, ◌<◌, true, false, [], max, IfOk, OnOk};
+ghost use Rattle.std.specs.Prelude.{◌≡◌, ◌≤◌, ◌<◌, ℕ, true, false, [], ◌∷◌, max, IfOk, OnOk};
 ghost use Rattle.ks_history.specs.State.{has_task};
-ghost use Rattle.ks_topo.specs.Topologies.{draft_of};
+ghost use Rattle.ks_plan.specs.Layout.{tasks};
+ghost use Rattle.ks_topo.specs.Topologies.{draft_of, plan_in};
 ghost use Rattle.ks_shared.specs.Calls.{setup_in};
 ghost use Rattle.ks_worker_client.specs.Turns.{counts_after};
 ghost use Rattle.ks_worker_client.specs.Calls.{MayCall, Later, state_seen};
+ghost use Rattle.ks_worker_state.specs.Gained.{HasMadeOnly};
+ghost use Rattle.ks_worker_state.specs.Names.{task_names, replica_names};
 ghost use Rattle.ks_worker_state.specs.Standbys.{IsStandby};
-ghost use Rattle.ks_worker_state.specs.State.{IsWorkerState, LaterState, MayAct, task_names};
+ghost use Rattle.ks_worker_state.specs.State.{IsWorkerState, LaterState, MayAct};
 ghost use Rattle.ks_worker_state.specs.Topology.{RunsTopology};
+ghost use Rattle.ks_worker_turn.specs.Held.{AreWithout, HoldsOneMore, HoldsOnce, HoldsPlaced, HasParked, HasTakenPlaces};
+ghost use Rattle.ks_worker_turn.specs.Places.{has_place};
+ghost use Rattle.ks_worker_turn.specs.Requests.{is_of_turn, MakesTurn};
+ghost use Rattle.ks_worker_turn.specs.Restored.{KeepsTasks, IsRestored, HasRestored};
 
+use crate::having::has_places;
 use crate::lists::{has_task_of, put_replica, put_task, take_replica};
 use crate::parking::park_others;
-use crate::placing::{has_place, is_placed, places_so_many};
+use crate::placing::{has_place, is_placed};
 use ks_cluster::Work;
 use ks_edge::Gate;
 use ks_hash::Hash128;
@@ -41,6 +49,8 @@ fn replica_from_shelf<H: Hash128, R: Wait, W: Work, G: Gate>(
     requires task { has_task task (setup_in W.plan client.old.pass.frame).tasks ≡ true }
     ensures gate { client.new.gate ≡ counts_after client.old.gate result }
     ensures later { Later W.plan client.old.pass client.new.pass }
+    ensures made { OnOk result ((w : ℕ) → HasMadeOnly (is_of_turn w instance)
+        client.old.pass client.new.pass) }
     ensures standby { IfOk result (λ r. IsStandby (setup_in W.plan client.old.pass.frame)
         client.new.pass.seen r) }
     ensures named { IfOk result (λ r. r.id ≡ task) }
@@ -67,6 +77,7 @@ fn replica_of<H: Hash128, R: Wait, W: Work, G: Gate>(
     ensures gate { state.new.session.client.gate
         ≡ counts_after state.old.session.client.gate result }
     ensures later { LaterState W.plan state.old state.new }
+    ensures made { OnOk result (MakesTurn state.old state.new) }
     ensures worker { OnOk result (IsWorkerState W.plan (draft_of topology.now) state.new) }
     ensures member { state.new.member ≡ state.old.member }
     ensures tasks { state.new.tasks.items ≡ state.old.tasks.items }
@@ -74,6 +85,8 @@ fn replica_of<H: Hash128, R: Wait, W: Work, G: Gate>(
         (setup_in W.plan state.old.session.client.pass.frame)
         state.new.session.client.pass.seen r) }
     ensures named { IfOk result (λ r. r.id ≡ task) }
+    ensures without { OnOk result (AreWithout task state.old.replicas.items
+        state.new.replicas.items) }
 {
     match take_replica(&mut state.replicas, task) {
         Some(replica) => Ok(replica),
@@ -102,12 +115,17 @@ fn activate<H: Hash128, R: Wait, W: Work, G: Gate>(
     requires standby { IsStandby (setup_in W.plan state.old.session.client.pass.frame)
         state.old.session.client.pass.seen replica }
     requires none { has_task replica.id (task_names state.old.tasks.items) ≡ false }
+    requires apart { has_task replica.id (replica_names state.old.replicas.items) ≡ false }
     requires member { state.old.member.is_member ≡ true }
     ensures gate { state.new.session.client.gate
         ≡ counts_after state.old.session.client.gate result }
     ensures later { LaterState W.plan state.old state.new }
+    ensures made { OnOk result (MakesTurn state.old state.new) }
     ensures worker { OnOk result (IsWorkerState W.plan (draft_of topology.now) state.new) }
     ensures member { state.new.member ≡ state.old.member }
+    ensures held { OnOk result (HoldsOneMore replica.id state.old state.new) }
+    ensures kept { OnOk result (KeepsTasks state.old state.new) }
+    ensures restored { OnOk result (IsRestored W.plan replica.id state.old state.new) }
 {
     let answer = restore::<H, R, W, G>(
         rt,
@@ -141,8 +159,12 @@ fn take_place<H: Hash128, R: Wait, W: Work, G: Gate>(
     ensures gate { state.new.session.client.gate
         ≡ counts_after state.old.session.client.gate result }
     ensures later { LaterState W.plan state.old state.new }
+    ensures made { OnOk result (MakesTurn state.old state.new) }
     ensures worker { OnOk result (IsWorkerState W.plan (draft_of topology.now) state.new) }
     ensures member { state.new.member ≡ state.old.member }
+    ensures held { OnOk result (HoldsOnce task state.old state.new) }
+    ensures kept { OnOk result (KeepsTasks state.old state.new) }
+    ensures restored { OnOk result (is_active ≡ true → IsRestored W.plan task state.old state.new) }
 {
     if has_task_of(&state.tasks, task) {
         return Ok(());
@@ -156,7 +178,9 @@ fn take_place<H: Hash128, R: Wait, W: Work, G: Gate>(
 
 // Whether a task is active at a member. At a worker that was removed from its group none is.
 fn is_active_at(assignment: &Assignment, member: &Member, task: TaskId) -> bool
-    ensures { result ≡ true → member.now.is_member ≡ true }
+    ensures member { result ≡ true → member.now.is_member ≡ true }
+    ensures active { member.now.is_member ≡ true
+        → has_place task member.now.number assignment.now.active ≡ true → result ≡ true }
 {
     if !member.is_member {
         return false;
@@ -180,8 +204,14 @@ fn take_assigned<H: Hash128, R: Wait, W: Work, G: Gate>(
     ensures gate { state.new.session.client.gate
         ≡ counts_after state.old.session.client.gate result }
     ensures later { LaterState W.plan state.old state.new }
+    ensures made { OnOk result (MakesTurn state.old state.new) }
     ensures worker { OnOk result (IsWorkerState W.plan (draft_of topology.now) state.new) }
     ensures member { state.new.member ≡ state.old.member }
+    ensures held { OnOk result (HoldsPlaced assignment.now state.old.member.number (task ∷ [])
+        state.old state.new) }
+    ensures kept { OnOk result (KeepsTasks state.old state.new) }
+    ensures restored { OnOk result (HasRestored W.plan assignment.now (task ∷ [])
+        state.old state.new) }
 {
     let number = state.member.number;
     if !is_placed(assignment, number, task) {
@@ -204,8 +234,13 @@ fn take_all<H: Hash128, R: Wait, W: Work, G: Gate>(
     ensures gate { state.new.session.client.gate
         ≡ counts_after state.old.session.client.gate result }
     ensures later { LaterState W.plan state.old state.new }
+    ensures made { OnOk result (MakesTurn state.old state.new) }
     ensures worker { OnOk result (IsWorkerState W.plan (draft_of topology.now) state.new) }
     ensures member { state.new.member ≡ state.old.member }
+    ensures held { OnOk result (HoldsPlaced assignment.now state.old.member.number
+        (tasks (plan_in topology.now)) state.old state.new) }
+    ensures restored { OnOk result (HasRestored W.plan assignment.now (tasks (plan_in topology.now))
+        state.old state.new) }
 {
     let tasks = topology.tasks();
     for i in 0..tasks.len() {
@@ -214,8 +249,7 @@ fn take_all<H: Hash128, R: Wait, W: Work, G: Gate>(
     Ok(())
 }
 
-// Has all that an assignment of its own generation places with the worker. In that generation it holds nothing else, so where the numbers
-// are right nothing is missing.
+// Has all that an assignment of its own generation places with the worker; looks for nothing where all is there.
 fn take_missing<H: Hash128, R: Wait, W: Work, G: Gate>(
     rt: &R,
     alloc: Global,
@@ -228,11 +262,17 @@ fn take_missing<H: Hash128, R: Wait, W: Work, G: Gate>(
     ensures gate { state.new.session.client.gate
         ≡ counts_after state.old.session.client.gate result }
     ensures later { LaterState W.plan state.old state.new }
+    ensures made { OnOk result (MakesTurn state.old state.new) }
     ensures worker { OnOk result (IsWorkerState W.plan (draft_of topology.now) state.new) }
     ensures member { state.new.member ≡ state.old.member }
+    ensures held { OnOk result (HoldsPlaced assignment.now state.old.member.number
+        (tasks (plan_in topology.now)) state.old state.new) }
+    ensures restored { OnOk result (HasRestored W.plan assignment.now (tasks (plan_in topology.now))
+        state.old state.new) }
 {
     let number = state.member.number;
-    if places_so_many(assignment, number, state.tasks.len(), state.replicas.len()) {
+    let tasks = state.tasks.as_slice();
+    if has_places(assignment, number, tasks, state.replicas.as_slice()) {
         return Ok(());
     }
     take_all::<H, R, W, G>(rt, alloc, topology, shared, state, assignment)
@@ -254,9 +294,17 @@ fn enter_generation<H: Hash128, R: Wait, W: Work, G: Gate>(
     ensures gate { state.new.session.client.gate
         ≡ counts_after state.old.session.client.gate result }
     ensures later { LaterState W.plan state.old state.new }
+    ensures made { OnOk result (MakesTurn state.old state.new) }
     ensures worker { OnOk result (IsWorkerState W.plan (draft_of topology.now) state.new) }
     ensures member { OnOk result (state.new.member
         ≡ record state.old.member { generation = max state.old.member.generation generation }) }
+    ensures tasks { state.new.tasks.items ≡ state.old.tasks.items }
+    ensures same { generation ≤ state.old.member.generation
+        → state.new.replicas.items ≡ state.old.replicas.items }
+    ensures parked { OnOk result (state.old.member.generation < generation
+        → HasParked assignment.now state.old.member.number state.old.member.instance
+        (tasks (plan_in topology.now)) state.old.session.client.pass state.new.session.client.pass
+        state.old.replicas.items state.new.replicas.items) }
 {
     if generation <= state.member.generation {
         return Ok(());
@@ -287,9 +335,14 @@ pub fn take_places<H: Hash128, R: Wait, W: Work, G: Gate>(
     ensures gate { state.new.session.client.gate
         ≡ counts_after state.old.session.client.gate result }
     ensures later { LaterState W.plan state.old state.new }
+    ensures made { OnOk result (MakesTurn state.old state.new) }
     ensures worker { OnOk result (IsWorkerState W.plan (draft_of topology.now) state.new) }
     ensures member { OnOk result (state.new.member
         ≡ record state.old.member { generation = max state.old.member.generation generation }) }
+    ensures taken { OnOk result (HasTakenPlaces (tasks (plan_in topology.now)) generation
+        assignment.now state.old state.new) }
+    ensures restored { OnOk result (HasRestored W.plan assignment.now (tasks (plan_in topology.now))
+        state.old state.new) }
 {
     enter_generation::<H, R, W, G>(rt, alloc, topology, shared, state, generation, assignment)?;
     take_missing::<H, R, W, G>(rt, alloc, topology, shared, state, assignment)

@@ -38,7 +38,7 @@ work_and_close-requires-clause-may g c κs within =
     record {
       some = omega (arith, many, c.count_workers.ensures.some);
       may = all_may_run g.W.Work.plan g.W.Work.good g.H.Hash128.hash_of (draft_of c.args.topology.now) c.args.cluster lock (placing_of c.args.crew.settings) c.turns_of.result c.requires.ready.new c.requires.ready.topology
-          c.requires.ready.wanted c.requires.settings.threads.0 c.nodes-nodes.ensures.well_formed c.requires.ready.nodes c.turns_of.ensures
+          c.requires.ready.wanted c.requires.settings.threads.0 c.nodes-nodes.ensures.well_formed c.requires.ready.nodes c.turns_of.ensures.few
           (λ m. m.worker.state) (λ m. m.worker.placing) c.in_ok-members.members.items others c.in_ok-members.ensures.passes fresh c.in_ok-members.ensures.enlisted c.in_ok-members.ensures.placing;
       feed = fresh_feeder g.W.Work.plan lock (draft_of c.args.topology.now) c.args.cluster _ first c.requires.ready.counts_are c.requires.ready.places c.requires.ready.records c.requires.ready.past c.requires.ready.room;
     }

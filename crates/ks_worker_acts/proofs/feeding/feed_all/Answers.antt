@@ -10,6 +10,7 @@ pub loop-i-init : goal.loop-i-init
 loop-i-init g c = record {
   later = same_state g.W.Work.plan c.args.shared.now.growing.id c.args.state.now c.requires.may.call;
   gate = refl;
+  made = refl;
   same = knows_same c.args.state.now;
   tasks = refl;
   worker = c.requires.may.worker;
@@ -30,6 +31,7 @@ pub loop-i-preserved : goal.loop-i-preserved
 loop-i-preserved g c = record {
   later = state_later_twice g.W.Work.plan c.args.state.now c.loop-i.state c.feed_place.new.state c.loop-i.invariant.later c.feed_place.ensures.later;
   gate = same_counts _ _ c.feed_place.result c.in_ok-feed_place.field-0 c.in_ok-feed_place.was c.feed_place.ensures.gate ∙ c.loop-i.invariant.gate;
+  made = c.feed_place.ensures.made ∙ c.loop-i.invariant.made;
   same = knows_twice c.args.state.now c.loop-i.state c.feed_place.new.state c.loop-i.invariant.same c.feed_place.ensures.same;
   tasks = c.feed_place.ensures.tasks ∙ c.loop-i.invariant.tasks;
   worker = c.in_ok-feed_place.ensures.worker;

@@ -10,6 +10,7 @@ abbrev pub invariant-loop-i : goal.invariant-loop-i
 invariant-loop-i g l = record {
   later : LaterState g.W.Work.plan l.fn.state l.state;
   gate : l.state.session.client.gate ≡ l.fn.state.session.client.gate;
+  made : l.state.session.client.pass.made ≡ l.fn.state.session.client.pass.made;
   same : KnowsTheSame l.fn.state l.state;
   tasks : l.state.tasks ≡ l.fn.state.tasks;
   worker : IsWorkerState g.W.Work.plan (draft_of l.topology) l.state;

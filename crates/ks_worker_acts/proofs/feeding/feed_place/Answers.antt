@@ -7,7 +7,8 @@ use Rattle.ks_worker_acts.proofs.feeding.feed_place.Goals as goal
 pub returns-clause-worker : goal.returns-clause-worker
 returns-clause-worker g c =
     fed_worker g.W.Work.plan c.args.state.now.session.client.pass c.feed_once.new.client.pass c.feed_once.ensures.later c.requires.may.call.network (draft_of c.args.topology.now) c.args.state.now.member
-    c.args.state.now.session.last c.args.state.now.session.numbers.items c.args.state.now.tasks.items c.args.state.now.replicas.items c.args.index c.feed_once.new.replica c.in_ok-feed_once.ensures.fed.standby c.requires.may.worker
+    c.args.state.now.session.last c.args.state.now.session.numbers.items c.args.state.now.tasks.items c.args.state.now.replicas.items c.args.index c.index_mut-replica.result.now c.feed_once.new.replica c.requires.index c.index_mut-replica.ensures.value c.in_ok-feed_once.ensures.fed.fed.task
+    c.in_ok-feed_once.ensures.fed.standby c.requires.may.worker
 
 pub returns-clause-fed : goal.returns-clause-fed
 returns-clause-fed g c =

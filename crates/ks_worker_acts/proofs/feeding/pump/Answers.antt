@@ -2,9 +2,9 @@ use Rattle.std.proofs.Common.{[]}
 use Rattle.ks_topo.specs.Topologies.{draft_of}
 use Rattle.ks_shared.specs.Calls.{setup_in}
 use Rattle.ks_worker_state.proofs.Workers.{worker_later}
-use Rattle.ks_worker_acts.specs.Feeds.{marks_to}
+use Rattle.ks_worker_acts.specs.Feeds.{marks_of}
 use Rattle.ks_worker_acts.proofs.FedReplicas.{fed_names}
-use Rattle.ks_worker_acts.proofs.Gains.{gained_none, gained_then}
+use Rattle.ks_worker_state.proofs.Gains.{made_none, made_then}
 use Rattle.ks_worker_acts.proofs.StatesOn.{net_later}
 use Rattle.ks_worker_acts.proofs.feeding.pump.Goals as goal
 
@@ -19,6 +19,6 @@ returns-clause-names g c =
     fed_names (setup_in g.W.Work.plan c.args.state.now.session.client.pass.frame) c.args.state.now.session.client.pass.seen c.args.state.now.replicas.items c.feed_all.new.state.replicas.items c.in_ok-feed_all.ensures.fed
 
 pub returns-clause-marked : goal.returns-clause-marked
-returns-clause-marked g c = λ some.
-    gained_then c.args.state.now.session.client.pass c.feed_all.new.state.session.client.pass c.write_waiting.new.client.pass [] (marks_to 17)
-    (gained_none g.W.Work.plan c.args.state.now.session.client.pass c.feed_all.new.state.session.client.pass c.feed_all.ensures.later.later) (c.in_ok-write_waiting.ensures.marked some)
+returns-clause-marked g c =
+    made_then c.args.state.now.session.client.pass c.feed_all.new.state.session.client.pass c.write_waiting.new.client.pass [] (marks_of c.args.waiting)
+    (made_none g.W.Work.plan c.args.state.now.session.client.pass c.feed_all.new.state.session.client.pass c.feed_all.ensures.later.later c.feed_all.ensures.made) c.in_ok-write_waiting.ensures.marked

@@ -4,9 +4,9 @@ use Rattle.ks_history.specs.declared.journal.Reply.TheVariants.{Truth}
 use Rattle.ks_worker_client.proofs.Halting.{was_ok}
 use Rattle.ks_worker_client.proofs.Moments.{later_twice}
 use Rattle.ks_worker_state.specs.State.{replica_names}
-use Rattle.ks_worker_acts.specs.Gained.{HasGained}
+use Rattle.ks_worker_state.specs.Gained.{HasMade}
 use Rattle.ks_worker_acts.specs.Telling.{parks, RestsOnto}
-use Rattle.ks_worker_acts.proofs.Gains.{gained_one, gained_then}
+use Rattle.ks_worker_state.proofs.Gains.{made_one, made_then}
 use Rattle.ks_worker_acts.proofs.StatesOn.{left_standbys, left_names, left_worker}
 use Rattle.ks_worker_acts.proofs.leaving.leave.Goals as goal
 
@@ -31,9 +31,9 @@ returns-clause-left g c =
     let mid = c.park_all.new.client.pass in
     let new = c.expire.new.self.pass in
     let number = c.args.state.now.member.number in
-    subst (λ names. HasGained old new (parks c.args.state.now.member.instance names ++ Expire number ∷ []))
+    subst (λ names. HasMade old new (parks c.args.state.now.member.instance names ++ Expire number ∷ []))
     (left_names c.args.state.now.tasks.items c.replace-tasks.result.items c.args.state.now.replicas.items c.replace-replicas.result.items c.rest_tasks.new.replicas.items
     (ap (λ v. v.items) c.replace-tasks.ensures.value) (ap (λ v. v.items) c.replace-replicas.ensures.value)
     (was_ok c.rest_tasks.result (RestsOnto c.replace-tasks.result.items c.replace-replicas.result.items c.rest_tasks.new.replicas.items) c.in_ok-or_halt.field-0 (sym c.or_halt.ensures ∙ c.in_ok-or_halt.was) c.rest_tasks.ensures))
-    (gained_then old mid new (parks c.args.state.now.member.instance (replica_names c.rest_tasks.new.replicas.items)) (Expire number ∷ []) c.in_ok-park_all.ensures.parked
-    (gained_one plan mid new (Expire number) (Truth c.in_ok-expire.field-0) c.in_ok-expire.ensures.wrote))
+    (made_then old mid new (parks c.args.state.now.member.instance (replica_names c.rest_tasks.new.replicas.items)) (Expire number ∷ []) c.in_ok-park_all.ensures.parked
+    (made_one plan mid new (Expire number) (Truth c.in_ok-expire.field-0) c.in_ok-expire.ensures.wrote))

@@ -8,7 +8,7 @@ use Rattle.ks_shared.specs.Calls.{setup_in}
 use Rattle.ks_worker_client.proofs.Halting.{same_counts}
 use Rattle.ks_worker_client.proofs.Moments.{later_twice}
 use Rattle.ks_worker_state.specs.Standbys.{IsStandby}
-use Rattle.ks_worker_acts.proofs.Gains.{gained_one}
+use Rattle.ks_worker_state.proofs.Gains.{made_one}
 use Rattle.ks_worker_acts.proofs.Leavers.{parked_more}
 use Rattle.ks_worker_acts.proofs.StatesOn.{net_later, standbys_on}
 use Rattle.ks_worker_acts.proofs.leaving.park_all.Goals as goal
@@ -36,5 +36,5 @@ loop-replica-preserved g c =
       standbys = standbys_on plan mid new c.park.ensures.later (net_later plan old mid c.loop-replica.invariant.later c.requires.may.network) (into_iter_items c.next.new.self)
           (All-tail P c.in-Some.replica (into_iter_items c.next.new.self) (subst (All P) c.in-Some.ensures.items c.loop-replica.invariant.standbys));
       parked = parked_more plan old c.args.instance c.args.replicas.items mid new c.in-Some.replica (into_iter_items c.loop-replica.rest) (into_iter_items c.next.new.self) c.in-Some.ensures.items c.loop-replica.invariant.parked
-          (gained_one plan mid new (Park c.args.instance c.in-Some.replica.id) Done c.in_ok-park.ensures.wrote);
+          (made_one plan mid new (Park c.args.instance c.in-Some.replica.id) Done c.in_ok-park.ensures.wrote);
     }

@@ -9,9 +9,9 @@ use Rattle.ks_shared.specs.Calls.{setup_in}
 use Rattle.ks_worker_client.proofs.Halting.{was_ok_with}
 use Rattle.ks_worker_state.proofs.States.{same_state}
 use Rattle.ks_worker_state.proofs.Workers.{worker_later}
-use Rattle.ks_worker_acts.specs.Gained.{HasGained}
+use Rattle.ks_worker_state.specs.Gained.{HasMade}
 use Rattle.ks_worker_acts.specs.Telling.{positions_held}
-use Rattle.ks_worker_acts.proofs.Gains.{gained_one, gained_then}
+use Rattle.ks_worker_state.proofs.Gains.{made_one, made_then}
 use Rattle.ks_worker_acts.proofs.StatesOn.{known_positions, net_later}
 use Rattle.ks_worker_acts.proofs.probing.probe.Goals as goal
 
@@ -46,8 +46,8 @@ returns-clause-told g c =
     let number = c.args.state.now.member.number in
     let generation = c.args.state.now.member.generation in
     let changelogs = changelog_numbers (plan_in c.args.topology.now) in
-    subst (λ l. HasGained old new (Hold number l ∷ Probe number generation ∷ []))
+    subst (λ l. HasMade old new (Hold number l ∷ Probe number generation ∷ []))
     (c.as_slice-3.ensures.value ∙ was_ok_with c.positions_of.result _ c.in_ok-held.held (sym c.or_halt.ensures ∙ c.in_ok-held.was) c.positions_of.ensures
     ∙ ap₂ (positions_held changelogs) c.as_slice.ensures.value c.as_slice-2.ensures.value)
-    (gained_then old mid new (Hold number c.as_slice-3.result.now ∷ []) (Probe number generation ∷ []) (gained_one plan old mid (Hold number c.as_slice-3.result.now) Done c.in_ok-hold.ensures.wrote)
-    (gained_one plan mid new (Probe number generation) (number_or c.in_ok-_answer._answer) c.in_ok-_answer.ensures.wrote))
+    (made_then old mid new (Hold number c.as_slice-3.result.now ∷ []) (Probe number generation ∷ []) (made_one plan old mid (Hold number c.as_slice-3.result.now) Done c.in_ok-hold.ensures.wrote)
+    (made_one plan mid new (Probe number generation) (number_or c.in_ok-_answer._answer) c.in_ok-_answer.ensures.wrote))

@@ -1,4 +1,4 @@
-use Rattle.std.proofs.Common.{sym, ap, subst, ◌∙◌, false}
+use Rattle.std.proofs.Common.{◌%◌, ◌++◌, length, take, drop, refl, sym, ap, subst, ◌∙◌, false}
 use Rattle.std.specs.List.{All}
 use Rattle.ks_plan.specs.Infos.{input_numbers}
 use Rattle.ks_topo.specs.Topologies.{draft_of, plan_in}
@@ -9,7 +9,7 @@ use Rattle.ks_worker_acts.specs.Inputs.{places_from, IsInputAt, HasLooked}
 use Rattle.ks_worker_acts.proofs.InputPlaces.{inputs_are}
 use Rattle.ks_worker_acts.proofs.Looks.{reads_same, read_names, looked_none}
 use Rattle.ks_worker_acts.proofs.StatesOn.{none_there}
-use Rattle.ks_worker_acts.proofs.WorkerOn.{read_all}
+use Rattle.ks_worker_acts.proofs.WorkerOn.{read_all, read_round_all, picked}
 use Rattle.ks_worker_acts.proofs.reading.work.Goals as goal
 
 pub returns-in_err-places-clause-later : goal.returns-in_err-places-clause-later
@@ -49,8 +49,18 @@ returns-clause-dry g c = λ e.
     let setup = setup_in g.W.Work.plan pass.frame in
     let ts = c.args.state.now.tasks.items in
     let now = c.read_round.new.state.tasks.items in
-    read_all g.H.Hash128.hash_of (draft_of c.args.topology.now) setup pass.seen ts now c.requires.may.topology
-    (subst (λ b. HasLooked setup pass.seen b (places_from (input_numbers (plan_in c.args.topology.now)) 0 ts) ts now) e
-    (subst (λ l. HasLooked setup pass.seen c.in_ok-moved.moved l ts now)
+    let places = c.as_slice-places.result.now in
+    read_round_all g.H.Hash128.hash_of (draft_of c.args.topology.now) setup pass.seen ts now places (c.args.pick % length places) c.requires.may.topology
     (c.as_slice-places.ensures.value ∙ was_ok_with c.places_of.result _ c.in_ok-places.places (sym c.or_halt.ensures ∙ c.in_ok-places.was) c.places_of.ensures ∙ ap (places_from (input_numbers (plan_in c.args.topology.now)) 0) c.as_slice.ensures.value)
-    c.in_ok-moved.ensures.looked))
+    (subst (λ b. HasLooked setup pass.seen b (drop (c.args.pick % length places) places ++ take (c.args.pick % length places) places) ts now) e c.in_ok-moved.ensures.looked)
+
+pub returns-clause-first : goal.returns-clause-first
+returns-clause-first g c = λ e.
+    let pass = c.args.state.now.session.client.pass in
+    let setup = setup_in g.W.Work.plan pass.frame in
+    let ts = c.args.state.now.tasks.items in
+    let now = c.read_round.new.state.tasks.items in
+    let places = c.as_slice-places.result.now in
+    picked g.H.Hash128.hash_of (draft_of c.args.topology.now) setup pass.seen ts now places c.args.pick (c.args.pick % length places) c.requires.may.topology
+    (c.as_slice-places.ensures.value ∙ was_ok_with c.places_of.result _ c.in_ok-places.places (sym c.or_halt.ensures ∙ c.in_ok-places.was) c.places_of.ensures ∙ ap (places_from (input_numbers (plan_in c.args.topology.now)) 0) c.as_slice.ensures.value)
+    refl (c.in_ok-moved.ensures.looked.first e)

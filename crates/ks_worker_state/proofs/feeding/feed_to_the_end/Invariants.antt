@@ -8,6 +8,7 @@ use Rattle.ks_worker_state.proofs.feeding.feed_to_the_end.Given as goal
 abbrev pub invariant-loop : goal.invariant-loop
 invariant-loop g l = record {
   later : Later g.W.Work.plan l.fn.client.pass l.client.pass;
+  made : l.client.pass.made ≡ l.fn.client.pass.made;
   gate : l.client.gate ≡ l.fn.client.gate;
   fed : IsFedStandby (setup_in g.W.Work.plan l.fn.client.pass.frame) l.fn.client.pass.seen l.client.pass.seen [] l.fn.replica l.replica;
 }

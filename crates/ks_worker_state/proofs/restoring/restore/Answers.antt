@@ -1,4 +1,4 @@
-use Rattle.std.proofs.Common.{◌≡◌, ℕ, true, None, map, sym, ap, subst, ◌∙◌}
+use Rattle.std.proofs.Common.{◌≡◌, inl, ℕ, true, None, map, sym, ap, subst, ◌∙◌}
 use Rattle.ks_row.specs.declared.record.TaskId.{TaskId}
 use Rattle.ks_topo.specs.Topologies.{draft_of, plan_in}
 use Rattle.ks_law_topology.specs.Work.{setup_of}
@@ -10,7 +10,7 @@ use Rattle.ks_task.proofs.Restoring.{listed_topics}
 use Rattle.ks_worker_client.specs.Calls.{state_seen}
 use Rattle.ks_worker_client.proofs.Moments.{later_twice}
 use Rattle.ks_worker_state.proofs.Fed.{standby_later, standby_at}
-use Rattle.ks_worker_state.proofs.Restored.{both_ok, made_held, ok_said, free_said}
+use Rattle.ks_worker_state.proofs.Restored.{both_ok, both_err, made_held, ok_said, free_said, refused_said, short_since, is_refused}
 use Rattle.ks_worker_state.proofs.restoring.restore.Goals as goal
 
 pub committed-requires-clause-task : goal.committed-requires-clause-task
@@ -43,3 +43,14 @@ returns-clause-task g c =
     (c.as_slice.ensures.value ∙ ok_said _ _ _ c.in-Ok.is c.in_ok-answer.ensures.offsets
     ∙ ap (λ u. committed_offsets (setup_in g.W.Work.plan c.args.session.now.client.pass.frame) (state_seen g.W.Work.plan c.committed.new.self.pass) u) c.id-task.ensures) k)
     c.restore_with.ensures.task
+
+pub returns-in_default-clause-back : goal.returns-in_default-clause-back
+returns-in_default-clause-back g c =
+    inl (is_refused g.W.Work.plan c.args.session.now.client.pass c.committed.new.self.pass c.committed.ensures.later c.args.member.number c.args.member.generation c.args.replica.id c.id-task.result c.id-task.ensures
+    (refused_said _ c.in_ok-answer.answer _ c.in_default.is c.in_ok-answer.ensures.refused))
+
+pub returns-clause-back : goal.returns-clause-back
+returns-clause-back g c =
+    both_err c.restore_with.result _ _
+    (λ r s. short_since g.W.Work.plan c.args.session.now.client.pass c.committed.new.self.pass c.committed.ensures.later c.restore_with.new.client.pass c.args.member.number c.args.member.generation r s)
+    c.restore_with.ensures.back

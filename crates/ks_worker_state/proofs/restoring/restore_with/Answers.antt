@@ -8,7 +8,7 @@ use Rattle.ks_worker_client.proofs.Halting.{same_counts, counts_on}
 use Rattle.ks_worker_client.proofs.Moments.{may_later, later_twice, same_frame}
 use Rattle.ks_worker_state.specs.Topology.{RunsTopology}
 use Rattle.ks_worker_state.proofs.Fed.{standby_later, standby_at}
-use Rattle.ks_worker_state.proofs.Restored.{own_changelogs, all_changelogs, made_at_the_ends}
+use Rattle.ks_worker_state.proofs.Restored.{own_changelogs, all_changelogs, made_at_the_ends, short_of_the_ends}
 use Rattle.ks_worker_state.proofs.restoring.restore_with.Goals as goal
 
 pub ends_of_task-requires-clause-known : goal.ends_of_task-requires-clause-known
@@ -39,3 +39,12 @@ returns-clause-task g c =
     c.id-task.ensures c.in_ok-feed_to_the_end.ensures.fed c.in_ok-task_of.ensures.task c.in_ok-task_of.ensures.view
     (own_changelogs g.H.Hash128.hash_of (draft_of c.args.topology.now) (setup_in g.W.Work.plan c.args.client.now.pass.frame) c.requires.topology c.id-task.result c.changelogs_in-changelogs.result.now c.changelogs_in-changelogs.ensures)
     c.in_ok-ends.ensures.ends c.as_slice.ensures.value (sym c.has_reached.ensures ∙ c.if-not-has_reached.false)
+
+pub returns-then-not-has_reached-clause-back : goal.returns-then-not-has_reached-clause-back
+returns-then-not-has_reached-clause-back g c =
+    short_of_the_ends g.W.Work.plan c.args.client.now.pass c.ends_of_task.new.client.pass c.feed_to_the_end.new.client.pass c.ends_of_task.ensures.later c.feed_to_the_end.ensures.later
+    c.id-task.result c.args.replica c.feed_to_the_end.new.replica c.changelogs_in-changelogs.result.now c.in_ok-ends.ends.items c.as_slice.result.now
+    c.id-task.ensures
+    (all_changelogs g.H.Hash128.hash_of (draft_of c.args.topology.now) (setup_in g.W.Work.plan c.args.client.now.pass.frame) c.requires.topology c.args.client.now.pass.seen c.args.replica c.requires.standby
+    c.id-task.result c.changelogs_in-changelogs.result.now c.id-task.ensures c.changelogs_in-changelogs.ensures)
+    c.in_ok-feed_to_the_end.ensures.fed c.in_ok-feed_to_the_end.ensures.stops c.in_ok-ends.ensures.ends c.as_slice.ensures.value (sym c.has_reached.ensures ∙ c.if-not-has_reached.true)

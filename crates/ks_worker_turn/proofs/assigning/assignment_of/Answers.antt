@@ -1,8 +1,12 @@
 use Rattle.ks_worker_client.proofs.Moments.{not_later}
 use Rattle.ks_worker_turn.proofs.Assigned.{told_so}
-use Rattle.ks_worker_turn.proofs.Offered.{good_at}
-use Rattle.ks_worker_turn.proofs.Placed.{some_said}
+use Rattle.ks_worker_turn.proofs.Offered.{good_at, has_one, has_none, of_offer, of_none}
+use Rattle.ks_worker_turn.proofs.Placed.{some_said, if_ok_with}
 use Rattle.ks_worker_turn.specs.Placing.{MayOffer}
+use Rattle.std.proofs.Common.{refl, sym, ◌∙◌}
+use Rattle.std.proofs.lemmas.Result.{IfOk-weaker}
+use Rattle.ks_worker_state.proofs.Gains.{only_none}
+use Rattle.ks_worker_turn.specs.Requests.{is_of_turn}
 use Rattle.ks_worker_turn.proofs.assigning.assignment_of.Goals as goal
 
 pub offer_assignment-requires-clause-good : goal.offer_assignment-requires-clause-good
@@ -14,3 +18,27 @@ returns-then-is_some-clause-told g c = told_so g.W.Work.plan c.args.client.now.p
 
 pub returns-then-is_some-clause-later : goal.returns-then-is_some-clause-later
 returns-then-is_some-clause-later g c = not_later g.W.Work.plan c.args.client.now.pass c.requires.may.history
+
+pub returns-then-is_some-clause-made : goal.returns-then-is_some-clause-made
+returns-then-is_some-clause-made g c = λ instance. only_none g.W.Work.plan (is_of_turn c.args.number instance) c.args.client.now.pass c.args.client.now.pass (not_later g.W.Work.plan c.args.client.now.pass c.requires.may.history) refl
+
+pub returns-then-is_some-clause-given : goal.returns-then-is_some-clause-given
+returns-then-is_some-clause-given g c = λ some. refl
+
+pub returns-then-is_some-clause-offered : goal.returns-then-is_some-clause-offered
+returns-then-is_some-clause-offered g c = λ none. absurd (has_one c.args.told.assignment (sym c.is_some.ensures ∙ c.if-is_some.true) none)
+
+pub returns-in_default-clause-made : goal.returns-in_default-clause-made
+returns-in_default-clause-made g c = λ instance. only_none g.W.Work.plan (is_of_turn c.args.number instance) c.args.client.now.pass c.args.client.now.pass (not_later g.W.Work.plan c.args.client.now.pass c.requires.may.history) refl
+
+pub returns-in_default-clause-given : goal.returns-in_default-clause-given
+returns-in_default-clause-given g c = λ some. absurd (some (has_none c.args.told.assignment (sym c.is_some.ensures ∙ c.if-is_some.false)))
+
+pub returns-in_default-clause-offered : goal.returns-in_default-clause-offered
+returns-in_default-clause-offered g c = λ none. of_none c.args.offer _ c.in_default.is
+
+pub returns-clause-given : goal.returns-clause-given
+returns-clause-given g c = if_ok_with c.offer_assignment.result (λ o some. absurd (some (has_none c.args.told.assignment (sym c.is_some.ensures ∙ c.if-is_some.false))))
+
+pub returns-clause-offered : goal.returns-clause-offered
+returns-clause-offered g c = IfOk-weaker c.offer_assignment.result _ _ (λ o h none. of_offer c.args.offer c.in-Some.assignment _ c.in-Some.is h) c.offer_assignment.ensures.offered

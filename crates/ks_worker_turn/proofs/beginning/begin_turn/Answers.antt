@@ -1,5 +1,5 @@
 use Rattle.std.proofs.Common.{ap, ◌∙◌}
-use Rattle.ks_topo.specs.Topologies.{draft_of}
+use Rattle.ks_topo.specs.Topologies.{draft_of, plan_in}
 use Rattle.ks_worker_client.specs.declared.member.Member.{Member}
 use Rattle.ks_worker_client.proofs.Halting.{same_counts}
 use Rattle.ks_worker_client.proofs.Moments.{may_later}
@@ -7,6 +7,9 @@ use Rattle.ks_worker_state.proofs.States.{may_act_on, state_later_twice}
 use Rattle.ks_worker_turn.proofs.Keeping.{told_state, still_rested, keeps_both}
 use Rattle.ks_worker_turn.proofs.Assigned.{either_within}
 use Rattle.ks_worker_turn.proofs.Offered.{serves_later}
+use Rattle.ks_worker_turn.proofs.Begun.{begun}
+use Rattle.ks_worker_turn.proofs.Requests.{turn_none, turn_then}
+use Rattle.ks_plan.specs.Layout.{tasks}
 use Rattle.ks_worker_turn.proofs.beginning.begin_turn.Goals as goal
 
 pub heed_status-requires : goal.heed_status-requires
@@ -37,6 +40,14 @@ place_tasks-requires-clause-status g c = told_state g.W.Work.plan c.join_group.n
 pub place_tasks-requires-clause-rested : goal.place_tasks-requires-clause-rested
 place_tasks-requires-clause-rested g c = λ newer. c.in_ok-status.ensures.newer (still_rested c.join_group.new.state.member c.heed_status.new.state.member _ _ c.in_ok-status.ensures.member newer)
 
+pub returns-clause-later : goal.returns-clause-later
+returns-clause-later g c =
+    let s = c.args.state.now in
+    let one = c.join_group.new.state in
+    let two = c.heed_status.new.state in
+    let three = c.place_tasks.new.state in
+    state_later_twice g.W.Work.plan s two three (state_later_twice g.W.Work.plan s one two c.join_group.ensures.later c.heed_status.ensures.later) c.place_tasks.ensures.later
+
 pub returns-clause-generation : goal.returns-clause-generation
 returns-clause-generation g c =
     let s = c.args.state.now in
@@ -46,3 +57,23 @@ returns-clause-generation g c =
     either_within g.W.Work.plan s.session.client.pass two.session.client.pass three.session.client.pass _ _ _
     (state_later_twice g.W.Work.plan s one two c.join_group.ensures.later c.heed_status.ensures.later).later
     (ap (λ (m : Member). m.generation) c.in_ok-status.ensures.member ∙ c.join_group.ensures.generation) c.in_ok-place_tasks.ensures.generation
+
+pub returns-clause-made : goal.returns-clause-made
+returns-clause-made g c =
+    let s = c.args.state.now in
+    let one = c.join_group.new.state in
+    let two = c.heed_status.new.state in
+    turn_then g.W.Work.plan s two c.place_tasks.new.state (state_later_twice g.W.Work.plan s one two c.join_group.ensures.later c.heed_status.ensures.later)
+    (turn_then g.W.Work.plan s one two c.join_group.ensures.later c.in_ok-join_group.ensures.made (turn_none g.W.Work.plan one two c.heed_status.ensures.later.later c.heed_status.ensures.made))
+    c.in_ok-place_tasks.ensures.made
+
+pub returns-clause-begun : goal.returns-clause-begun
+returns-clause-begun g c =
+    let s = c.args.state.now in
+    let one = c.join_group.new.state in
+    let two = c.heed_status.new.state in
+    begun g.W.Work.plan c.args.placing.now.threads (tasks (plan_in c.args.topology.now)) s one two c.place_tasks.new.state c.in_ok-status.status
+    (state_later_twice g.W.Work.plan s one two c.join_group.ensures.later c.heed_status.ensures.later) c.place_tasks.ensures.later c.join_group.ensures.generation c.join_group.ensures.later.number
+    (ap (λ v. v.items) c.join_group.ensures.tasks) (ap (λ v. v.items) c.join_group.ensures.replicas)
+    (told_state g.W.Work.plan one two c.in_ok-status.status c.heed_status.ensures.later.later c.in_ok-status.ensures.status)
+    c.in_ok-status.ensures.rested c.in_ok-place_tasks.ensures.placed

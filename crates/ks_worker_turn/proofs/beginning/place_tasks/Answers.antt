@@ -1,7 +1,7 @@
 use Rattle.std.proofs.Common.{inl, refl, sym, ◌∙◌}
 use Rattle.std.specs.Prelude.{IfSome}
 use Rattle.std.proofs.lemmas.Result.{on_ok_weaker}
-use Rattle.ks_topo.specs.Topologies.{draft_of}
+use Rattle.ks_topo.specs.Topologies.{draft_of, plan_in}
 use Rattle.ks_plan.specs.Infos.{changelog_numbers}
 use Rattle.ks_plan.specs.Layout.{tasks}
 use Rattle.ks_plan.specs.Plan.{plan_of}
@@ -9,18 +9,24 @@ use Rattle.ks_assign_group.specs.Groups.{IsGoodBy}
 use Rattle.ks_worker_client.proofs.Halting.{same_counts, was_ok_with}
 use Rattle.ks_worker_client.proofs.Moments.{later_twice}
 use Rattle.ks_worker_state.proofs.States.{same_state}
-use Rattle.ks_worker_turn.proofs.Keeping.{acts_on}
+use Rattle.ks_worker_turn.proofs.Keeping.{acts_on, later_still}
 use Rattle.ks_worker_turn.proofs.Offered.{may_offers}
 use Rattle.ks_worker_turn.proofs.Assigned.{own_or_told, told_past}
 use Rattle.ks_worker_turn.specs.Acting.{WasAssigned}
-use Rattle.ks_worker_turn.proofs.Placed.{generation_later, some_said}
+use Rattle.ks_worker_turn.proofs.Placed.{generation_later, some_said, ok_both}
+use Rattle.ks_worker_turn.proofs.Activated.{all_since}
+use Rattle.ks_worker_state.proofs.Gains.{only_then}
+use Rattle.ks_worker_turn.specs.Requests.{is_of_turn}
+use Rattle.ks_worker_turn.specs.Restored.{HasTakenAll}
+use Rattle.ks_worker_turn.proofs.Begun.{placed, nothing_took, took_it}
+use Rattle.ks_worker_turn.proofs.Taken.{taken_from}
 use Rattle.ks_worker_turn.proofs.beginning.place_tasks.Goals as goal
 
 pub assignment_of-requires-clause-offer : goal.assignment_of-requires-clause-offer
 assignment_of-requires-clause-offer g c =
     let d = draft_of c.args.topology.now in
     may_offers g.W.Work.plan g.W.Work.good g.H.Hash128.hash_of d c.args.placing.now c.args.state.now.session.client.pass.frame c.args.told c.in_ok-offer.offer c.requires.may.topology c.requires.placing
-    (was_ok_with c.new_assignment.result (λ o. IfSome o (IsGoodBy (changelog_numbers (plan_of d)) (tasks (plan_of d)) c.args.placing.now c.args.told)) c.in_ok-offer.offer (sym c.or_halt.ensures ∙ c.in_ok-offer.was) c.new_assignment.ensures)
+    (was_ok_with c.new_assignment.result (λ o. IfSome o (IsGoodBy (changelog_numbers (plan_of d)) (tasks (plan_of d)) c.args.placing.now c.args.told)) c.in_ok-offer.offer (sym c.or_halt.ensures ∙ c.in_ok-offer.was) c.new_assignment.ensures.good)
 
 pub returns-in_err-offer-clause-later : goal.returns-in_err-offer-clause-later
 returns-in_err-offer-clause-later g c = same_state g.W.Work.plan _ c.args.state.now c.requires.may.call
@@ -61,3 +67,37 @@ returns-clause-later g c =
 
 pub returns-in_default-clause-later : goal.returns-in_default-clause-later
 returns-in_default-clause-later g c = record { later = c.assignment_of.ensures.later; number = refl; instance = refl }
+
+pub returns-in_default-clause-made : goal.returns-in_default-clause-made
+returns-in_default-clause-made g c = c.in_ok-answer.ensures.made c.args.state.now.member.instance
+
+pub returns-in_default-clause-placed : goal.returns-in_default-clause-placed
+returns-in_default-clause-placed g c =
+    let s = c.args.state.now in
+    placed g.W.Work.plan c.args.placing.now.threads (tasks (plan_in c.args.topology.now)) s (record s { session = record s.session { client = c.assignment_of.new.client } }) c.args.told c.requires.status c.in_ok-offer.offer c.in_ok-answer.answer
+    c.assignment_of.new.client.pass (later_still g.W.Work.plan s.session.client.pass c.assignment_of.new.client.pass c.assignment_of.ensures.later)
+    (was_ok_with c.new_assignment.result _ c.in_ok-offer.offer (sym c.or_halt.ensures ∙ c.in_ok-offer.was) c.new_assignment.ensures.none)
+    c.in_ok-answer.ensures.given c.in_ok-answer.ensures.offered (nothing_took c.in_ok-answer.answer _ c.in_default.is)
+
+pub returns-clause-made : goal.returns-clause-made
+returns-clause-made g c =
+    let s = c.args.state.now in
+    on_ok_weaker c.take_places.result
+    (λ h. only_then (is_of_turn s.member.number s.member.instance) s.session.client.pass c.assignment_of.new.client.pass c.take_places.new.state.session.client.pass (c.in_ok-answer.ensures.made s.member.instance) h)
+    c.take_places.ensures.made
+
+pub returns-clause-placed : goal.returns-clause-placed
+returns-clause-placed g c =
+    let s = c.args.state.now in
+    let n = c.take_places.new.state in
+    ok_both c.take_places.result
+    (λ h restored. placed g.W.Work.plan c.args.placing.now.threads (tasks (plan_in c.args.topology.now)) s n c.args.told c.requires.status c.in_ok-offer.offer c.in_ok-answer.answer
+    c.assignment_of.new.client.pass c.take_places.ensures.later.later
+    (was_ok_with c.new_assignment.result _ c.in_ok-offer.offer (sym c.or_halt.ensures ∙ c.in_ok-offer.was) c.new_assignment.ensures.none)
+    c.in_ok-answer.ensures.given c.in_ok-answer.ensures.offered
+    (took_it c.in_ok-answer.answer c.in-Some.assignment (λ a. HasTakenAll g.W.Work.plan (tasks (plan_in c.args.topology.now)) c.args.told.generation a s n) c.in-Some.is
+    (record {
+      taken = taken_from g.W.Work.plan (tasks (plan_in c.args.topology.now)) c.args.told.generation c.in-Some.assignment s n c.assignment_of.new.client c.assignment_of.ensures.later h;
+      restored = all_since g.W.Work.plan s (record s { session = record s.session { client = c.assignment_of.new.client } }) n c.in-Some.assignment (tasks (plan_in c.args.topology.now)) c.assignment_of.ensures.later refl refl restored;
+    })))
+    c.take_places.ensures.taken c.take_places.ensures.restored

@@ -1,4 +1,5 @@
-use Rattle.ks_worker_turn.proofs.Rested.{popped, more_rested, left_held}
+use Rattle.std.proofs.Common.{refl}
+use Rattle.ks_worker_turn.proofs.Rested.{popped, more_rested, left_held, names_rested, all_rested}
 use Rattle.ks_worker_turn.proofs.heeding.rest_tasks.Goals as goal
 
 pub loop-task-preserved : goal.loop-task-preserved
@@ -6,6 +7,14 @@ loop-task-preserved c =
     let is = popped c.loop-task.tasks.items c.pop.new.self.items c.pop.result c.in-Some.task c.in-Some.is c.pop.ensures.items in
     record {
       left = λ d setup journal m last all. left_held c.loop-task.tasks.items c.pop.new.self.items c.in-Some.task d setup journal m last is (c.loop-task.invariant.left d setup journal m last all);
+      names = names_rested c.loop-task.tasks.items c.pop.new.self.items c.in-Some.task c.loop-task.replicas.items c.rest_task.new.replicas.items _ is c.loop-task.invariant.names c.in_ok-rest_task.ensures;
       kept = more_rested c.args.tasks.now.items c.loop-task.tasks.items c.pop.new.self.items c.in-Some.task c.args.replicas.now.items c.loop-task.replicas.items c.rest_task.new.replicas.items is
           c.loop-task.invariant.left c.loop-task.invariant.kept c.in_ok-rest_task.ensures;
     }
+
+pub loop-task-init : goal.loop-task-init
+loop-task-init c = record {
+  left = λ d setup journal m last all. all;
+  names = λ t. refl;
+  kept = λ hash d setup journal m last runs all standbys. standbys;
+}

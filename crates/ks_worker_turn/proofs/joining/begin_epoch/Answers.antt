@@ -1,7 +1,18 @@
 use Rattle.ks_worker_turn.proofs.Joined.{epoch_begun}
+use Rattle.std.proofs.Common.{refl}
+use Rattle.std.proofs.lemmas.Bool.{eq-eqb}
+use Rattle.ks_history.specs.declared.journal.Request.TheVariants.{Init}
+use Rattle.ks_history.specs.declared.journal.Reply.TheVariants.{Number}
+use Rattle.ks_worker_state.proofs.Gains.{only_one}
+use Rattle.ks_worker_turn.specs.Requests.{is_of_turn}
 use Rattle.ks_worker_turn.proofs.joining.begin_epoch.Goals as goal
 
 pub returns-clause-worker : goal.returns-clause-worker
 returns-clause-worker g c = λ hash d runs w.
     epoch_begun g.W.Work.plan _ _ c.init.ensures.later d c.args.state.now.member c.in_ok-epoch.epoch c.args.state.now.session.last c.init.new.last c.args.state.now.session.numbers.items c.clear.new.self.items
     c.args.state.now.tasks.items c.args.state.now.replicas.items c.in_ok-epoch.ensures.wrote c.in_ok-epoch.ensures.last c.clear.ensures.items c.requires.outside c.requires.may.network w
+
+pub returns-clause-made : goal.returns-clause-made
+returns-clause-made g c =
+    let m = c.args.state.now.member in
+    only_one g.W.Work.plan (is_of_turn m.number m.instance) c.args.state.now.session.client.pass c.init.new.self.pass (Init m.number) (Number c.in_ok-epoch.epoch) (eq-eqb m.number m.number refl) c.in_ok-epoch.ensures.wrote

@@ -1,4 +1,5 @@
 use Rattle.ks_worker_client.proofs.Moments.{later_twice}
+use Rattle.ks_worker_turn.proofs.Requests.{joined_then}
 use Rattle.ks_worker_turn.proofs.joining.enter_group.Goals as goal
 
 pub returns-in_err-join-clause-later : goal.returns-in_err-join-clause-later
@@ -6,3 +7,7 @@ returns-in_err-join-clause-later g c = later_twice g.W.Work.plan _ _ _ c.write_m
 
 pub returns-clause-later : goal.returns-clause-later
 returns-clause-later g c = later_twice g.W.Work.plan _ _ _ c.write_markers.ensures.later c.join.ensures.later
+
+pub returns-clause-made : goal.returns-clause-made
+returns-clause-made g c = λ instance.
+    joined_then g.W.Work.plan c.args.number instance c.args.client.now.pass c.write_markers.new.client.pass c.join.new.self.pass c.in_ok-join.field-0 (c.in_ok-write_markers.ensures.made instance) c.in_ok-join.ensures.wrote

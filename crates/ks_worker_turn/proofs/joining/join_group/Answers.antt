@@ -1,7 +1,9 @@
-use Rattle.std.proofs.Common.{true}
+use Rattle.std.proofs.Common.{true, refl}
 use Rattle.ks_worker_state.proofs.Workers.{worker_later}
 use Rattle.ks_worker_turn.proofs.Keeping.{network_later}
 use Rattle.ks_worker_turn.proofs.Joined.{now_listed}
+use Rattle.ks_worker_client.proofs.Moments.{not_later}
+use Rattle.ks_worker_turn.proofs.Requests.{turn_none, joined_on}
 use Rattle.ks_worker_turn.proofs.joining.join_group.Goals as goal
 
 pub returns-clause-worker : goal.returns-clause-worker
@@ -11,3 +13,6 @@ returns-clause-worker g c = λ hash d runs w.
     (worker_later g.W.Work.plan begun.session.client.pass c.enter_group.new.client.pass c.enter_group.ensures.later
     (network_later g.W.Work.plan _ _ c.begin_epoch.ensures.later.later c.requires.may.network) d begun.member begun.session.last begun.session.numbers.items begun.tasks.items begun.replicas.items
     (c.in_ok-begin_epoch.ensures.worker hash d runs w))
+
+pub returns-clause-made : goal.returns-clause-made
+returns-clause-made g c = joined_on g.W.Work.plan c.args.state.now c.begin_epoch.new.state c.enter_group.new.client.pass c.begin_epoch.ensures.later c.in_ok-begin_epoch.ensures.made c.in_ok-enter_group.ensures.made

@@ -1,6 +1,8 @@
-use Rattle.std.proofs.Common.{◌≡◌}
+use Rattle.std.proofs.Common.{◌≡◌, take}
 use Rattle.ks_topo.specs.Topologies.{draft_of}
 use Rattle.ks_worker_state.specs.State.{IsWorkerState, LaterState}
+use Rattle.ks_worker_turn.specs.Held.{HasParked}
+use Rattle.ks_worker_turn.specs.Requests.{MakesTurn}
 use Rattle.ks_worker_turn.proofs.parking.park_others.Given as goal
 
 -- a later moment, nothing was cut off, and the worker is one
@@ -10,5 +12,7 @@ invariant-loop-i g l = record {
   gate : l.state.session.client.gate ≡ l.fn.state.session.client.gate;
   worker : IsWorkerState g.W.Work.plan (draft_of l.topology) l.state;
   member : l.state.member ≡ l.fn.state.member;
+  made : MakesTurn l.fn.state l.state;
+  parked : HasParked l.assignment l.fn.state.member.number l.fn.state.member.instance (take l.i l.tasks) l.fn.state.session.client.pass l.state.session.client.pass l.fn.state.replicas.items l.state.replicas.items;
   tasks : l.state.tasks.items ≡ l.fn.state.tasks.items;
 }

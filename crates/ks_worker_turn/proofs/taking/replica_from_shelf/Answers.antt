@@ -1,7 +1,13 @@
 use Rattle.ks_topo.specs.Topologies.{draft_of}
 use Rattle.ks_shared.specs.Calls.{setup_in}
 use Rattle.ks_shared.specs.Shelf.{IsReplicaOf}
-use Rattle.ks_worker_turn.proofs.Placed.{fresh_ok, fresh_named, parked_standby, some_said}
+use Rattle.ks_worker_turn.proofs.Placed.{fresh_ok, fresh_named, parked_standby, some_said, where_ok}
+use Rattle.std.proofs.Common.{refl, is_some}
+use Rattle.std.proofs.lemmas.Bool.{eq-eqb}
+use Rattle.ks_history.specs.declared.journal.Request.TheVariants.{Unpark}
+use Rattle.ks_history.specs.declared.journal.Reply.TheVariants.{Truth}
+use Rattle.ks_worker_state.proofs.Gains.{only_one}
+use Rattle.ks_worker_turn.specs.Requests.{is_of_turn}
 use Rattle.ks_worker_turn.proofs.taking.replica_from_shelf.Goals as goal
 
 pub returns-in-Some-clause-standby : goal.returns-in-Some-clause-standby
@@ -22,3 +28,12 @@ returns-in-None-clause-standby g c =
 
 pub returns-in-None-clause-named : goal.returns-in-None-clause-named
 returns-in-None-clause-named g c = fresh_named c.new.result c.or_halt.result c.or_halt.ensures c.args.task c.new.ensures.view
+
+pub returns-in-Some-clause-made : goal.returns-in-Some-clause-made
+returns-in-Some-clause-made g c = λ w.
+    only_one g.W.Work.plan (is_of_turn w c.args.instance) c.args.client.now.pass c.unpark.new.self.pass (Unpark c.args.instance c.args.task) (Truth (is_some c.in_ok-parked.parked)) (eq-eqb c.args.instance c.args.instance refl) c.in_ok-parked.ensures.wrote
+
+pub returns-in-None-clause-made : goal.returns-in-None-clause-made
+returns-in-None-clause-made g c =
+    where_ok c.or_halt.result
+    (λ w. only_one g.W.Work.plan (is_of_turn w c.args.instance) c.args.client.now.pass c.unpark.new.self.pass (Unpark c.args.instance c.args.task) (Truth (is_some c.in_ok-parked.parked)) (eq-eqb c.args.instance c.args.instance refl) c.in_ok-parked.ensures.wrote)

@@ -1,6 +1,9 @@
-use Rattle.std.proofs.Common.{◌≡◌}
+use Rattle.std.proofs.Common.{◌≡◌, take}
 use Rattle.ks_topo.specs.Topologies.{draft_of}
 use Rattle.ks_worker_state.specs.State.{IsWorkerState, LaterState}
+use Rattle.ks_worker_turn.specs.Held.{HoldsPlaced}
+use Rattle.ks_worker_turn.specs.Requests.{MakesTurn}
+use Rattle.ks_worker_turn.specs.Restored.{HasRestored}
 use Rattle.ks_worker_turn.proofs.taking.take_all.Given as goal
 
 -- a later moment, nothing was cut off, and the worker is one
@@ -10,4 +13,7 @@ invariant-loop-i g l = record {
   gate : l.state.session.client.gate ≡ l.fn.state.session.client.gate;
   worker : IsWorkerState g.W.Work.plan (draft_of l.topology) l.state;
   member : l.state.member ≡ l.fn.state.member;
+  made : MakesTurn l.fn.state l.state;
+  held : HoldsPlaced l.assignment l.fn.state.member.number (take l.i l.tasks) l.fn.state l.state;
+  restored : HasRestored g.W.Work.plan l.assignment (take l.i l.tasks) l.fn.state l.state;
 }

@@ -1,0 +1,20 @@
+-- The requests that a worker makes before its act.
+use Rattle.std.specs.Prelude.{ℕ, ◌==◌, Bool, false}
+use Rattle.ks_history.specs.declared.journal.Request.{Request}
+use Rattle.ks_history.specs.declared.journal.Request.TheVariants.{Init, MarkNext, Join, Assign, Park, Unpark}
+use Rattle.ks_worker_state.specs.Gained.{HasMadeOnly}
+use Rattle.ks_worker_state.specs.declared.state.WorkerState.{WorkerState}
+
+-- an `init`, `mark_next`, `join` or `assign` of worker `w`, or a `park` or `unpark` at its instance
+abbrev pub is_of_turn : ℕ → ℕ → Request → Bool
+is_of_turn w instance (Init v) = v == w
+is_of_turn w instance (MarkNext v) = v == w
+is_of_turn w instance (Join v) = v == w
+is_of_turn w instance (Assign v generation a) = v == w
+is_of_turn w instance (Park i t) = i == instance
+is_of_turn w instance (Unpark i t) = i == instance
+is_of_turn w instance _ = false
+
+-- its pass made no others
+abbrev pub MakesTurn : {W G : Type 0} → WorkerState W G → WorkerState W G → Type 0
+MakesTurn old new = HasMadeOnly (is_of_turn old.member.number old.member.instance) old.session.client.pass new.session.client.pass
