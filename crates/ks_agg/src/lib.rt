@@ -4,7 +4,7 @@
 ghost use Rattle.std.specs.Prelude.{◌≡◌, ◌++◌, map, Option, Some, None, option_copied, option_map, IfOk, OnOk};
 ghost use Rattle.ks_query.specs.Aggregates.{stream_add, amount_in, table_apply, agg_row, table_parts, int_of, plus, minus, or_nothing, with_members, moved, share_under, same_share, deltas_of};
 
-use ks_row::{Change, Field, Key, Name, Row, equal_bytes, equal_numbers, key_of_field};
+use ks_row::{Change, FieldRef, Key, Name, Row, equal_bytes, equal_numbers, key_of_field};
 use ks_wire::{Agg, Delta};
 use std::alloc::{AllocError, Global};
 
@@ -21,7 +21,7 @@ fn amount_of(field: Option<&Name>, row: &Row) -> i64
         return 0;
     };
     match row.get(name.as_str().as_bytes()) {
-        Some(Field::Int(number)) => *number,
+        Some(FieldRef::Int(number)) => number,
         _ => 0,
     }
 }
@@ -83,12 +83,7 @@ pub fn agg_row(alloc: Global, count: bool, agg: Agg) -> Result<Row, AllocError>
     } else {
         ("sum", agg.total)
     };
-    let Some(name) = Name::of_text(alloc, text)? else {
-        unreachable!()
-    };
-    let mut fields = Vec::new(alloc);
-    fields.push((name, Field::Int(number)))?;
-    match Row::from_rising(fields) {
+    match Row::of_number(alloc, text, number)? {
         Some(row) => Ok(row),
         None => unreachable!(),
     }
@@ -152,10 +147,10 @@ pub fn table_parts(
 {
     let before = share_under(alloc, by, field, change.old.as_ref())?;
     let now = share_under(alloc, by, field, change.new.as_ref())?;
-    let mut parts = Vec::new(alloc);
     if is_same_share(&before, &now) {
-        return Ok(parts);
+        return Ok(Vec::new(alloc));
     }
+    let mut parts = Vec::with_capacity(alloc, 2)?;
     push_delta(&mut parts, false, before)?;
     push_delta(&mut parts, true, now)?;
     Ok(parts)

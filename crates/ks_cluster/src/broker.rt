@@ -14,7 +14,7 @@ use crate::work::Work;
 use ks_group::Group;
 use ks_history::Pending;
 use ks_log::{Batch, Log};
-use ks_row::{Assignment, PartId, Rec, Refused, Seq, TaskId};
+use ks_row::{Assignment, PartId, Rec, Refused, Seq, SharedRecords, TaskId};
 use ks_txn::Txns;
 use std::alloc::{AllocError, Global};
 
@@ -91,11 +91,11 @@ impl Broker {
         number: u64,
         task: TaskId,
         part: PartId,
-        recs: Vec<Rec>,
+        recs: SharedRecords,
     ) -> Result<Result<u64, Refused>, AllocError>
         requires { w ≤ 16 }
         ensures ok { IfOk result (λ r. Moves self.old self.new
-            (Append w epoch number task part recs.items) (number_or r)) }
+            (Append w epoch number task part recs) (number_or r)) }
         ensures err { OnErr result (self.new ≡ self.old) }
     {
         if let Err(refused) = self.txns.has(w, epoch, part) {

@@ -19,8 +19,8 @@ use crate::waiting::{marker_count, pending_count};
 use crate::work::Work;
 use ks_group::{copy_assignment, copy_held, new_pending};
 use ks_history::{Entry, Journal, Reply, Request, Status};
-use ks_log::{copies, copy, ends_in};
-use ks_row::{Assignment, PartId, Rec, Refused, Seq, TaskId};
+use ks_log::{copy, ends_in};
+use ks_row::{Assignment, PartId, Rec, Refused, Seq, SharedRecords, TaskId};
 use std::alloc::{AllocError, Global};
 use std::marker::Model;
 use std::mem;
@@ -128,7 +128,7 @@ impl<W: Work> Cluster<W> {
         Ok(outcome)
     }
 
-    /// Appends copies of records of a task to a partition of the producer's transaction, and answers the first offset. Refused:
+    /// Appends records of a task, which log and journal share, to a partition of the producer's transaction, and answers the first offset. Refused:
     /// Fenced, NoTransaction, OutOfSequence.
     pub fn append(
         &mut self,
@@ -138,7 +138,7 @@ impl<W: Work> Cluster<W> {
         number: u64,
         task: TaskId,
         part: PartId,
-        recs: &[Rec],
+        recs: &SharedRecords,
     ) -> Result<Result<u64, Refused>, AllocError>
         requires { Meets (setup_of W.plan self.old) (state_of W.plan self.old)
             (Append w epoch number task part recs.now) }
@@ -146,8 +146,8 @@ impl<W: Work> Cluster<W> {
             (Append w epoch number task part recs.now) (number_or r)) }
         ensures err { OnErr result (self.new ≡ self.old) }
     {
-        let own = copies(alloc, recs)?;
-        let kept = copies(alloc, recs)?;
+        let own = recs.share()?;
+        let kept = recs.share()?;
         self.journal.reserve(1)?;
         let outcome = self
             .broker
@@ -159,7 +159,7 @@ impl<W: Work> Cluster<W> {
                 number,
                 task,
                 part,
-                recs: Seq::of(kept),
+                recs: kept,
             },
             reply: numbered(&outcome),
         });

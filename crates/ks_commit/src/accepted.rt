@@ -10,7 +10,7 @@ ghost use Rattle.ks_cluster.specs.Placed.{IsGoodAt};
 ghost use Rattle.ks_cluster.specs.View.{setup_of, state_of, AddsEntry};
 
 use ks_cluster::{Cluster, Work};
-use ks_row::{Assignment, PartId, Rec, TaskId};
+use ks_row::{Assignment, PartId, SharedRecords, TaskId};
 use std::alloc::{AllocError, Global};
 
 /// Takes a partition into the transaction.
@@ -43,7 +43,7 @@ pub fn append<W: Work>(
     number: u64,
     task: TaskId,
     part: PartId,
-    recs: &[Rec],
+    recs: &SharedRecords,
 ) -> Result<u64, AllocError>
     requires meets { Meets (setup_of W.plan cluster.old) (state_of W.plan cluster.old)
         (Append w epoch number task part recs.now) }

@@ -13,7 +13,7 @@ use crate::numbers::{number, with_next_number};
 use crate::publisher::Publisher;
 use crate::work::Frozen;
 use ks_cluster::{Cluster, Work};
-use ks_row::{PartId, Rec, Seq, TaskId};
+use ks_row::{PartId, SharedRecords, TaskId};
 use std::alloc::{AllocError, Global};
 
 /// Takes a partition into the transaction, and puts records of a task there.
@@ -23,7 +23,7 @@ fn put<W: Work>(
     publisher: &mut Publisher,
     task: TaskId,
     part: PartId,
-    recs: &[Rec],
+    recs: &SharedRecords,
 ) -> Result<(), AllocError>
     requires sending { IsSending (setup_of W.plan cluster.old) (state_of W.plan cluster.old)
         publisher.old }
@@ -55,7 +55,7 @@ fn put_all<W: Work>(
     cluster: &mut Cluster<W>,
     publisher: &mut Publisher,
     task: TaskId,
-    outputs: Vec<(PartId, Seq<Rec>)>,
+    outputs: Vec<(PartId, SharedRecords)>,
 ) -> Result<(), AllocError>
     requires sending { IsSending (setup_of W.plan cluster.old) (state_of W.plan cluster.old)
         publisher.old }
@@ -69,7 +69,7 @@ fn put_all<W: Work>(
     ensures err { OnErr result (Longer publisher.old.worker 0 cluster.old cluster.new) }
 {
     for out in outputs {
-        put(alloc, cluster, publisher, task, out.0, out.1.as_slice())?;
+        put(alloc, cluster, publisher, task, out.0, &out.1)?;
     }
     Ok(())
 }

@@ -5,7 +5,7 @@ use Rattle.std.specs.Ordering.{eq_by_cmp, is_eq}
 use Rattle.std.specs.Cmp.{tied_itself}
 use Rattle.ks_row.specs.Texts.{IsKey}
 use Rattle.ks_row.specs.Reading.{◌>>=◌}
-use Rattle.ks_row.specs.declared.record.Rec.{Rec}
+use Rattle.ks_row.specs.Records.{Record as Rec}
 use Rattle.ks_wire.specs.declared.values.Agg.{Agg}
 use Rattle.ks_wire.specs.Spelling.{window_key, agg_bytes, time_key, time_bytes}
 use Rattle.ks_wire.specs.Reading.{window_key_from, agg_from}

@@ -12,7 +12,7 @@ pub fn nodes_act_as_lists()
     ensures { NodesActAsLists }
 {}
 
-/// A table's value at a key, a hash at a foreign key and a left key, and all hashes at a foreign key are found in the bytes of a task's
+/// A table's value at a key, the subscriber at a foreign key and a left key, and all those at a foreign key are found in the bytes of a task's
 /// stores at one key, or under one front.
 pub fn stores_are_looked_up()
     ensures { StoresAreLookedUp }

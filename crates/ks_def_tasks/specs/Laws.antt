@@ -5,7 +5,7 @@ use Rattle.ks_row.specs.Spelling.{IsBytes}
 use Rattle.ks_wire.specs.Spelling.{FitsKeys}
 use Rattle.ks_wire.specs.Values.{IsPart}
 use Rattle.ks_def_tasks.specs.Messages.Message.{Asked}
-use Rattle.ks_row.specs.declared.record.Rec.{Rec}
+use Rattle.ks_row.specs.Records.{Record as Rec}
 use Rattle.ks_row.specs.declared.record.PartId.{PartId}
 use Rattle.ks_row.specs.Parts.{same_task}
 use Rattle.ks_plan.specs.Infos.{input_numbers}
@@ -99,7 +99,7 @@ abbrev pub AreBytes : List (List ℕ × List ℕ) → Type 0
 AreBytes [] = Unit {0}
 AreBytes (e ∷ es) = IsBytes e.0 × AreBytes es
 
--- keys and hash of a subscription are within their bounds
+-- keys, hash and partition of a subscription are within their bounds
 abbrev pub FitsAsked : Message → Type 0
 FitsAsked (Asked b p s) = FitsKeys (b, p) × IfSome s.hash (λ h. h < 2 ^ 128) × IsPart s.part
 FitsAsked _ = Unit {0}

@@ -21,7 +21,7 @@ pub fn changelogs_tell()
 
 /// Over bytes and decoded, one step of a record that the task reads: the records are the decoded ones, spelled. The stores that the
 /// bytes are afterwards are those of the decoded step: tables, where what is stored is read again from its bytes; subscription stores,
-/// where keys are bytes and a hash has 128 bits; windowed counts with their greatest time, where keys are bytes and times have 64 bits.
+/// where keys are bytes, a hash has 128 bits and a partition is at most 63; windowed counts with their greatest time, where keys are bytes and times have 64 bits.
 pub fn bytes_agree()
     ensures records { RecordsAgree }
     ensures tables { TablesAgree }

@@ -1,2 +1,3 @@
 pub mod Projecting
 pub mod Fronts
+pub mod Refs

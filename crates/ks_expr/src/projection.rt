@@ -1,22 +1,28 @@
 //! The rows that projections give.
-ghost use Rattle.std.specs.Prelude.{◌≡◌, ◌≤◌, ◌<◌, length, slice_get, IfOk, OnOk, IfNone, option_copied, Some, None};
+ghost use Rattle.std.specs.Prelude.{◌≡◌, ◌≤◌, ◌<◌, length, map, slice_get, IfOk, IfSome, OnOk, IfNone, option_copied, option_map, Some, None};
+ghost use Rattle.std.specs.List.{All};
+ghost use Rattle.ks_row.specs.Fields.{field_seen, member_seen};
+ghost use Rattle.ks_row.specs.Spelling.{FitsField, FitsMember};
 ghost use Rattle.ks_expr.specs.Terms.{set_of};
-ghost use Rattle.ks_expr.specs.Eval.{put_field as with_put, fields_onto, project as projected};
+ghost use Rattle.ks_expr.specs.Eval.{put_field as with_put, with_field, fields_onto, project as projected};
 ghost use Rattle.ks_expr.specs.Values.{place_for, is_named};
 
 use crate::evaluation::eval;
 use crate::terms::Proj;
-use ks_row::{Field, Name, Row};
+use ks_row::{FieldRef, Name, Row, is_below};
 use std::alloc::{AllocError, Global};
 
+// A field of a name, both where they stand.
+type Placed<'a> = (&'a [u8], FieldRef<'a>);
+
 // How many of the first fields have a name below this one.
-fn find_place(fields: &[(Name, Field)], name: &Name) -> usize
-    ensures place { result ≡ place_for name.now fields.now }
+fn find_place(fields: &[Placed<'_>], name: &[u8]) -> usize
+    ensures place { result ≡ place_for name.now (map member_seen fields.now) }
     ensures within { result ≤ length fields.now }
 {
     let mut place = 0;
-    for (own, _) in fields {
-        if own < name {
+    for own in fields {
+        if is_below(own.0, name) {
             place += 1;
         } else {
             return place;
@@ -26,27 +32,56 @@ fn find_place(fields: &[(Name, Field)], name: &Name) -> usize
 }
 
 // Whether the field of this place has this name.
-fn is_at(fields: &[(Name, Field)], place: usize, name: &Name) -> bool
-    ensures { result ≡ is_named name.now (slice_get fields.now place) }
+#[tactic(auto, using(crate::proofs::Refs::named_there))]
+fn is_at(fields: &[Placed<'_>], place: usize, name: &[u8]) -> bool
+    ensures { result ≡ is_named name.now (slice_get (map member_seen fields.now) place) }
 {
     match fields.get(place) {
-        Some(field) => field.0 == *name,
+        Some(field) => field.0 == name,
         None => false,
     }
 }
 
-#[tactic(auto, using(crate::proofs::Projecting::put_set, crate::proofs::Projecting::put_insert))]
 // The field in its place by name, or in that of a field of its name.
-fn put_field(fields: &mut Vec<(Name, Field)>, name: Name, field: Field) -> Result<(), AllocError>
-    ensures { OnOk result (fields.new.items ≡ with_put name field fields.old.items) }
+#[tactic(auto, using(crate::proofs::Refs::put_set_there, crate::proofs::Refs::put_insert_there))]
+fn put_field<'a>(
+    fields: &mut Vec<Placed<'a>>,
+    name: &'a Name,
+    field: FieldRef<'a>,
+) -> Result<(), AllocError>
+    ensures put { OnOk result (map member_seen fields.new.items
+        ≡ with_put name.now (field_seen field.entry) (map member_seen fields.old.items)) }
+    ensures fits { OnOk result (FitsField (field_seen field.entry)
+        → All FitsMember (map member_seen fields.old.items)
+        → All FitsMember (map member_seen fields.new.items)) }
 {
-    let place = find_place(fields, &name);
-    if is_at(fields, place, &name) {
+    let name = name.as_str().as_bytes();
+    let place = find_place(fields, name);
+    if is_at(fields, place, name) {
         fields[place] = (name, field);
     } else {
         fields.insert(place, (name, field))?;
     }
     Ok(())
+}
+
+// The same where there is a field.
+fn put_value<'a>(
+    fields: &mut Vec<Placed<'a>>,
+    name: &'a Name,
+    value: Option<FieldRef<'a>>,
+) -> Result<(), AllocError>
+    ensures put { OnOk result (map member_seen fields.new.items
+        ≡ with_field name.now (option_map field_seen value.entry)
+        (map member_seen fields.old.items)) }
+    ensures fits { OnOk result (IfSome (option_map field_seen value.entry) FitsField
+        → All FitsMember (map member_seen fields.old.items)
+        → All FitsMember (map member_seen fields.new.items)) }
+{
+    match value {
+        Some(field) => put_field(fields, name, field),
+        None => Ok(()),
+    }
 }
 
 /// The row of the fields whose expression has a value, in order of their names; of a name that stands twice the last counts.
@@ -60,11 +95,9 @@ pub fn project(
     ensures { IfOk result (λ r. r ≡ projected (set_of proj.now) (option_copied left.entry)
         (option_copied right.entry)) }
 {
-    let mut fields = Vec::new(alloc);
+    let mut fields = Vec::with_capacity(alloc, proj.fields.len())?;
     for (name, expr) in proj.fields.as_slice() {
-        if let Some(field) = eval(expr, left, right)? {
-            put_field(&mut fields, name.clone()?, field)?;
-        }
+        put_value(&mut fields, name, eval(expr, left, right))?;
     }
-    Ok(Row::from_rising(fields))
+    Row::from_refs(alloc, fields.as_slice())
 }

@@ -1,36 +1,37 @@
 //! Values while they are computed: numbers, and texts that stand in a row or in an expression.
-ghost use Rattle.std.specs.Prelude.{◌≡◌, Some, IfOk, option_copied};
+ghost use Rattle.std.specs.Prelude.{◌≡◌, Some, IfSome, option_copied};
 ghost use Rattle.std.specs.Int.{w64, int_wrapping_add, int_wrapping_sub, int_wrapping_mul};
+ghost use Rattle.ks_row.specs.Fields.{field_seen as seen_in};
+ghost use Rattle.ks_row.specs.Spelling.{FitsField};
 ghost use Rattle.ks_expr.specs.Values.{field_seen, found, number_in};
 ghost use Rattle.ks_expr.specs.Eval.{of_numbers, same_field, field_below, side_field};
 
-use ks_row::{Field, Name, Row, Text, equal_bytes};
-use std::alloc::AllocError;
+use ks_row::{FieldRef, Name, Row, equal_bytes, is_below};
 
 /// A field without its own memory.
 #[derive(Clone, Copy)]
 pub enum Value<'a> {
     Int(i64),
-    Text(&'a Text),
+    Text(&'a [u8]),
 }
 
 impl<'a> Value<'a> {
-    fn of(field: &'a Field) -> Value<'a>
-        ensures { field_seen result ≡ field.now }
+    fn of(field: FieldRef<'a>) -> Value<'a>
+        ensures { field_seen result ≡ seen_in field.entry }
     {
         match field {
-            Field::Int(number) => Value::Int(*number),
-            Field::Text(text) => Value::Text(text),
+            FieldRef::Int(number) => Value::Int(number),
+            FieldRef::Text(text) => Value::Text(text),
         }
     }
 
-    /// The field with memory of its own.
-    pub fn to_field(self) -> Result<Field, AllocError>
-        ensures { IfOk result (λ f. f ≡ field_seen self.entry) }
+    /// The field, where it stands.
+    pub fn to_field(self) -> FieldRef<'a>
+        ensures { seen_in result ≡ field_seen self.entry }
     {
         match self {
-            Value::Int(number) => Ok(Field::Int(number)),
-            Value::Text(text) => Ok(Field::Text(text.clone()?)),
+            Value::Int(number) => FieldRef::Int(number),
+            Value::Text(text) => FieldRef::Text(text),
         }
     }
 
@@ -45,24 +46,27 @@ impl<'a> Value<'a> {
 
     /// The sum, wrapping round; none where one is a text.
     pub fn plus(self, other: Value<'a>) -> Option<Value<'a>>
-        ensures { found result ≡ of_numbers (int_wrapping_add w64) (Some (field_seen self.entry))
+        ensures value { found result ≡ of_numbers (int_wrapping_add w64) (Some (field_seen self.entry))
             (Some (field_seen other.entry)) }
+        ensures fits { IfSome (found result) FitsField }
     {
         Some(Value::Int(self.number()?.wrapping_add(other.number()?)))
     }
 
     /// The difference, wrapping round; none where one is a text.
     pub fn minus(self, other: Value<'a>) -> Option<Value<'a>>
-        ensures { found result ≡ of_numbers (int_wrapping_sub w64) (Some (field_seen self.entry))
+        ensures value { found result ≡ of_numbers (int_wrapping_sub w64) (Some (field_seen self.entry))
             (Some (field_seen other.entry)) }
+        ensures fits { IfSome (found result) FitsField }
     {
         Some(Value::Int(self.number()?.wrapping_sub(other.number()?)))
     }
 
     /// The product, wrapping round; none where one is a text.
     pub fn times(self, other: Value<'a>) -> Option<Value<'a>>
-        ensures { found result ≡ of_numbers (int_wrapping_mul w64) (Some (field_seen self.entry))
+        ensures value { found result ≡ of_numbers (int_wrapping_mul w64) (Some (field_seen self.entry))
             (Some (field_seen other.entry)) }
+        ensures fits { IfSome (found result) FitsField }
     {
         Some(Value::Int(self.number()?.wrapping_mul(other.number()?)))
     }
@@ -73,9 +77,7 @@ impl<'a> Value<'a> {
     {
         match (self, other) {
             (Value::Int(a), Value::Int(b)) => a == b,
-            (Value::Text(a), Value::Text(b)) => {
-                equal_bytes(a.as_str().as_bytes(), b.as_str().as_bytes())
-            }
+            (Value::Text(a), Value::Text(b)) => equal_bytes(a, b),
             _ => false,
         }
     }
@@ -86,7 +88,7 @@ impl<'a> Value<'a> {
     {
         match (self, other) {
             (Value::Int(a), Value::Int(b)) => a < b,
-            (Value::Text(a), Value::Text(b)) => a.as_str() < b.as_str(),
+            (Value::Text(a), Value::Text(b)) => is_below(a, b),
             _ => false,
         }
     }
@@ -94,7 +96,8 @@ impl<'a> Value<'a> {
 
 /// A side's field; none where the side or the field is absent.
 pub fn side_value<'a>(name: &Name, side: Option<&'a Row>) -> Option<Value<'a>>
-    ensures { found result ≡ side_field name.now (option_copied side.entry) }
+    ensures value { found result ≡ side_field name.now (option_copied side.entry) }
+    ensures fits { IfSome (found result) FitsField }
 {
     let field = side?.get(name.as_str().as_bytes())?;
     Some(Value::of(field))

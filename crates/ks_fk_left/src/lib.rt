@@ -12,7 +12,7 @@ ghost use Rattle.ks_fk_left.specs.Asked.{row_hash, told, asked, set_by};
 
 use ks_expr::{Fk, JoinKind, Proj, fk_of};
 use ks_hash::Hash128;
-use ks_row::{Change, Key, Row, encode, equal_bytes};
+use ks_row::{Change, Key, Row, equal_bytes};
 use ks_table_ops::join_rows;
 use ks_wire::{Response, Subscription};
 use std::alloc::{AllocError, Global};
@@ -33,12 +33,11 @@ pub enum Answer {
     Set(Option<Row>),
 }
 
-/// The hash of a row's bytes. Want of memory is the one error.
-pub fn hash_row<H: Hash128>(alloc: Global, row: &Row) -> Result<u128, AllocError>
-    ensures { IfOk result (λ h. h ≡ row_hash H.hash_of row.now) }
+/// The hash of a row's bytes. Takes no memory.
+pub fn hash_row<H: Hash128>(row: &Row) -> u128
+    ensures { result ≡ row_hash H.hash_of row.now }
 {
-    let bytes = encode(alloc, row)?;
-    Ok(H::hash(bytes.as_slice()))
+    H::hash(row.as_bytes())
 }
 
 fn foreign_key(
@@ -90,12 +89,12 @@ fn push_asked(
 }
 
 // The hash of a row, where there is one.
-fn hash_of_row<H: Hash128>(alloc: Global, row: Option<&Row>) -> Result<Option<u128>, AllocError>
-    ensures { IfOk result (λ h. h ≡ hash_of (row_hash H.hash_of) (option_copied row.entry)) }
+fn hash_of_row<H: Hash128>(row: Option<&Row>) -> Option<u128>
+    ensures { result ≡ hash_of (row_hash H.hash_of) (option_copied row.entry) }
 {
     match row {
-        Some(row) => Ok(Some(hash_row::<H>(alloc, row)?)),
-        None => Ok(None),
+        Some(row) => Some(hash_row::<H>(row)),
+        None => None,
     }
 }
 
@@ -115,7 +114,7 @@ pub fn subscriptions<H: Hash128>(
     ensures direct { IfOk result (λ r. r.1
         ≡ is_direct fk.now change.now.key change.now.old change.now.new) }
 {
-    let hash = hash_of_row::<H>(alloc, change.new.as_ref())?;
+    let hash = hash_of_row::<H>(change.new.as_ref());
     subscriptions_by::<H>(alloc, fk, part, change, hash)
 }
 
@@ -137,7 +136,7 @@ pub fn subscriptions_by<H: Hash128>(
         ≡ is_direct fk.now change.now.key change.now.old change.now.new) }
 {
     let before = foreign_key(alloc, fk, &change.key, change.old.as_ref())?;
-    let mut out = Vec::new(alloc);
+    let mut out = Vec::with_capacity(alloc, 2)?;
     let Some(row) = &change.new else {
         let direct = before.is_none();
         push_asked(&mut out, before, None, DELETE_AND_ANSWER, &change.key, part)?;
@@ -174,7 +173,7 @@ pub fn respond<H: Hash128>(
     ensures { IfOk result (λ a. set_by a ≡ responded (row_hash H.hash_of) kind (set_of set.now)
         (option_copied left.entry) response.now) }
 {
-    if is_answer_to(hash_of_row::<H>(alloc, left)?, response) {
+    if is_answer_to(hash_of_row::<H>(left), response) {
         Ok(Answer::Set(join_rows(alloc, kind, set, left, response.right.as_ref())?))
     } else {
         Ok(Answer::Stale)

@@ -1,6 +1,6 @@
 -- What a journal commits, as the steps of one run.
 use Rattle.std.specs.Prelude.{true, false, List, [], ◌∷◌, ◌++◌, Option, Some, None, cond, map}
-use Rattle.ks_row.specs.declared.record.Rec.{Rec}
+use Rattle.ks_row.specs.Records.{Record as Rec}
 use Rattle.ks_row.specs.declared.record.PartId.{PartId}
 use Rattle.ks_row.specs.declared.record.TaskId.{TaskId}
 use Rattle.ks_row.specs.declared.assignment.Refused.{Refused}

@@ -1,5 +1,5 @@
 //! Requests, replies and journals.
-use ks_row::{Assignment, PartId, Rec, Refused, Seq, TaskId};
+use ks_row::{Assignment, PartId, Rec, Refused, Seq, SharedRecords, TaskId};
 
 /// A request that changes the cluster, and is kept in its journal.
 #[derive(Drop)]
@@ -22,7 +22,7 @@ pub enum Request {
         number: u64,
         task: TaskId,
         part: PartId,
-        recs: Seq<Rec>,
+        recs: SharedRecords,
     },
     SendOffsets {
         w: u8,

@@ -8,6 +8,7 @@ use Rattle.ks_row.proofs.lists.Blob.TheSendSync.{the_send as blob_send}
 use Rattle.ks_row.proofs.texts.Name.TheSendSync.{the_send as name_send}
 use Rattle.ks_row.proofs.texts.Text.TheSendSync.{the_send as text_send}
 use Rattle.ks_row.proofs.lists.Seq.TheSendSync.{the_send as seq_send}
+use Rattle.ks_row.proofs.record.Rec.TheSendSync.{the_send as rec_send}
 use Rattle.ks_row.specs.contracts.lists.Seq as Seq
 use Rattle.ks_row.specs.contracts.texts.Name as Name
 use Rattle.ks_expr.proofs.terms.Expr.TheLaws.TheKnot.{crosses as expr_crosses}
@@ -23,7 +24,7 @@ use Rattle.ks_job.specs.contracts.judge.JobItem as JobItem
 use Rattle.ks_job.specs.contracts.wide.Part as Part
 use Rattle.ks_job.proofs.reader.Phase.TheSendSync.{the_field_send as phase_send}
 
-ruleset plain = (blob_send, name_send, text_send, sendable, crosses)
+ruleset plain = (blob_send, rec_send, name_send, text_send, sendable, crosses)
 
 expr_send : IsSend Expr.the_row
 expr_send = search (expr_crosses, plain) depth 20

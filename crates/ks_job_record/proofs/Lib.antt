@@ -2,6 +2,7 @@ pub mod Texts
 pub mod Ordered
 pub mod Spellings
 pub mod PlainRows
+pub mod PlainPlaces
 pub mod PlainFronts
 pub mod PlainTrees
 pub mod PlainReadings

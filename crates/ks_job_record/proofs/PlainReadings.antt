@@ -1,5 +1,5 @@
 -- What a plain line is read as.
-use Rattle.std.proofs.Common.{◌≡◌, ℕ, ℤ, pos, negsuc, suc, ◌+◌, ◌^◌, ◌<◌, ◌≤◌, max, Bool, true, false, List, [], ◌∷◌, ◌++◌, Option, Some, None, option_map, option_and_then, Ordering, Less, Equal, Greater, decimal, codes, refl, sym, ap, ap₂, ◌∙◌, arith, append_assoc, IsUtf8, ◌&&◌, nat_lt}
+use Rattle.std.proofs.Common.{◌≡◌, ℕ, ℤ, pos, negsuc, suc, ◌^◌, ◌<◌, ◌≤◌, max, Bool, true, false, List, [], ◌∷◌, ◌++◌, Option, Some, None, option_map, option_and_then, Ordering, Less, Equal, Greater, decimal, codes, refl, sym, ap, ap₂, ◌∙◌, arith, append_assoc, IsUtf8, ◌&&◌, nat_lt}
 use Rattle.std.specs.Ordering.{nat_cmp, match_ordering}
 use Rattle.std.specs.Cmp.Lexicographic.{slice_cmp}
 use Rattle.std.specs.Fmt.{signed_decimal}
@@ -12,7 +12,7 @@ use Rattle.json.specs.Tree as tree
 use Rattle.json.specs.Print.{print, print_from, escape, escape_byte}
 use Rattle.json.proofs.Printed.Decimals.{IsNumber-decimal, IsNumber-signed_decimal}
 use Rattle.json.proofs.Printed.Utf8.{are_ascii, IsUtf8-are_ascii}
-use Rattle.serde_json.specs.Data.{Data, null, number, string, object, Members, no_members, member, put}
+use Rattle.serde_json.specs.Data.{Data, number, string, object, Members, no_members, member, put}
 use Rattle.serde_json.specs.Read.{read, of_json, of_members, max_depth}
 use Rattle.serde_json.specs.Find.{of_integer}
 use Rattle.serde_json.proofs.Numbers.{number_of-decimal, number_of-negative}
@@ -171,7 +171,7 @@ plain_ascii : (s : List ℕ) → is_plain s ≡ true → are_ascii s ≡ true
 plain_ascii [] h = refl
 plain_ascii (c ∷ s) h = let p = and_parts (is_plain_byte c) (is_plain s) h in both (nat_lt c 128) (are_ascii s) (plain_small c p.0) (plain_ascii s p.1)
 
-plain_utf8 : (s : List ℕ) → is_plain s ≡ true → IsUtf8 s
+pub plain_utf8 : (s : List ℕ) → is_plain s ≡ true → IsUtf8 s
 plain_utf8 s h = IsUtf8-are_ascii s (plain_ascii s h)
 
 integer_utf8 : (z : ℤ) → IsSmall z → IsUtf8 (signed_decimal z)

@@ -4,13 +4,16 @@ use Rattle.std.proofs.lemmas.Bool.{leb-true}
 use Rattle.std.proofs.lemmas.List.{length-append}
 use Rattle.std.specs.Ordering.{nat_cmp, match_ordering}
 use Rattle.std.specs.Cmp.Lexicographic.{slice_cmp}
-use Rattle.std.specs.List.{AllByRecursion}
-use Rattle.serde_json.specs.Data.{unsigned, Data, null, number, string, object}
+use Rattle.std.specs.List.{All, AllByRecursion}
+use Rattle.std.proofs.lemmas.List.Elements.{All-from_recursion}
+use Rattle.std.proofs.lemmas.Str.{is_utf8-from_IsUtf8}
+use Rattle.ks_row.proofs.Spelled.{name_takes, text_takes}
+use Rattle.serde_json.specs.Data.{unsigned, Data, number, string, object}
 use Rattle.serde_json.specs.Read.{read}
 use Rattle.serde_json.specs.Find.{of_integer}
 use Rattle.ks_row.specs.Rows.{Member, row_of, rises, names_of}
-use Rattle.ks_row.specs.Texts.{key_of}
-use Rattle.ks_row.specs.Spelling.{spelling}
+use Rattle.ks_row.specs.Texts.{key_of, name_of, text_of as text_within}
+use Rattle.ks_row.specs.Spelling.{spelling, FitsField, FitsMember}
 use Rattle.ks_row.specs.declared.row.Field.{Field}
 use Rattle.ks_row.specs.declared.row.Field.TheVariants.{Int, Text}
 use Rattle.ks_job_record.specs.declared.fault.JobKind.{JobKind}
@@ -25,7 +28,7 @@ use Rattle.ks_job_record.specs.PlainLines.{IsFront, EndsLine, time_or_0}
 use Rattle.ks_job_record.specs.Says.{Says}
 use Rattle.ks_job_record.proofs.PlainRows.{whole_both, one_more_put}
 use Rattle.ks_job_record.proofs.PlainTrees.{field_data, members_data, value_data, line_data, listed}
-use Rattle.ks_job_record.proofs.PlainReadings.{AreWhole, IsEarly, value_text, line_text, in_order, line_is_read, line_is_utf8}
+use Rattle.ks_job_record.proofs.PlainReadings.{AreWhole, IsEarly, value_text, line_text, in_order, line_is_read, line_is_utf8, plain_utf8}
 
 -- ---- members in order are whole
 whole_at : (o : Ordering) (m n : Member) (ns more : List Member) → IsWhole m → IsWhole n → AllByRecursion IsWhole ns → AllByRecursion IsWhole more → AllByRecursion IsWhole (match_ordering o (m ∷ n ∷ ns) ((n.0, m.1) ∷ ns) (n ∷ more))
@@ -167,3 +170,25 @@ row_says topics line n key rest members fields row bytes tail i f e closes is sp
     let said : value_from (object (members_data (with_fields [] ms))) ≡ Ok (Some bytes) =
     row_is (with_fields [] ms) row (whole_puts [] ms tt whole) (is ∙ ap row_of sorted) ∙ ap (λ b. Ok (Some b)) (sym spelled) in
     line_says topics line n key rest (Some ms) (Some bytes) tail i f whole (e ∙ ap (λ l. 123 ∷ l) (closes.text ∙ closed closes.ones closes.last tail)) said ends
+
+-- ---- the members of a plain row have a spelling
+field_fits : (f : Field) → IsPlainField f → IsFitField f → FitsField f
+field_fits (Int (pos n)) h k = omega arith
+field_fits (Int (negsuc n)) h k = omega arith
+field_fits (Text s) h k = (text_takes s s (ap (λ b. cond b (text_within s) None) (is_utf8-from_IsUtf8 s (plain_utf8 s h)) ∙ k)).1
+
+member_fits : (m : Member) → IsWhole m → FitsMember m
+member_fits m w = record {
+  name = (name_takes m.0 m.0 (ap (λ b. cond b (name_of m.0) None) (is_utf8-from_IsUtf8 m.0 (plain_utf8 m.0 w.name)) ∙ w.fit.name)).1;
+  field = field_fits m.1 w.field w.fit.field;
+}
+
+members_fit : (ms : List Member) → AllByRecursion IsWhole ms → AllByRecursion FitsMember ms
+members_fit [] h = tt
+members_fit (m ∷ ms) h = (member_fits m h.0, members_fit ms h.1)
+
+pub row_fits : (bytes : List ℕ) (fields : List Member) (rest : List ℕ) → ClosesRow [] bytes fields rest → All FitsMember fields
+row_fits bytes fields rest closes =
+    let front = whole_puts [] closes.ones tt closes.whole in
+    let all = whole_put closes.last (with_fields [] closes.ones) closes.whole_last front in
+    rw closes.put (All-from_recursion FitsMember (with_field closes.last (with_fields [] closes.ones)) (members_fit (with_field closes.last (with_fields [] closes.ones)) all))

@@ -1,7 +1,8 @@
 -- Members that are taken from a plain row, each put at its place.
-use Rattle.std.proofs.Common.{◌≡◌, ℕ, suc, ◌+◌, ◌≤◌, List, [], ◌∷◌, ◌++◌, length, insert, Option, Some, None, Ordering, Less, Equal, Greater, refl, sym, ap, ◌∙◌, arith, append_assoc, ap₂, Bool, true, false, cond, pos}
+use Rattle.std.proofs.Common.{◌≡◌, ℕ, suc, ◌+◌, ◌≤◌, List, [], ◌∷◌, ◌++◌, length, insert, Some, None, Ordering, Less, Equal, Greater, refl, sym, ap, ◌∙◌, arith, append_assoc, Bool, true, false, cond, pos, ◌==◌, nat_le}
+use Rattle.std.specs.Prelude.{is_some}
 use Rattle.std.specs.Str.{is_utf8}
-use Rattle.ks_row.specs.Texts.{name_of, name_from}
+use Rattle.ks_row.specs.Texts.{name_from}
 use Rattle.ks_row.specs.declared.row.Field.{Field}
 use Rattle.ks_row.specs.declared.row.Field.TheVariants.{Int}
 use Rattle.std.specs.Ordering.{nat_cmp, match_ordering}
@@ -49,15 +50,17 @@ put_is m old new place e h =
     let is : place ≡ p.k = p.is ∙ omega arith in
     h ∙ ap (λ i. insert old i m) is ∙ sym p.all_is
 
-name_fits_at : (b : Bool) (bytes n : List ℕ) (o : Option (List ℕ)) → n ≡ bytes → Some n ≡ cond b o None → o ≡ Some bytes
-name_fits_at true bytes n o same e = sym e ∙ ap Some same
-name_fits_at false bytes n o same e = absurd (cc)
+named : (b c d : Bool) (s : List ℕ) → is_some (cond b (cond c None (cond d (Some s) None)) None) ≡ true → cond c None (cond d (Some s) None) ≡ Some s
+named true true d s e = absurd cc
+named true false true s e = refl
+named true false false s e = absurd cc
+named false c d s e = absurd cc
 
-pub put_whole : (bytes name : List ℕ) (field made : Field) (old new : List Member) (place : ℕ) → name ≡ bytes → Some name ≡ name_from bytes → IsMadeField field made → Some place ≡ place_among 0 name old → new ≡ insert old place (name, made) → IsPut (bytes, field) old new
-put_whole bytes name field made old new place same known m e h =
+pub put_whole : (name : List ℕ) (field made : Field) (old new : List Member) (place : ℕ) → is_some (name_from name) ≡ true → IsMadeField field made → Some place ≡ place_among 0 name old → new ≡ insert old place (name, made) → IsPut (name, field) old new
+put_whole name field made old new place known m e h =
     record {
-      fit = record { name = name_fits_at (is_utf8 bytes) bytes name (name_of bytes) same known; field = m.fit };
-      put = put_is (name, made) old new place e h ∙ ap₂ (λ (a : List ℕ) (b : Field). with_field (a, b) old) same m.same;
+      fit = record { name = named (is_utf8 name) (length name == 0) (nat_le (length name) 64) name known; field = m.fit };
+      put = put_is (name, made) old new place e h ∙ ap (λ (f : Field). with_field (name, f) old) m.same;
     }
 
 -- ---- members one after another

@@ -1,6 +1,7 @@
 //! The record of a plain line, read from its bytes, with no JSON value between: members as `topic`, `key`, `value` and `ts`, no blanks,
 //! ASCII without escapes, whole numbers of up to 18 digits. Of any other line nothing is told.
-ghost use Rattle.std.specs.Prelude.{◌≡◌, true, IfOk, IfSome};
+ghost use Rattle.std.specs.Prelude.{◌≡◌, true, map, IfOk, IfSome};
+ghost use Rattle.ks_row.specs.Fields.{field_seen, member_seen};
 ghost use Rattle.ks_job_record.specs.Plain.{field_of};
 ghost use Rattle.ks_job_record.specs.PlainRows.{IsMadeField, IsPut, TakesMember, ClosesRow, place_among};
 ghost use Rattle.ks_job_record.specs.PlainLines.{IsFront, IsEnd, EndsLine};
@@ -8,9 +9,8 @@ ghost use Rattle.ks_job_record.specs.Says.{Says};
 
 use crate::pieces::{Plain, after, behind, split_digits, split_member, split_quoted};
 use crate::record::{Input, topic_number};
-use ks_row::{Blob, Field, Name, Rec, Row, Text, encode};
+use ks_row::{Blob, FieldRef, Name, Rec, RecordRef, Row, is_below, is_name, is_text};
 use std::alloc::{AllocError, Global};
-use std::cmp::Ordering;
 use std::str;
 
 const MOST_MEMBERS: usize = 16;
@@ -25,54 +25,56 @@ struct Front<'a> {
     rest: &'a [u8],
 }
 
-// The field with memory of its own; none where its text is too long.
-fn make_field(alloc: Global, plain: Plain<'_>) -> Result<Option<Field>, AllocError>
-    ensures { IfOk result (λ o. IfSome o (λ f. IsMadeField (field_of plain.entry) f)) }
+// A member of a row where it stands: its name and its field.
+type Member<'a> = (&'a [u8], FieldRef<'a>);
+
+// The field where it stands; none where its text is too long.
+fn see_field(plain: Plain<'_>) -> Option<FieldRef<'_>>
+    ensures { IfSome result (λ f. IsMadeField (field_of plain.entry) (field_seen f)) }
 {
     match plain {
-        Plain::Number(number) => Ok(Some(Field::Int(number))),
-        Plain::Text(text) => match Text::of(alloc, text)? {
-            Some(text) => Ok(Some(Field::Text(text))),
-            None => Ok(None),
-        },
+        Plain::Number(number) => Some(FieldRef::Int(number)),
+        Plain::Text(text) => {
+            if is_text(text) {
+                Some(FieldRef::Text(text))
+            } else {
+                None
+            }
+        }
     }
 }
 
 // Where a name belongs among members in order of names; none where it stands there.
-fn find_place(fields: &[(Name, Field)], name: &Name) -> Option<usize>
-    ensures { result ≡ place_among 0 name.now fields.now }
+fn find_place(fields: &[Member<'_>], name: &[u8]) -> Option<usize>
+    ensures { result ≡ place_among 0 name.now (map member_seen fields.now) }
 {
-    let mut place = 0;
-    let mut rest = fields;
-    while let [(first, _), more @ ..] = rest {
-        match name.cmp(first) {
-            Ordering::Less => return Some(place),
-            Ordering::Equal => return None,
-            Ordering::Greater => {}
+    for place in 0..fields.len() {
+        if is_below(name, fields[place].0) {
+            return Some(place);
         }
-        place += 1;
-        rest = more;
+        if !is_below(fields[place].0, name) {
+            return None;
+        }
     }
-    Some(place)
+    Some(fields.len())
 }
 
 // Puts a member at its place. Whether it is one, and its name wasn't there.
-fn put_member(
-    alloc: Global,
-    fields: &mut Vec<(Name, Field)>,
-    name: &[u8],
-    plain: Plain<'_>,
+fn put_member<'a>(
+    fields: &mut Vec<Member<'a>>,
+    name: &'a [u8],
+    plain: Plain<'a>,
 ) -> Result<bool, AllocError>
-    ensures { IfOk result (λ b. b ≡ true
-        → IsPut (name.now, field_of plain.entry) fields.old.items fields.new.items) }
+    ensures { IfOk result (λ b. b ≡ true → IsPut (name.now, field_of plain.entry)
+        (map member_seen fields.old.items) (map member_seen fields.new.items)) }
 {
-    let Some(name) = Name::of(alloc, name)? else {
+    if !is_name(name) {
+        return Ok(false);
+    }
+    let Some(field) = see_field(plain) else {
         return Ok(false);
     };
-    let Some(field) = make_field(alloc, plain)? else {
-        return Ok(false);
-    };
-    let Some(place) = find_place(fields.as_slice(), &name) else {
+    let Some(place) = find_place(fields.as_slice(), name) else {
         return Ok(false);
     };
     fields.insert(place, (name, field))?;
@@ -81,17 +83,17 @@ fn put_member(
 
 #[tactic(auto, using(crate::proofs::PlainRows::takes))]
 fn take_member<'a>(
-    alloc: Global,
-    fields: &mut Vec<(Name, Field)>,
+    fields: &mut Vec<Member<'a>>,
     bytes: &'a [u8],
 ) -> Result<Option<&'a [u8]>, AllocError>
     ensures { IfOk result (λ o. IfSome o (λ rest.
-        TakesMember fields.old.items bytes.now fields.new.items rest.now)) }
+        TakesMember (map member_seen fields.old.items) bytes.now (map member_seen fields.new.items)
+        rest.now)) }
 {
     let Some((name, plain, rest)) = split_member(bytes) else {
         return Ok(None);
     };
-    if put_member(alloc, fields, name, plain)? {
+    if put_member(fields, name, plain)? {
         Ok(Some(rest))
     } else {
         Ok(None)
@@ -100,16 +102,16 @@ fn take_member<'a>(
 
 // Puts the members up to the closing brace at their places; the bytes behind it.
 fn take_members<'a>(
-    alloc: Global,
-    fields: &mut Vec<(Name, Field)>,
+    fields: &mut Vec<Member<'a>>,
     bytes: &'a [u8],
 ) -> Result<Option<&'a [u8]>, AllocError>
     ensures { IfOk result (λ o. IfSome o (λ rest.
-        ClosesRow fields.old.items bytes.now fields.new.items rest.now)) }
+        ClosesRow (map member_seen fields.old.items) bytes.now (map member_seen fields.new.items)
+        rest.now)) }
 {
     let mut rest = bytes;
     for _ in 0..MOST_MEMBERS {
-        let Some(more) = take_member(alloc, fields, rest)? else {
+        let Some(more) = take_member(fields, rest)? else {
             return Ok(None);
         };
         if let Some(end) = behind(more, b'}') {
@@ -166,10 +168,14 @@ fn end_record(
     let Some(ts) = read_end(rest) else {
         return Ok(None);
     };
-    let key = Some(Blob::from_slice(alloc, front.key)?);
+    let value = match &value {
+        Some(value) => Some(value.as_slice()),
+        None => None,
+    };
+    let key = Some(front.key);
     Ok(Some(Input {
         topic: front.topic,
-        rec: Rec { key, value, ts },
+        rec: Rec::of(alloc, RecordRef { key, value, ts })?,
     }))
 }
 
@@ -186,14 +192,13 @@ fn read_row_record(
         return Ok(None);
     };
     let mut fields = Vec::with_capacity(alloc, 4)?;
-    let Some(rest) = take_members(alloc, &mut fields, members)? else {
+    let Some(rest) = take_members(&mut fields, members)? else {
         return Ok(None);
     };
-    let Some(row) = Row::from_rising(fields) else {
+    let Some(row) = Row::from_refs(alloc, fields.as_slice())? else {
         return Ok(None);
     };
-    let value = encode(alloc, &row)?;
-    end_record(alloc, front, Some(value), rest)
+    end_record(alloc, front, Some(row.into_bytes()), rest)
 }
 
 /// The record of a plain line: the line is the text of a JSON value, of which `read_input` gives this record. `None`: the line isn't plain, or

@@ -1,5 +1,5 @@
 //! Record lines.
-ghost use Rattle.std.specs.Prelude.{◌≡◌, [], codes};
+ghost use Rattle.std.specs.Prelude.{◌≡◌, [], codes, option_copied};
 ghost use Rattle.serde_json.specs.Find.{get};
 ghost use Rattle.serde_json.specs.View.{view, members_view};
 ghost use Rattle.ks_row.specs.Spelling.{spelling};
@@ -8,7 +8,7 @@ ghost use Rattle.ks_job_record.specs.Record.{place_of, number_of, topic_from, ke
 
 use crate::fault::{LineError, bad_number, bad_shape, too_many, unknown_topic};
 use crate::members::{Form, read_integer, read_member, read_object, read_text};
-use ks_row::{Blob, Field, Name, Rec, Row, Text, encode};
+use ks_row::{Blob, Field, Name, Rec, RecordRef, Row, Text};
 use serde_json::Value;
 use serde_json::value::Map;
 use std::alloc::{AllocError, Global};
@@ -139,7 +139,7 @@ fn read_row(alloc: Global, map: &Map<String, Value>) -> Result<Row, LineError>
     ensures { Gives (λ r. r) result (row_from (members_view map.now.entries)) }
 {
     let fields = read_fields(alloc, map)?;
-    match Row::from_rising(fields) {
+    match Row::from_rising(alloc, fields.as_slice())? {
         Some(row) => Ok(row),
         None => Err(LineError::Fault(bad_shape(alloc, "value")?)),
     }
@@ -152,7 +152,7 @@ fn read_value(alloc: Global, value: &Value) -> Result<Option<Blob>, LineError>
         Value::Null => Ok(None),
         Value::Object(map) => {
             let row = read_row(alloc, map)?;
-            Ok(Some(encode(alloc, &row)?))
+            Ok(Some(row.into_bytes()))
         }
         _ => Err(LineError::Fault(bad_shape(alloc, "value")?)),
     }
@@ -180,6 +180,15 @@ fn read_time(alloc: Global, value: &Value) -> Result<u64, LineError>
     }
 }
 
+fn bytes_in(blob: &Option<Blob>) -> Option<&[u8]>
+    ensures { option_copied result ≡ blob.now }
+{
+    match blob {
+        Some(blob) => Some(blob.as_slice()),
+        None => None,
+    }
+}
+
 /// The record that a value is, or the first fault.
 #[tactic(auto, unfolding(crate::specs::Record::input_from))]
 pub fn read_input(alloc: Global, topics: &[Name], value: &Value) -> Result<Input, LineError>
@@ -191,12 +200,13 @@ pub fn read_input(alloc: Global, topics: &[Name], value: &Value) -> Result<Input
     let inner = read_member(alloc, "value", value)?;
     let row = read_value(alloc, inner)?;
     let ts = read_time(alloc, value)?;
+    let rec = RecordRef {
+        key: bytes_in(&key),
+        value: bytes_in(&row),
+        ts,
+    };
     Ok(Input {
         topic,
-        rec: Rec {
-            key,
-            value: row,
-            ts,
-        },
+        rec: Rec::of(alloc, rec)?,
     })
 }

@@ -7,7 +7,7 @@ use crate::values::{
     push_number, push_pairs, push_places, push_positions, push_rec, push_recs, push_task,
     push_truth,
 };
-use ks_row::{Assignment, PartId, Rec, TaskId};
+use ks_row::{Assignment, PartId, Rec, SharedRecords, TaskId};
 use std::alloc::AllocError;
 
 pub(crate) fn number_field(out: &mut Vec<u8>, number: u64) -> Result<(), AllocError>
@@ -37,12 +37,12 @@ pub(crate) fn task_field(out: &mut Vec<u8>, task: TaskId) -> Result<(), AllocErr
 pub(crate) fn rec_field(out: &mut Vec<u8>, rec: &Rec) -> Result<(), AllocError>
     ensures { OnOk result (out.new.items ≡ out.old.items ++ field_text (rec_data rec.now)) }
 {
-    push_rec(out, rec)?;
+    push_rec(out, rec.as_ref())?;
     out.push(b',')?;
     Ok(())
 }
 
-pub(crate) fn recs_field(out: &mut Vec<u8>, recs: &[Rec]) -> Result<(), AllocError>
+pub(crate) fn recs_field(out: &mut Vec<u8>, recs: &SharedRecords) -> Result<(), AllocError>
     ensures { OnOk result (out.new.items ≡ out.old.items ++ field_text (recs_data recs.now)) }
 {
     push_recs(out, recs)?;

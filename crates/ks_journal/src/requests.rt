@@ -118,7 +118,7 @@ pub(crate) fn push_arguments(out: &mut Vec<u8>, request: &Request) -> Result<(),
         } => {
             task_work_fields(out, *w, *epoch, *number, *task)?;
             part_fields(out, *part)?;
-            recs_field(out, recs.as_slice())
+            recs_field(out, recs)
         }
         Request::SendOffsets {
             w,

@@ -1,12 +1,13 @@
 //! The values in a line: each call appends one to the text. After want of memory a part of it may stand there.
-ghost use Rattle.std.specs.Prelude.{◌≡◌, ◌++◌, ◌<◌, OnOk, decimal};
+ghost use Rattle.std.specs.Prelude.{option_copied, ◌≡◌, ◌++◌, ◌<◌, OnOk, decimal};
 ghost use Rattle.std.specs.Char.{digit_char};
 ghost use Rattle.serde_json.specs.Data.{null, boolean, string};
 ghost use Rattle.serde_json.specs.Written.{compact_text, comma_if};
 ghost use Rattle.json.specs.Print.{escape};
+ghost use Rattle.ks_row.specs.Records.{record_seen};
 ghost use Rattle.ks_journal.specs.Lines.{hex, bytes_data, rec_data, task_data, pair_data, place_data, recs_data, pairs_data, places_data};
 
-use ks_row::{Blob, Rec, TaskId};
+use ks_row::{RecordRef, SharedRecords, TaskId};
 use std::alloc::AllocError;
 
 // One digit.
@@ -100,23 +101,25 @@ fn push_some_bytes(out: &mut Vec<u8>, bytes: &[u8]) -> Result<(), AllocError>
 }
 
 // The same, or `null`.
-fn push_bytes(out: &mut Vec<u8>, bytes: &Option<Blob>) -> Result<(), AllocError>
-    ensures { OnOk result (out.new.items ≡ out.old.items ++ compact_text (bytes_data bytes.now)) }
+fn push_bytes(out: &mut Vec<u8>, bytes: Option<&[u8]>) -> Result<(), AllocError>
+    ensures { OnOk result (out.new.items ≡ out.old.items
+        ++ compact_text (bytes_data (option_copied bytes.entry))) }
 {
     match bytes {
-        Some(bytes) => push_some_bytes(out, bytes.as_slice()),
+        Some(bytes) => push_some_bytes(out, bytes),
         None => push_null(out),
     }
 }
 
 // `[KEY,VALUE,TS]`.
-pub(crate) fn push_rec(out: &mut Vec<u8>, rec: &Rec) -> Result<(), AllocError>
-    ensures { OnOk result (out.new.items ≡ out.old.items ++ compact_text (rec_data rec.now)) }
+pub(crate) fn push_rec(out: &mut Vec<u8>, rec: RecordRef<'_>) -> Result<(), AllocError>
+    ensures { OnOk result (out.new.items ≡ out.old.items
+        ++ compact_text (rec_data (record_seen rec.entry))) }
 {
     out.push(b'[')?;
-    push_bytes(out, &rec.key)?;
+    push_bytes(out, rec.key)?;
     out.push(b',')?;
-    push_bytes(out, &rec.value)?;
+    push_bytes(out, rec.value)?;
     out.push(b',')?;
     push_number(out, rec.ts)?;
     out.push(b']')?;
@@ -159,14 +162,14 @@ fn push_comma(out: &mut Vec<u8>, later: bool) -> Result<(), AllocError>
 }
 
 // `[REC,..]`.
-pub(crate) fn push_recs(out: &mut Vec<u8>, recs: &[Rec]) -> Result<(), AllocError>
+pub(crate) fn push_recs(out: &mut Vec<u8>, recs: &SharedRecords) -> Result<(), AllocError>
     ensures { OnOk result (out.new.items ≡ out.old.items ++ compact_text (recs_data recs.now)) }
 {
     out.push(b'[')?;
     let mut later = false;
-    for rec in recs {
+    for place in 0..recs.len() {
         push_comma(out, later)?;
-        push_rec(out, rec)?;
+        push_rec(out, recs.get(place))?;
         later = true;
     }
     out.push(b']')?;

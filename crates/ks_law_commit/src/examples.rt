@@ -1,6 +1,6 @@
 //! A history written out, in which others write while a worker builds: the laws' premises hold together.
 ghost use Rattle.std.specs.Prelude.{◌≡◌, Some, true};
-ghost use Rattle.ks_row.specs.declared.record.Rec.{Rec};
+ghost use Rattle.ks_row.specs.Records.{Record as Rec};
 ghost use Rattle.ks_row.specs.declared.assignment.Refused.TheVariants.{Fenced};
 ghost use Rattle.ks_history.specs.declared.journal.Request.TheVariants.{Decide};
 ghost use Rattle.ks_history.specs.Step.{refusal};

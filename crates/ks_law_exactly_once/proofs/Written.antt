@@ -16,7 +16,7 @@ use Rattle.ks_history.specs.Partition.{Logged, stable, open_from, is_behind, rec
 use Rattle.ks_history.specs.State.{State, start, offset_in, IsPart}
 use Rattle.ks_history.proofs.Names.{same_part-refl}
 use Rattle.ks_law_exactly_once.specs.Example.{input, changelog, the_task, setup, begun, one_commit, zombie}
-use Rattle.ks_row.specs.declared.record.Rec.{Rec}
+use Rattle.ks_row.specs.Records.{Record as Rec}
 use Rattle.ks_row.specs.declared.record.TaskId.{TaskId}
 use Rattle.ks_row.specs.declared.assignment.Refused.TheVariants.{Fenced}
 use Rattle.ks_def_runs.specs.Bytes.{Store}

@@ -1,6 +1,6 @@
 -- What a transaction appended, told by the journal: the records of the accepted appends since its producer last ended one.
 use Rattle.std.specs.Prelude.{◌≡◌, ℕ, ◌==◌, ◌&&◌, if◌then◌else◌, List, [], ◌∷◌, ◌++◌, Option, Some, None}
-use Rattle.ks_row.specs.declared.record.Rec.{Rec}
+use Rattle.ks_row.specs.Records.{Record as Rec}
 use Rattle.ks_row.specs.declared.record.PartId.{PartId}
 use Rattle.ks_row.specs.declared.record.TaskId.{TaskId}
 use Rattle.ks_row.specs.declared.assignment.Refused.{Refused}

@@ -1,6 +1,6 @@
 -- One record is copied to a changelog: its commit, and a zombie whose commit comes too late. Two histories, written out.
 use Rattle.std.specs.Prelude.{ℕ, ◌==◌, ◌&&◌, true, false, Some, None, List, [], ◌∷◌, cond, take}
-use Rattle.ks_row.specs.declared.record.Rec.{Rec}
+use Rattle.ks_row.specs.Records.{Record as Rec}
 use Rattle.ks_row.specs.declared.record.PartId.{PartId}
 use Rattle.ks_row.specs.declared.record.TaskId.{TaskId}
 use Rattle.ks_row.specs.declared.assignment.Assignment.{Assignment}

@@ -1,7 +1,8 @@
 ghost use Rattle.ks_law_fk_quiescence.specs.Joins.{MessagesStand, OfEach, HashesAreHad, HashesFollow, OthersAreForgotten, PresentIsAnswered, ResultsFollow, GoneIsTold, AloneIsJoined};
 
 /// Joins on a foreign key, in every state of every uncrashed run of every well-formed topology: each waiting subscription comes from
-/// its left key's task, each waiting response from a task of the right side, and each stands at its key's partition.
+/// its left key's task, each waiting response from a task of the right side, and each stands at its key's partition. A subscription, waiting or kept, names its left key's task exactly where
+/// the left side's keys are spread by their front parts.
 pub fn join_messages_stand()
     ensures { MessagesStand }
 {}

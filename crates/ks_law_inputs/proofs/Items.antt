@@ -20,7 +20,7 @@ use Rattle.ks_row.specs.Rows.{Member, is_row, row_of}
 use Rattle.ks_row.specs.Spelling.{spelling, FitsField, FitsMember, FitsRow}
 use Rattle.ks_row.specs.declared.row.Field.{Field}
 use Rattle.ks_row.specs.declared.row.Field.TheVariants.{Int, Text}
-use Rattle.ks_row.specs.declared.record.Rec.{Rec}
+use Rattle.ks_row.specs.Records.{Record as Rec}
 use Rattle.ks_plan.specs.declared.draft.TopicDraft.{TopicDraft}
 use Rattle.ks_plan.specs.Drafts.{Topics, DraftView}
 use Rattle.ks_plan.specs.Plan.{natural}

@@ -4,7 +4,7 @@ use Rattle.ks_row.specs.Texts.{IsKey}
 use Rattle.ks_row.specs.Rows.{Member}
 use Rattle.ks_row.specs.Spelling.{spelling, FitsRow}
 use Rattle.ks_row.specs.Reading.{row_from}
-use Rattle.ks_row.specs.declared.record.Rec.{Rec}
+use Rattle.ks_row.specs.Records.{Record as Rec}
 use Rattle.ks_plan.specs.Drafts.{Topics}
 use Rattle.ks_plan.specs.Plan.{natural}
 use Rattle.ks_query.specs.Streams.{Input, some_of}

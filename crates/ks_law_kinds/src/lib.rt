@@ -6,13 +6,13 @@ ghost use Rattle.ks_law_kinds.specs.Fitting.{DecidedAreOfKind, PlansFit};
 ghost use Rattle.ks_law_kinds.specs.Hashes.{HashesFit, MurmurFits};
 ghost use Rattle.ks_law_kinds.specs.OfKind.{KindsAreRead};
 
-/// In every journal of a topology that is legal and faithful, and whose produced records are such as a job may produce, each decided
+/// In every journal of a topology of at most 64 partitions a topic that is legal and faithful, and whose produced records are such as a job may produce, each decided
 /// record has a key and a value of its topic's kind and a time in range, and so has each pair of the stores that the changelogs tell.
 pub fn decided_are_of_kind()
     ensures { DecidedAreOfKind }
 {}
 
-/// The plan of a draft whose projections have names and constants that can be spelled has such projections.
+/// The plan of a draft whose projections and foreign keys have names, texts and constants that can be spelled has such ones.
 pub fn plans_fit()
     ensures { PlansFit }
 {}

@@ -7,7 +7,7 @@ use Rattle.std.proofs.lemmas.Bool.Decides.{Decides-eqb}
 use Rattle.ks_row.specs.Texts.{IsKey, key_from}
 use Rattle.ks_row.specs.Spelling.{IsBytes}
 use Rattle.ks_row.specs.Reading.{◌>>=◌}
-use Rattle.ks_row.specs.declared.record.Rec.{Rec}
+use Rattle.ks_row.specs.Records.{Record as Rec}
 use Rattle.ks_row.specs.declared.record.PartId.{PartId}
 use Rattle.ks_row.specs.declared.record.TaskId.{TaskId}
 use Rattle.ks_wire.specs.Spelling.{time_key}

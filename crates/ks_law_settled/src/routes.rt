@@ -7,7 +7,7 @@ pub fn inputs_once()
 {}
 
 /// All that a task of a well-formed topology makes of a record of its inputs goes to partitions of the cluster, whatever its
-/// stores hold, where a key's partition is one of those that there are.
+/// stores hold: what would go elsewhere is held back.
 pub fn topologies_send_inside()
     ensures { TopologiesSendInside }
 {}

@@ -2,7 +2,7 @@
 use Rattle.std.proofs.Common.{◌∙◌, false, sym, subst, ◌<◌, ◌≡◌, ℕ, suc, true, List, [], ◌∷◌, Option, Some, None, refl, ap, nat_lt}
 use Rattle.std.specs.Prelude.{is_some}
 use Rattle.std.proofs.lemmas.Bool.{and_from, lt-ltb}
-use Rattle.ks_row.specs.declared.record.Rec.{Rec}
+use Rattle.ks_row.specs.Records.{Record as Rec}
 use Rattle.ks_row.specs.Spelling.{IsBytes}
 use Rattle.ks_row.specs.Texts.{key_from}
 use Rattle.ks_row.specs.Reading.{◌>>=◌, row_from}

@@ -1,7 +1,7 @@
 -- A task's whole step over the bytes of its stores, as code makes it: lists that grow node by node, stores that are looked up.
 use Rattle.std.specs.Prelude.{◌≡◌, ◌<◌, ◌+◌, ◌^◌, ℕ, suc, List, [], ◌∷◌, ◌++◌, map, cond, Option, Some, None, option_map, nat_lt}
 use Rattle.std.specs.List.{flat_map}
-use Rattle.ks_row.specs.declared.record.Rec.{Rec}
+use Rattle.ks_row.specs.Records.{Record as Rec}
 use Rattle.ks_row.specs.declared.record.PartId.{PartId}
 use Rattle.ks_row.specs.declared.record.TaskId.{TaskId}
 use Rattle.ks_row.specs.Spelling.{IsBytes}

@@ -3,7 +3,7 @@
 -- Kafka Streams developer guide, "Processor topology": nodes and the topics between them make an acyclic graph.
 use Rattle.std.specs.Prelude.{◌≡◌, ◌≤◌, []}
 use Rattle.std.specs.List.Sorted.{IsStrictlyIncreasing}
-use Rattle.ks_row.specs.declared.record.Rec.{Rec}
+use Rattle.ks_row.specs.Records.{Record as Rec}
 use Rattle.ks_row.specs.declared.record.PartId.{PartId}
 use Rattle.ks_row.specs.declared.record.TaskId.{TaskId}
 use Rattle.ks_def_runs.specs.Run.{sent_to}

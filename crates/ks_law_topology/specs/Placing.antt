@@ -8,7 +8,7 @@ use Rattle.ks_wire.specs.Spelling.{time_key}
 use Rattle.ks_wire.specs.Values.{SubscriptionValue}
 use Rattle.ks_wire.specs.declared.values.Subscriber.{Subscriber}
 use Rattle.ks_wire.specs.Reading.{long_key_at, subscription_from, subscriber_from, subscription_key_from}
-use Rattle.ks_row.specs.declared.record.Rec.{Rec}
+use Rattle.ks_row.specs.Records.{Record as Rec}
 use Rattle.ks_row.specs.declared.record.PartId.{PartId}
 use Rattle.ks_plan.specs.Drafts.{DraftView}
 use Rattle.ks_plan.specs.Plan.{Plan, plan_of, is_windowed}

@@ -34,8 +34,8 @@ pub fn journals_are_runs()
     ensures short { OfJobs IsShort }
 {}
 
-/// In every journal of a well-formed topology that is legal and faithful, and whose produced records stand at the partitions of
-/// their keys, each decided internal record has a key, and each table's key stands only in the task of its place: a window's by the
+/// In every journal of a well-formed topology, where each key has a place, that is legal and faithful, and whose produced records stand at
+/// the places of their keys, each decided internal record has a key, and each table's key stands only in the task of its place: a window's by the
 /// key of its group, and a subscription's by its foreign key, where the right row of that key stands. What a subscription says, and what is
 /// kept of it, names the partition of its left key's task exactly where the left side's keys are spread by their front parts.
 pub fn decided_stand()

@@ -2,7 +2,7 @@
 use Rattle.std.specs.Prelude.{◌==◌, Result, Ok, Err, is_err}
 use Rattle.std.proofs.lemmas.List.{set-get_or}
 use Rattle.std.proofs.Common.{◌≡◌, ◌≢◌, ℕ, zero, suc, ◌+◌, ◌<◌, ◌≤◌, Bool, true, false, cond, List, [], ◌∷◌, ◌++◌, length, set, get_or, refl, sym, ap, ap₂, ◌∙◌, subst, arith, length-append, append-nil}
-use Rattle.ks_row.specs.declared.record.Rec.{Rec}
+use Rattle.ks_row.specs.Records.{Record as Rec}
 use Rattle.ks_row.specs.declared.record.PartId.{PartId}
 use Rattle.ks_row.specs.declared.record.TaskId.{TaskId}
 use Rattle.ks_row.specs.Parts.{same_part}
@@ -145,30 +145,30 @@ some_seat p (written ∷ log) h = by (same_part p written.part) (seat p log) ref
 
 -- ---- a batch
 pub log_appended-is : (p : PartId) (b : Batch) (log log' : List Written) (d : Written) (slots : List Slot) → place p log < length log
-    → slots ≡ appended b.producer b.epoch b.number b.task b.recs.items (get_or log (place p log) d).slots
+    → slots ≡ appended b.producer b.epoch b.number b.task b.recs (get_or log (place p log) d).slots
     → log' ≡ set log (place p log) (record { part = (get_or log (place p log) d).part; slots = slots }) → log' ≡ log_appended p b log
 log_appended-is p b log log' d slots there grew is =
     let here : slots_in p log ≡ (get_or log (place p log) d).slots = slots_in-there p log d there in
     is ∙ ap (λ l. set log (place p log) (record { part = (get_or log (place p log) d).part; slots = l })) grew
     ∙ by (b.number == count_sent b.producer b.epoch (get_or log (place p log) d).slots)
-    ∙ ap (λ l. cond (b.number == count_sent b.producer b.epoch l) (with_slots p (sent_slots b.producer b.epoch b.number b.task b.recs.items) log) log) (sym here)
+    ∙ ap (λ l. cond (b.number == count_sent b.producer b.epoch l) (with_slots p (sent_slots b.producer b.epoch b.number b.task b.recs) log) log) (sym here)
   where
-    by : (t : Bool) → set log (place p log) (record { part = (get_or log (place p log) d).part; slots = cond t ((get_or log (place p log) d).slots ++ sent_slots b.producer b.epoch b.number b.task b.recs.items) (get_or log (place p log) d).slots })
-        ≡ cond t (with_slots p (sent_slots b.producer b.epoch b.number b.task b.recs.items) log) log
-    by true = sym (with_slots-there p (sent_slots b.producer b.epoch b.number b.task b.recs.items) log d there)
+    by : (t : Bool) → set log (place p log) (record { part = (get_or log (place p log) d).part; slots = cond t ((get_or log (place p log) d).slots ++ sent_slots b.producer b.epoch b.number b.task b.recs) (get_or log (place p log) d).slots })
+        ≡ cond t (with_slots p (sent_slots b.producer b.epoch b.number b.task b.recs) log) log
+    by true = sym (with_slots-there p (sent_slots b.producer b.epoch b.number b.task b.recs) log d there)
     by false = set-get_or log (place p log) d
 
 -- a partition that isn't there, where the batch is refused and where it isn't
 pub log_missed-new : (p : PartId) (b : Batch) (log : List Written) → length log ≤ place p log → (b.number == 0) ≡ false → log ≡ log_appended p b log
 log_missed-new p b log beyond other =
-    sym (ap (λ t. cond t (with_slots p (sent_slots b.producer b.epoch b.number b.task b.recs.items) log) log) (ap (λ l. b.number == count_sent b.producer b.epoch l) (slots_in-new p log beyond) ∙ other))
+    sym (ap (λ t. cond t (with_slots p (sent_slots b.producer b.epoch b.number b.task b.recs) log) log) (ap (λ l. b.number == count_sent b.producer b.epoch l) (slots_in-new p log beyond) ∙ other))
 
 pub log_appended-new : (p : PartId) (b : Batch) (log log' : List Written) (slots : List Slot) → length log ≤ place p log → (b.number == 0) ≡ true
-    → slots ≡ appended b.producer b.epoch b.number b.task b.recs.items [] → log' ≡ log ++ record { part = p; slots = slots } ∷ [] → log' ≡ log_appended p b log
+    → slots ≡ appended b.producer b.epoch b.number b.task b.recs [] → log' ≡ log ++ record { part = p; slots = slots } ∷ [] → log' ≡ log_appended p b log
 log_appended-new p b log log' slots beyond first grew is =
-    is ∙ ap (λ l. log ++ record { part = p; slots = l } ∷ []) (grew ∙ ap (λ t. cond t (sent_slots b.producer b.epoch b.number b.task b.recs.items) []) first)
-    ∙ sym (with_slots-new p (sent_slots b.producer b.epoch b.number b.task b.recs.items) log beyond)
-    ∙ sym (ap (λ t. cond t (with_slots p (sent_slots b.producer b.epoch b.number b.task b.recs.items) log) log) (ap (λ l. b.number == count_sent b.producer b.epoch l) (slots_in-new p log beyond) ∙ first))
+    is ∙ ap (λ l. log ++ record { part = p; slots = l } ∷ []) (grew ∙ ap (λ t. cond t (sent_slots b.producer b.epoch b.number b.task b.recs) []) first)
+    ∙ sym (with_slots-new p (sent_slots b.producer b.epoch b.number b.task b.recs) log beyond)
+    ∙ sym (ap (λ t. cond t (with_slots p (sent_slots b.producer b.epoch b.number b.task b.recs) log) log) (ap (λ l. b.number == count_sent b.producer b.epoch l) (slots_in-new p log beyond) ∙ first))
 
 -- ---- answers
 pub is_taken : (w e number : ℕ) (slots : List Slot) (r : Result ℕ OutOfSequence) → r ≡ append_answer w e number slots → is_err r ≡ false → (number == count_sent w e slots) ≡ true
@@ -185,8 +185,8 @@ is_missed w e number slots r answer missed = by (number == count_sent w e slots)
     by true is = let both : false ≡ true = sym (ap is_err is) ∙ missed in absurd (cc)
     by false is = refl
 
-pub total-appended : (p : PartId) (b : Batch) (log : List Written) → (b.number == count_sent b.producer b.epoch (slots_in p log)) ≡ true → total (log_appended p b log) ≡ total log + length b.recs.items
+pub total-appended : (p : PartId) (b : Batch) (log : List Written) → (b.number == count_sent b.producer b.epoch (slots_in p log)) ≡ true → total (log_appended p b log) ≡ total log + length b.recs
 total-appended p b log taken =
-    ap (λ t. total (cond t (with_slots p (sent_slots b.producer b.epoch b.number b.task b.recs.items) log) log)) taken
-    ∙ total-with p (sent_slots b.producer b.epoch b.number b.task b.recs.items) log
-    ∙ ap (λ n. total log + n) (length-sent b.producer b.epoch b.number b.task b.recs.items)
+    ap (λ t. total (cond t (with_slots p (sent_slots b.producer b.epoch b.number b.task b.recs) log) log)) taken
+    ∙ total-with p (sent_slots b.producer b.epoch b.number b.task b.recs) log
+    ∙ ap (λ n. total log + n) (length-sent b.producer b.epoch b.number b.task b.recs)

@@ -37,4 +37,4 @@ pub record IsCounted (log : List Written) (empty : List Slot) (count : ℕ) : Ty
 -- with a batch at the end of one partition, where its number is the count of its producer's and epoch's records there
 abbrev pub log_appended : PartId → Batch → List Written → List Written
 log_appended p b log =
-    if b.number == count_sent b.producer b.epoch (slots_in p log) then with_slots p (sent_slots b.producer b.epoch b.number b.task b.recs.items) log else log
+    if b.number == count_sent b.producer b.epoch (slots_in p log) then with_slots p (sent_slots b.producer b.epoch b.number b.task b.recs) log else log

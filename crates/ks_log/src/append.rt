@@ -1,27 +1,18 @@
 //! The slots that an append adds.
-ghost use Rattle.std.specs.Prelude.{◌≡◌, ◌+◌, ◌<◌, ◌≤◌, ◌^◌, ◌++◌, length, vec_capacity, IfOk};
+ghost use Rattle.std.specs.Prelude.{◌≡◌, ◌+◌, ◌<◌, ◌≤◌, ◌^◌, ◌++◌, ◌∷◌, [], length, vec_capacity, IfOk, OnOk, OnErr};
+ghost use Rattle.ks_history.specs.declared.partition.Slot.TheVariants.{Sent};
 ghost use Rattle.ks_history.specs.Partition.{sent_slots};
+ghost use Rattle.ks_row.specs.Records.{rec_of_list};
 
 use ks_history::Slot;
-use ks_row::{Rec, TaskId};
-use std::alloc::{AllocError, Global};
+use ks_row::{Rec, SharedRecords, TaskId};
+use std::alloc::AllocError;
 
-/// A copy of a record, with its own memory. Want of memory for the copy is the one error.
+/// A copy of a record, which shares its bytes. Want of memory stands for a count of owners that is full.
 pub fn copy(rec: &Rec) -> Result<Rec, AllocError>
     ensures { IfOk result (λ made. made ≡ rec.now) }
 {
     rec.clone()
-}
-
-/// Copies of records, in their order. Want of memory for the copies is the one error.
-pub fn copies(alloc: Global, recs: &[Rec]) -> Result<Vec<Rec>, AllocError>
-    ensures { IfOk result (λ made. made.items ≡ recs.now) }
-{
-    let mut made = Vec::with_capacity(alloc, recs.len())?;
-    for rec in recs {
-        made.push(copy(rec)?)?;
-    }
-    Ok(made)
 }
 
 /// Records that a producer sends in an epoch for a task, numbered on from `number` (in Kafka: a record batch, with the
@@ -32,32 +23,54 @@ pub struct Batch {
     pub epoch: u64,
     pub number: u64,
     pub task: TaskId,
-    pub recs: Vec<Rec>,
+    pub recs: SharedRecords,
 }
 
-/// Puts the slots of a batch behind those that are there: one for each record, in their order. Takes no memory.
-pub fn put_sent(slots: &mut Vec<Slot>, batch: Batch)
-    requires room { length slots.old.items + length batch.recs.items ≤ vec_capacity slots.old }
-    requires below { batch.number + length batch.recs.items < 2 ^ 64 }
-    ensures { slots.new.items ≡ slots.old.items
-        ++ sent_slots batch.producer batch.epoch batch.number batch.task batch.recs.items }
+// Puts the slot of the record at a place of a batch behind those that are there. Takes no memory; its one error stands for a count of
+// owners that is full, and then the slots are as before.
+fn put_rec(
+    slots: &mut Vec<Slot>,
+    batch: &Batch,
+    place: usize,
+    number: u64,
+) -> Result<(), AllocError>
+    requires room { length slots.old.items < vec_capacity slots.old }
+    requires there { place < length batch.now.recs }
+    ensures ok { OnOk result (slots.new.items ≡ slots.old.items
+        ++ Sent batch.now.producer batch.now.epoch number batch.now.task
+        (rec_of_list batch.now.recs place) ∷ []) }
+    ensures err { OnErr result (slots.new.items ≡ slots.old.items) }
+    ensures room { vec_capacity slots.new ≡ vec_capacity slots.old }
 {
-    let Batch {
-        producer,
-        epoch,
+    let rec = batch.recs.rec(place)?;
+    slots.push_reserved(Slot::Sent {
+        producer: batch.producer,
+        epoch: batch.epoch,
         number,
-        task,
-        recs,
-    } = batch;
-    let mut next = number;
-    for rec in recs {
-        slots.push_reserved(Slot::Sent {
-            producer,
-            epoch,
-            number: next,
-            task,
-            rec,
-        });
+        task: batch.task,
+        rec,
+    });
+    Ok(())
+}
+
+/// Puts the slots of a batch behind those that are there: one for each record, in their order. Takes no memory; its one error stands for
+/// a count of owners that is full, and then the slots are as before.
+pub fn put_sent(slots: &mut Vec<Slot>, batch: &Batch) -> Result<(), AllocError>
+    requires room { length slots.old.items + length batch.now.recs ≤ vec_capacity slots.old }
+    requires below { batch.now.number + length batch.now.recs < 2 ^ 64 }
+    ensures ok { OnOk result (slots.new.items ≡ slots.old.items
+        ++ sent_slots batch.now.producer batch.now.epoch batch.now.number batch.now.task
+        batch.now.recs) }
+    ensures err { OnErr result (slots.new.items ≡ slots.old.items) }
+{
+    let before = slots.len();
+    let mut next = batch.number;
+    for place in 0..batch.recs.len() {
+        if let Err(error) = put_rec(slots, batch, place, next) {
+            slots.truncate(before);
+            return Err(error);
+        }
         next += 1;
     }
+    Ok(())
 }

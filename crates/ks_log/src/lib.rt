@@ -10,7 +10,7 @@ mod part;
 mod reading;
 mod seats;
 
-pub use append::{Batch, copies, copy};
+pub use append::{Batch, copy};
 pub use log::{Log, Written};
 pub use part::{OutOfSequence, Part};
 pub use reading::ends_in;

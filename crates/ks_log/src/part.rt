@@ -11,7 +11,7 @@ use crate::counts::{Counted, count_of, put_count};
 use crate::marks::{Marked, is_visible, mark_count, put_mark};
 use crate::reading::{decided_in, next_in, visible_from};
 use ks_history::{Producer, Slot};
-use ks_row::{PartId, Rec, TaskId};
+use ks_row::{PartId, Rec, SharedRecords, TaskId};
 use std::alloc::{AllocError, Global};
 use std::marker::Model;
 
@@ -163,11 +163,10 @@ impl Part {
         epoch: u64,
         number: u64,
         task: TaskId,
-        recs: Vec<Rec>,
+        recs: SharedRecords,
     ) -> Result<Result<u64, OutOfSequence>, AllocError>
         ensures answer { IfOk result (λ r. r ≡ append_answer producer epoch number self.old) }
-        ensures ok { OnOk result (self.new ≡ appended producer epoch number task recs.items
-            self.old) }
+        ensures ok { OnOk result (self.new ≡ appended producer epoch number task recs self.old) }
         ensures err { OnErr result (self.new ≡ self.old) }
     {
         let expected = self.count(producer, epoch);
@@ -178,8 +177,11 @@ impl Part {
             return Err(AllocError);
         };
         let end = self.slots.len();
-        let room = end - self.visible.len();
-        self.visible.reserve(room + recs.len())?;
+        let waiting = end - self.visible.len();
+        let Some(room) = waiting.checked_add(recs.len()) else {
+            return Err(AllocError);
+        };
+        self.visible.reserve(room)?;
         self.counts.reserve(1)?;
         self.slots.reserve(recs.len())?;
         let batch = Batch {
@@ -189,7 +191,7 @@ impl Part {
             task,
             recs,
         };
-        put_sent(&mut self.slots, batch);
+        put_sent(&mut self.slots, &batch)?;
         put_count(&mut self.counts, producer, epoch, next);
         let slots = self.slots.as_slice();
         let marks = self.marks.as_slice();

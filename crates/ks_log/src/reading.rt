@@ -4,7 +4,7 @@ ghost use Rattle.ks_history.specs.Partition.{past_last, decision};
 ghost use Rattle.ks_history.specs.Faithful.{marker_among};
 ghost use Rattle.ks_log.specs.Index.{marks_in};
 ghost use Rattle.ks_log.specs.Reading.{waiting_in, record_at, visible_pairs, decided_one, decided_pairs, end_at};
-ghost use Rattle.ks_row.specs.declared.record.Rec.{Rec as Record};
+ghost use Rattle.ks_row.specs.Records.{Record};
 
 use crate::append::copy;
 use crate::log::Log;

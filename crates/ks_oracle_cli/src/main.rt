@@ -17,24 +17,24 @@ const BAD_JOB: u8 = 2;
 // There was no memory, or a device failed.
 const NO_ANSWER: u8 = 8;
 
-fn key_of(alloc: Global, key: &Option<Blob>) -> Result<Option<Key>, AllocError> {
+fn key_of(alloc: Global, key: Option<&[u8]>) -> Result<Option<Key>, AllocError> {
     match key {
-        Some(bytes) => Key::of(alloc, bytes.as_slice()),
+        Some(bytes) => Key::of(alloc, bytes),
         None => Ok(None),
     }
 }
 
-fn row_of(alloc: Global, value: &Option<Blob>) -> Result<Option<Row>, AllocError> {
+fn row_of(alloc: Global, value: Option<&[u8]>) -> Result<Option<Row>, AllocError> {
     match value {
-        Some(bytes) => decode(alloc, bytes.as_slice()),
+        Some(bytes) => decode(alloc, bytes),
         None => Ok(None),
     }
 }
 
 fn record_of(alloc: Global, topic: u16, rec: &Rec) -> Result<JobRecord, AllocError> {
-    let key = key_of(alloc, &rec.key)?;
-    let row = row_of(alloc, &rec.value)?;
-    Ok(JobRecord::new(topic, key, row, rec.ts))
+    let key = key_of(alloc, rec.key())?;
+    let row = row_of(alloc, rec.value())?;
+    Ok(JobRecord::new(topic, key, row, rec.ts()))
 }
 
 // The records of a job, in their order.

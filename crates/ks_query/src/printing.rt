@@ -23,7 +23,8 @@ fn row_map(alloc: Global, row: &Row) -> Result<Map<String, Value>, AllocError>
     ensures { IfOk result (λ m. members_view m.entries ≡ put_all row.now no_members) }
 {
     let mut map = Map::new(alloc);
-    for (name, field) in row.members() {
+    let members = row.members(alloc)?;
+    for (name, field) in &members {
         let name = String::from_str(alloc, name.as_str())?;
         map.insert(name, field_value(alloc, field)?)?;
     }

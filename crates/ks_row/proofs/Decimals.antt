@@ -1,11 +1,10 @@
 -- The decimal text of a number is a key.
-use Rattle.std.proofs.Common.{◌≡◌, ℕ, ℤ, pos, negsuc, ◌+◌, ◌^◌, ◌<◌, ◌≤◌, List, length, arith, sym}
+use Rattle.std.proofs.Common.{ℤ, pos, negsuc, ◌<◌, length, arith}
 use Rattle.std.specs.Int.{w64}
 use Rattle.std.specs.Int.RustNames.{FitsSigned}
-use Rattle.std.specs.Fmt.{decimal, signed_decimal}
+use Rattle.std.specs.Fmt.{signed_decimal}
 use Rattle.std.proofs.lemmas.Fmt.{decimal_nonempty, length_signed_le, IsAscii-signed}
 use Rattle.std.proofs.lemmas.Str.{IsUtf8-from_ascii}
-use Rattle.std.proofs.lemmas.Int.{to_z-of_z}
 use Rattle.ks_row.specs.Texts.{IsKey}
 
 not_empty : (z : ℤ) → FitsSigned w64 z → 0 < length (signed_decimal z)

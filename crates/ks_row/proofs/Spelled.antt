@@ -1,8 +1,8 @@
 -- The two laws of a row's bytes: what is read is spelled so, and what is spelled so is read.
-use Rattle.std.proofs.Common.{◌≡◌, ℕ, ℤ, zero, suc, ◌+◌, ◌^◌, ◌<◌, ◌≤◌, Bool, true, false, cond, eqb, leb, List, [], ◌∷◌, ◌++◌, length, Option, Some, None, refl, sym, ap, subst, ◌∙◌, append_assoc, arith}
+use Rattle.std.proofs.Common.{◌≡◌, ℕ, zero, suc, ◌^◌, ◌<◌, ◌≤◌, false, cond, eqb, leb, List, [], ◌∷◌, ◌++◌, length, Some, None, refl, sym, ap, subst, ◌∙◌, append_assoc, arith}
 use Rattle.std.specs.List.{flat_map, AllByRecursion}
-use Rattle.std.specs.Int.{w32, w64, to_be_bytes}
-use Rattle.std.specs.Str.{IsUtf8, is_utf8}
+use Rattle.std.specs.Int.{w32, to_be_bytes}
+use Rattle.std.specs.Str.{is_utf8}
 use Rattle.std.proofs.lemmas.Str.{IsUtf8-from_is_utf8, is_utf8-from_IsUtf8}
 use Rattle.std.proofs.lemmas.Bool.{eqb-true, leb-true, le-leb}
 use Rattle.std.proofs.lemmas.Bool.Decides.{nat_tests}
@@ -11,12 +11,12 @@ use Rattle.std.proofs.lemmas.List.Concat.{flat_map-cons}
 use Rattle.ks_row.specs.declared.row.Field.{Field}
 use Rattle.ks_row.specs.declared.row.Field.TheVariants.{Int, Text}
 use Rattle.ks_row.specs.Texts.{IsKey, IsName, IsText, key_of, name_of, text_of, key_from, name_from, text_from}
-use Rattle.ks_row.specs.Rows.{Member, IsRow, is_row, row_of}
-use Rattle.ks_row.specs.Spelling.{IsBytes, int_bytes, field_bytes, member_bytes, spelling, FitsField, FitsMember, FitsRow}
+use Rattle.ks_row.specs.Rows.{Member, is_row, row_of}
+use Rattle.ks_row.specs.Spelling.{IsBytes, field_bytes, member_bytes, spelling, FitsField, FitsMember, FitsRow}
 use Rattle.ks_row.specs.Reading.{◌>>=◌, bytes_at, number_at, int_at, name_at, field_at, member_at, members_at, row_from}
 use Rattle.ks_row.specs.Codecs.{IsCodec}
 use Rattle.ks_row.proofs.Decoded.{codec_of}
-use Rattle.ks_row.proofs.Fields.{bind_some, guard_some, test_some, some_is, paired, Takes, Takes-then, IsBytes-rest, wide32, bytes_take, bytes_again, number_takes, number_again, int_takes, int_again}
+use Rattle.ks_row.proofs.Fields.{bind_some, test_some, some_is, paired, Takes, Takes-then, IsBytes-rest, wide32, bytes_take, bytes_again, number_takes, number_again, int_takes, int_again}
 
 -- ---- keys, names and texts
 

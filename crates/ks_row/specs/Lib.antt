@@ -6,3 +6,6 @@ pub mod Reading
 pub mod Parts
 pub mod Codecs
 pub mod Payloads
+pub mod Judged
+pub mod Fields
+pub mod Records

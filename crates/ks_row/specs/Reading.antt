@@ -64,3 +64,10 @@ row_from [] = None
 row_from (n ∷ bytes) = do
   ms ← members_at n bytes
   if length ms.1 == 0 then row_of ms.0 else None
+
+-- the members that the bytes spell one after the other, all of them, whatever names they have
+unfoldable pub members_from : List ℕ → Option (List Member)
+members_from [] = None
+members_from (n ∷ bytes) = do
+  ms ← members_at n bytes
+  if length ms.1 == 0 then Some ms.0 else None

@@ -1,9 +1,9 @@
 //! Reading a row from its bytes: each call gives a value and the bytes after it, or none where no value of its kind stands.
 ghost use Rattle.std.specs.Prelude.{◌≡◌, IfOk, option_map};
 ghost use Rattle.std.specs.Int.{w32, w64};
-ghost use Rattle.ks_row.specs.Reading.{bytes_at, number_at, int_at, name_at, field_at, member_at, members_at, row_from};
+ghost use Rattle.ks_row.specs.Reading.{bytes_at, number_at, int_at, name_at, field_at, member_at, members_at, members_from};
 
-use crate::row::{Field, Row};
+use crate::row::Field;
 use crate::texts::{Name, Text};
 use std::alloc::{AllocError, Global};
 
@@ -135,9 +135,13 @@ fn read_members(
     Ok(Some((members, rest)))
 }
 
-#[tactic(auto, unfolding(crate::specs::Reading::row_from))]
-pub(crate) fn read_row(alloc: Global, bytes: &[u8]) -> Result<Option<Row>, AllocError>
-    ensures { IfOk result (λ o. o ≡ row_from bytes.now) }
+/// The members that the bytes spell one after the other, all of them, whatever names they have; none where they don't.
+#[tactic(auto, unfolding(crate::specs::Reading::members_from))]
+pub(crate) fn read_row_members(
+    alloc: Global,
+    bytes: &[u8],
+) -> Result<Option<Vec<(Name, Field)>>, AllocError>
+    ensures { IfOk result (λ o. option_map (λ v. v.items) o ≡ members_from bytes.now) }
 {
     let Some((count, rest)) = bytes.split_first() else {
         return Ok(None);
@@ -146,7 +150,7 @@ pub(crate) fn read_row(alloc: Global, bytes: &[u8]) -> Result<Option<Row>, Alloc
         return Ok(None);
     };
     if rest.is_empty() {
-        Ok(Row::from_rising(members))
+        Ok(Some(members))
     } else {
         Ok(None)
     }

@@ -16,7 +16,7 @@ use std::marker::Model;
 use std::str;
 
 // The text that the bytes spell; none where they are no UTF-8.
-fn utf8_text(bytes: &[u8]) -> Option<&str>
+pub(crate) fn utf8_text(bytes: &[u8]) -> Option<&str>
     ensures { MatchOption result (is_utf8 bytes.now ≡ false)
         (λ s. (s.now ≡ bytes.now) × (is_utf8 bytes.now ≡ true)) }
 {

@@ -6,7 +6,7 @@ use Rattle.std.proofs.lemmas.Bool.{le-leb}
 use Rattle.ks_row.specs.Texts.{IsKey}
 use Rattle.ks_row.specs.Spelling.{spelling, FitsRow}
 use Rattle.ks_row.specs.Reading.{row_from}
-use Rattle.ks_row.specs.declared.record.Rec.{Rec}
+use Rattle.ks_row.specs.Records.{Record as Rec}
 use Rattle.ks_row.proofs.Spelled.{row_again}
 use Rattle.ks_hash.specs.Murmur2.{murmur2_of}
 use Rattle.ks_expr.specs.Keys.{spread_part}

@@ -1,8 +1,9 @@
 -- What a settled cluster of a job answers.
-use Rattle.std.proofs.Common.{◌≡◌, ℕ, ◌<◌, ◌≤◌, ◌^◌, Bool, List, [], ◌∷◌, ◌++◌, length, map, get_or, refl, sym, ap, subst, ◌∙◌, arith}
-use Rattle.std.specs.Prelude.{None, Some, Option, option_map}
-use Rattle.std.specs.Option.{option_or}
-use Rattle.ks_row.specs.declared.record.Rec.{Rec}
+use Rattle.std.proofs.Common.{◌≡◌, ℕ, ◌<◌, ◌≤◌, Bool, List, [], ◌∷◌, ◌++◌, length, map, get_or, refl, sym, ap, subst, ◌∙◌, arith}
+use Rattle.std.specs.Prelude.{None, Some, Option}
+use Rattle.std.specs.List.{All}
+use Rattle.std.proofs.lemmas.List.Elements.{All-weaker}
+use Rattle.ks_row.specs.Records.{Record as Rec}
 use Rattle.ks_row.specs.declared.record.PartId.{PartId}
 use Rattle.ks_row.specs.declared.record.TaskId.{TaskId}
 use Rattle.ks_plan.specs.Drafts.{DraftView}
@@ -17,8 +18,6 @@ use Rattle.ks_history.specs.declared.journal.Entry.{Entry}
 use Rattle.ks_history.specs.Machine.{TaskPlan}
 use Rattle.ks_history.specs.State.{Setup, IsSetup}
 use Rattle.ks_history.specs.History.{at, IsHistory}
-use Rattle.ks_history.specs.Settled.{IsSettled}
-use Rattle.ks_history.specs.Count.{records_in}
 use Rattle.ks_cluster.specs.View.{ClusterView, setup_from}
 use Rattle.ks_cluster.specs.View as kept
 use Rattle.ks_cluster.specs.Placed.{PlacementTest, ArePlaced}
@@ -52,6 +51,9 @@ use Rattle.ks_shared.specs.declared.state.Frame.{Frame}
 use Rattle.ks_topo.specs.Places.{HasPlaces}
 use Rattle.ks_run_workers.specs.Placing.{counts_in, placed_all}
 use Rattle.ks_run_workers.specs.Producing.{IsFilled}
+use Rattle.ks_standby.specs.declared.replica.Replica.{Replica}
+use Rattle.ks_worker_state.specs.Standbys.{IsStandby}
+use Rattle.ks_settle.specs.Restoring.{IsReplicaAt}
 use Rattle.ks_settle.specs.Drained.{Extends, drain_worker}
 use Rattle.ks_settle_report.specs.Report.{IsOf}
 use Rattle.ks_task.proofs.Subs.{inputs_there}
@@ -251,3 +253,7 @@ ran_so hash plan good placing shown d begun filled intake left now (end.Stopped 
     cut_short hash plan good placing shown d begun filled intake left now (end.Stopped stop) start wanted job work before after status text journal faults h.2 (λ u. (h.0, h.1, u))
 ran_so hash plan good placing shown d begun filled intake left now end.Failed start wanted job work fine spelled hashes before after status text journal faults h =
     cut_short hash plan good placing shown d begun filled intake left now end.Failed start wanted job work before after status text journal faults h.2 (λ u. (h.0, h.1, u))
+
+-- ---- the replicas that workers leave serve the drain
+pub all_given : (setup : Setup) (journal : List Entry) (rs : List Replica) → All (IsStandby setup journal) rs → All (IsReplicaAt setup journal) rs
+all_given setup journal rs all = All-weaker (IsStandby setup journal) (IsReplicaAt setup journal) (λ r s. record { known = s.known; changelogs = s.replica.changelogs; follows = s.replica.follows }) rs all

@@ -12,7 +12,7 @@ use Rattle.ks_history.specs.declared.journal.Entry.{Entry}
 use Rattle.ks_history.specs.History.{IsHistory}
 use Rattle.ks_history.specs.Count.{records_in}
 use Rattle.ks_history.specs.Settled.{IsSettled as IsAtRest}
-use Rattle.ks_row.specs.declared.record.Rec.{Rec}
+use Rattle.ks_row.specs.Records.{Record as Rec}
 use Rattle.ks_row.specs.declared.record.PartId.{PartId}
 use Rattle.ks_assign.specs.declared.clients.Placing.{Placing}
 use Rattle.ks_assign_group.specs.Groups.{good_by}

@@ -1,5 +1,6 @@
 //! Runs a job's tasks over its records, until nothing is left to take.
 ghost use Rattle.std.specs.Prelude.{◌≡◌, ◌++◌, ◌<◌, ◌^◌, [], IfOk, OnOk, length, map};
+ghost use Rattle.ks_run_workers.specs.Left.{AreStandbysOf};
 ghost use Rattle.ks_plan.specs.Drafts.{draft_view};
 ghost use Rattle.ks_plan.specs.Infos.{topic_infos};
 ghost use Rattle.ks_plan.specs.Layout.{tasks};
@@ -31,8 +32,9 @@ use ks_history::Entry;
 use ks_job_source::{JobEnd, OpenJob, print_bad_job};
 use ks_journal::push_journal;
 use ks_run_output::print_read_fault;
-use ks_run_workers::{JobInput, RunWorkers, counts_of, placing_of, run_workers};
+use ks_run_workers::{JobInput, RunWorkers, WorkEnd, counts_of, placing_of, run_workers};
 use ks_settle::drain;
+use ks_standby::Replica;
 use ks_task::{TaskWork, topology_fits};
 use ks_topo::{Topology, share_topology};
 use std::alloc::{AllocError, Global};
@@ -97,17 +99,19 @@ fn end_settled<H: Hash128 + Send + Sync, R: Threads + Sync, W: Work + Send + Syn
     alloc: Global,
     topology: &Topology,
     mut cluster: Cluster<W>,
+    replicas: Vec<Replica>,
     shown: bool,
 ) -> Result<Answer, AllocError>
     requires setup { setup_of W.plan cluster ≡ topology_setup (rules_of H.hash_of)
         (plan_in topology.now) }
     requires placing { AreWanted W.good cluster.work (draft_of topology.now) }
+    requires replicas { AreStandbysOf W.plan cluster replicas.items }
     requires partitions { HavePartitions (draft_of topology.now).topics }
     ensures { IfOk result (λ a. IsEnded W.plan W.good (rules_of H.hash_of) shown
         (draft_of topology.now) cluster a.status a.text.items a.journal) }
 {
     let _nodes = topology.nodes();
-    drain::<H, R, W>(rt, alloc, topology, &mut cluster)?;
+    drain::<H, R, W>(rt, alloc, topology, &mut cluster, replicas)?;
     let verdict = judge::<H, R, W>(rt, alloc, topology, &cluster)?;
     end_run(rt, alloc, cluster, verdict, shown)
 }
@@ -117,20 +121,25 @@ fn end_by<H: Hash128 + Send + Sync, R: Threads + Sync, W: Work + Send + Sync>(
     rt: &R,
     alloc: Global,
     topology: &Topology,
-    cluster: Cluster<W>,
-    end: JobEnd,
+    ended: WorkEnd<W>,
     shown: bool,
 ) -> Result<Answer, AllocError>
-    requires setup { setup_of W.plan cluster ≡ topology_setup (rules_of H.hash_of)
+    requires setup { setup_of W.plan ended.cluster ≡ topology_setup (rules_of H.hash_of)
         (plan_in topology.now) }
-    requires placing { AreWanted W.good cluster.work (draft_of topology.now) }
+    requires placing { AreWanted W.good ended.cluster.work (draft_of topology.now) }
+    requires replicas { AreStandbysOf W.plan ended.cluster ended.replicas.items }
     requires partitions { HavePartitions (draft_of topology.now).topics }
     ensures { IfOk result (λ a. EndsBy W.plan W.good (rules_of H.hash_of) shown
-        (draft_of topology.now) cluster end
+        (draft_of topology.now) ended.cluster ended.end
         a.status a.text.items a.journal) }
 {
+    let WorkEnd {
+        cluster,
+        replicas,
+        end,
+    } = ended;
     match end {
-        JobEnd::Whole => end_settled::<H, R, W>(rt, alloc, topology, cluster, shown),
+        JobEnd::Whole => end_settled::<H, R, W>(rt, alloc, topology, cluster, replicas, shown),
         JobEnd::Stopped(stop) => {
             let text = print_bad_job(alloc, &stop)?;
             Ok(end_undrained(cluster, BAD_JOB, text))
@@ -185,12 +194,8 @@ fn settle<H: Hash128 + Send + Sync, R: Threads + Wait + Sync, W: Work + Send + S
     let _nodes = topology.nodes();
     let empty = begin(alloc, topology, work)?;
     let shown = crew.settings.journal;
-    let Ok((cluster, end)) = run_workers::<H, R, W, S>(
-        rt, alloc, topology, empty, intake, input, crew,
-    ) else {
-        return Err(AllocError);
-    };
-    end_by::<H, R, W>(rt, alloc, topology, cluster, end, shown)
+    let ended = run_workers::<H, R, W, S>(rt, alloc, topology, empty, intake, input, crew)?;
+    end_by::<H, R, W>(rt, alloc, topology, ended, shown)
 }
 
 /// The run of a job that was opened, by this crew; the text has the journal's lines where the crew's settings say so. Want of

@@ -59,7 +59,7 @@ module _ {E F : Type 0} (lock : TableId) (seen : List E) (frame : F) where
   pub others_are_passes : (rest : List (PassView E F)) → Each (λ k p. IsFresh lock seen frame (k + 1) p) rest → ArePasses lock rest
   others_are_passes rest h k p g = subst (IsPass lock (k + 1)) (sym (h k p g)) (refl, refl, refl)
 
-at_mapped : {A B : Type 0} (f : A → B) (xs : List A) (k : ℕ) (d : A) → k < length xs → get_elem? (map f xs) k ≡ some (f (slice_index_or xs k d))
+pub at_mapped : {A B : Type 0} (f : A → B) (xs : List A) (k : ℕ) (d : A) → k < length xs → get_elem? (map f xs) k ≡ some (f (slice_index_or xs k d))
 at_mapped f [] k d l = absurd (omega arith)
 at_mapped f (x ∷ xs) zero d l = refl
 at_mapped f (x ∷ xs) (suc k) d l = at_mapped f xs k d (omega arith)

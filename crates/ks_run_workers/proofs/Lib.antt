@@ -4,3 +4,4 @@ pub mod Fresh
 pub mod Produced
 pub mod Feeds
 pub mod LockPasses
+pub mod Left

@@ -2,7 +2,7 @@
 use Rattle.std.proofs.Common.{◌≡◌, ℕ, ◌==◌, Bool, true, false, cond, List, [], ◌∷◌, ◌++◌, filter, refl, sym, ap, subst, ◌∙◌, append_assoc, append-nil, Result, Ok, Err, OnErr}
 use Rattle.std.proofs.lemmas.List.Elements.{filter-append}
 use Rattle.std.proofs.lemmas.Bool.{true≢false}
-use Rattle.ks_row.specs.declared.record.Rec.{Rec}
+use Rattle.ks_row.specs.Records.{Record as Rec}
 use Rattle.ks_row.specs.declared.record.PartId.{PartId}
 use Rattle.ks_row.specs.declared.record.TaskId.{TaskId}
 use Rattle.ks_history.specs.declared.journal.Request.{Request}
@@ -16,7 +16,10 @@ use Rattle.ks_growing.specs.Passes.{PassView, IsPass}
 use Rattle.ks_shared.specs.declared.state.Frame.{Frame}
 use Rattle.ks_shared.specs.Calls.{frame_of, Called}
 use Rattle.ks_shared.specs.Reserved.{asks_as_caller, is_callers}
-use Rattle.ks_job.specs.Items.{ItemView, RecordTo}
+use Rattle.ks_job.specs.declared.judge.JobItem.{JobItem}
+use Rattle.ks_job.specs.declared.judge.JobItem.TheVariants.{Input}
+use Rattle.ks_job.specs.Items.{ItemView, RecordTo, item_views}
+use Rattle.ks_law_inputs.specs.Records.{AreRecords}
 use Rattle.ks_law_settled.specs.Jobs.{produces_by, produces}
 use Rattle.ks_plan.specs.Plan.{Plan}
 use Rattle.ks_run_workers.specs.Placing.{placed, placed_all}
@@ -118,6 +121,11 @@ pub on_any : {A E X : Type 0} (r : Result A E) → X → OnErr r X
 on_any (Ok a) x = tt
 on_any (Err e) x = x
 
+pub more_records : (topics topic : ℕ) (rec : Rec) (item : JobItem) (rest more : List JobItem) → rest ≡ item ∷ more → item ≡ Input topic rec → AreRecords topics (item_views rest) → AreRecords topics (item_views more)
+more_records topics topic rec item rest more split is records =
+    let here : AreRecords topics (item_views (Input topic rec ∷ more)) = subst (λ (l : List JobItem). AreRecords topics (item_views l)) (split ∙ ap (λ i. i ∷ more) is) records in
+    here.1
+
 -- ---- one call of `produce` through the first pass
 module _ {W : Type 0} where
   still : (old new : PassView Entry (Frame W)) (seen : List Entry) (made : ℕ) → new ≡ record old { seen = seen; made = made } → new ≡ record old { seen = new.seen; made = new.made }
@@ -176,6 +184,11 @@ module _ {W : Type 0} where
     so_far = produced_on start old new h.done (placed plan topic rec ∷ []) h.so_far p;
     split = append_assoc h.done (placed plan topic rec ∷ []) (placed_all plan rest) ∙ h.split;
   }
+
+  pub next_produced : (plan : Plan) (start old new : PassView Entry (Frame W)) (topic : ℕ) (rec : Rec) (item : JobItem) (rest more all : List JobItem) → rest ≡ item ∷ more → item ≡ Input topic rec →
+      IsProducing plan start old (item_views rest) (item_views all) → HasProduced old new (placed plan topic rec ∷ []) → IsProducing plan start new (item_views more) (item_views all)
+  next_produced plan start old new topic rec item rest more all split is h p =
+      producing_goes plan start old new topic rec (item_views more) (item_views all) (subst (λ (l : List JobItem). IsProducing plan start old (item_views l) (item_views all)) (split ∙ ap (λ i. i ∷ more) is) h) p
 
   pub producing_ends : (plan : Plan) (start now : PassView Entry (Frame W)) (all : List ItemView) → IsProducing plan start now [] all → HasProduced start now (placed_all plan all)
   producing_ends plan start now all h = subst (HasProduced start now) (sym (append-nil h.done) ∙ h.split) h.so_far

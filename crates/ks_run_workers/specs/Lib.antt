@@ -4,3 +4,4 @@ pub mod Working
 pub mod Placing
 pub mod Producing
 pub mod Feeding
+pub mod Left

@@ -1,6 +1,6 @@
 -- The records of a job at their partitions: a record with a key goes to the place of its key in its topic, one without a key to the first.
 use Rattle.std.specs.Prelude.{ℕ, List, map, Option, Some, None}
-use Rattle.ks_row.specs.declared.record.Rec.{Rec}
+use Rattle.ks_row.specs.Records.{Record as Rec}
 use Rattle.ks_row.specs.declared.record.PartId.{PartId}
 use Rattle.ks_plan.specs.declared.node.Spread.{Spread}
 use Rattle.ks_plan.specs.Plan.{Plan}

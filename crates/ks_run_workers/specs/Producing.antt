@@ -1,6 +1,6 @@
 -- What a pass has produced, and what a cluster has that it was produced into.
 use Rattle.std.specs.Prelude.{◌≡◌, ◌==◌, Bool, false, List, [], ◌++◌, filter}
-use Rattle.ks_row.specs.declared.record.Rec.{Rec}
+use Rattle.ks_row.specs.Records.{Record as Rec}
 use Rattle.ks_row.specs.declared.record.PartId.{PartId}
 use Rattle.ks_history.specs.declared.journal.Request.{Request}
 use Rattle.ks_history.specs.declared.journal.Request.TheVariants.{Init, Join}

@@ -12,6 +12,7 @@ mod producing;
 mod workers;
 mod working;
 
+pub use closing::WorkEnd;
 pub use feeding::{JobFeed, JobInput, feed};
 pub use passes::split_first;
 pub use placing::placing_of;

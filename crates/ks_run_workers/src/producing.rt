@@ -1,5 +1,5 @@
 //! Appends the records of a job through a lock's first pass.
-ghost use Rattle.std.specs.Prelude.{◌≡◌, ℕ, ◌<◌, ◌≤◌, [], ◌∷◌, OnOk, OnErr, IfOk, map};
+ghost use Rattle.std.specs.Prelude.{◌≡◌, ℕ, ◌<◌, ◌≤◌, [], ◌∷◌, OnOk, OnErr, IfOk, map, option_copied};
 ghost use Rattle.ks_job.specs.Items.{item_views};
 ghost use Rattle.ks_law_inputs.specs.Records.{AreRecords};
 ghost use Rattle.ks_growing.specs.Passes.{IsPass};
@@ -12,7 +12,7 @@ ghost use Rattle.ks_run_workers.specs.Producing.{HasProduced, HasProducedFront};
 use ks_cluster::Work;
 use ks_growing::Pass;
 use ks_job::JobItem;
-use ks_row::{Blob, PartId, Rec};
+use ks_row::{PartId, Rec};
 use ks_shared::{Shared, SharedState};
 use ks_topo::{TopicInfo, Topology};
 use std::alloc::{AllocError, Global};
@@ -29,16 +29,26 @@ pub fn counts_of(alloc: Global, infos: &[TopicInfo]) -> Result<Vec<u8>, AllocErr
     Ok(counts)
 }
 
-// The place of a record's key in a topic; without a key the first partition.
-fn part_of(topology: &Topology, topic: u16, key: &Option<Blob>) -> u8
+// The place of a key in a topic; without a key the first partition.
+fn place_of(topology: &Topology, topic: u16, key: Option<&[u8]>) -> u8
     requires { HasPlaces (plan_in topology.now) topic }
-    ensures part { result ≡ part_at key.now (spread_in (plan_in topology.now) topic) }
+    ensures part { result ≡ part_at (option_copied key.entry)
+        (spread_in (plan_in topology.now) topic) }
     ensures below { result < (spread_in (plan_in topology.now) topic).parts }
 {
     match key {
-        Some(key) => topology.place(topic, key.as_slice()),
+        Some(key) => topology.place(topic, key),
         None => 0,
     }
+}
+
+// The place of a record in a topic: that of its key.
+fn part_of(topology: &Topology, topic: u16, rec: &Rec) -> u8
+    requires { HasPlaces (plan_in topology.now) topic }
+    ensures part { result ≡ part_at rec.now.key (spread_in (plan_in topology.now) topic) }
+    ensures below { result < (spread_in (plan_in topology.now) topic).parts }
+{
+    place_of(topology, topic, rec.key())
 }
 
 // One record, to the place of its key.
@@ -59,7 +69,7 @@ fn produce_one<R: Wait, W: Work>(
         (placed (plan_in topology.now) topic rec.now ∷ [])) }
     ensures err { OnErr result (HasProduced pass.old pass.new []) }
 {
-    let part = part_of(topology, topic, &rec.key);
+    let part = part_of(topology, topic, rec);
     shared.produce(rt, alloc, PartId { topic, part }, rec, pass)?;
     Ok(())
 }

@@ -3,18 +3,18 @@ ghost use Rattle.std.specs.Prelude.{◌≡◌, ◌<◌, ◌≤◌, ◌*◌, ℕ,
 ghost use Rattle.ks_topo.specs.Topologies.{draft_of};
 ghost use Rattle.ks_words.specs.Ranges.{HasRanges};
 ghost use Rattle.ks_run_workers.specs.Feeding.{FaultsBy};
+ghost use Rattle.ks_run_workers.specs.Left.{AreStandbysOf};
 ghost use Rattle.ks_run_workers.specs.Members.{turns_in, placing_of};
 ghost use Rattle.ks_run_workers.specs.Ready.{IsReady, HasWorked};
 
 use crate::boxed_gate::{BoxedGate, box_gates};
-use crate::closing::work_and_close;
+use crate::closing::{WorkEnd, work_and_close};
 use crate::enlisting::enlist;
 use crate::working::WorkerThreads;
 use crate::{JobFeed, JobInput, split_first};
 use ks_cluster::{Cluster, Work};
 use ks_edge::{Gate, Source};
 use ks_hash::Hash128;
-use ks_job_source::JobEnd;
 use ks_shared::Shared;
 use ks_topo::Topology;
 use ks_words::Settings;
@@ -70,14 +70,15 @@ fn run_gated<
     intake: JobInput,
     input: &mut S,
     crew: RunWorkers<G>,
-) -> Result<(Cluster<W>, JobEnd), AllocError>
+) -> Result<WorkEnd<W>, AllocError>
     requires ready { IsReady W.plan W.good H.hash_of (draft_of topology.now) cluster intake
         (placing_of crew.settings) }
     requires settings { HasRanges crew.settings }
     requires gates { length crew.gates.items ≡ 16 }
-    ensures worked { IfOk result (λ r. HasWorked (draft_of topology.now) cluster r.0 intake
-        (S.left input.old) (S.left input.new) r.1) }
-    ensures faults { IfOk result (λ r. FaultsBy r.1 (S.faults input.old) (S.faults input.new)) }
+    ensures worked { IfOk result (λ r. HasWorked (draft_of topology.now) cluster r.cluster intake
+        (S.left input.old) (S.left input.new) r.end) }
+    ensures replicas { IfOk result (λ r. AreStandbysOf W.plan r.cluster r.replicas.items) }
+    ensures faults { IfOk result (λ r. FaultsBy r.end (S.faults input.old) (S.faults input.new)) }
 {
     let _nodes = topology.nodes();
     let RunWorkers { settings, gates } = crew;
@@ -101,7 +102,7 @@ fn run_gated<
 }
 
 /// Puts a new cluster under a lock with a pass for the caller and one for each worker, feeds it all records of a job, lets the workers take their turns meanwhile, each
-/// in a thread of its own where one can be made, and gives the cluster back, and how reading the job ended: the journal has produced the records up to there and no other. Where
+/// in a thread of its own where one can be made, and gives back the cluster, the replicas that they leave, and how reading the job ended: the journal has produced the records up to there and no other. Where
 /// the settings stop the workers, these begin after the last record. Want of memory, also in a worker, is the one error; the cluster is let go then.
 pub fn run_workers<H: Hash128 + Sync, R: Threads + Wait + Sync, W: Work + Send + Sync, S: Source>(
     rt: &R,
@@ -111,14 +112,15 @@ pub fn run_workers<H: Hash128 + Sync, R: Threads + Wait + Sync, W: Work + Send +
     intake: JobInput,
     input: &mut S,
     crew: RunWorkers<Box<dyn Gate + Send>>,
-) -> Result<(Cluster<W>, JobEnd), AllocError>
+) -> Result<WorkEnd<W>, AllocError>
     requires ready { IsReady W.plan W.good H.hash_of (draft_of topology.now) cluster intake
         (placing_of crew.settings) }
     requires settings { HasRanges crew.settings }
     requires gates { length crew.gates.items ≡ 16 }
-    ensures worked { IfOk result (λ r. HasWorked (draft_of topology.now) cluster r.0 intake
-        (S.left input.old) (S.left input.new) r.1) }
-    ensures faults { IfOk result (λ r. FaultsBy r.1 (S.faults input.old) (S.faults input.new)) }
+    ensures worked { IfOk result (λ r. HasWorked (draft_of topology.now) cluster r.cluster intake
+        (S.left input.old) (S.left input.new) r.end) }
+    ensures replicas { IfOk result (λ r. AreStandbysOf W.plan r.cluster r.replicas.items) }
+    ensures faults { IfOk result (λ r. FaultsBy r.end (S.faults input.old) (S.faults input.new)) }
 {
     let RunWorkers { settings, gates } = crew;
     let gates = box_gates(alloc, gates)?;

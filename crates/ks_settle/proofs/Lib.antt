@@ -12,3 +12,4 @@ pub mod Feeding
 pub mod Starting
 pub mod Putting
 pub mod Members
+pub mod Given

@@ -1,5 +1,5 @@
 -- What a commit leaves between two topics.
-use Rattle.std.proofs.Common.{◌≡◌, ℕ, ◌+◌, ◌<◌, ◌≤◌, ◌&&◌, Bool, true, false, cond, List, [], ◌∷◌, ◌++◌, length, get_or, refl, sym, ap, subst, ◌∙◌, arith, append-nil, Option, Some, None}
+use Rattle.std.proofs.Common.{◌≡◌, ℕ, ◌+◌, ◌<◌, ◌≤◌, Bool, true, false, cond, List, [], ◌∷◌, ◌++◌, length, get_or, refl, sym, ap, subst, ◌∙◌, arith, append-nil, Option, Some, None}
 use Rattle.std.specs.Prelude.{◌==◌}
 use Rattle.std.proofs.Math.ListN.{set}
 use Rattle.std.specs.List.{All}
@@ -23,7 +23,7 @@ use Rattle.ks_row.specs.declared.record.TaskId.{TaskId}
 use Rattle.ks_commit.specs.Committed.{tasks_in, Committed, EachEnds, IsReady}
 use Rattle.ks_commit.specs.declared.publisher.Publisher.{Publisher}
 use Rattle.ks_history.specs.Reads.{end_of}
-use Rattle.ks_commit.specs.Sending.{produce_none, publishes, all_publish, writes_marker, all_markers, decides_commit, count_commits, IsPublishing, IsLonger, Longer, Marked, is_produce}
+use Rattle.ks_commit.specs.Sending.{produce_none, publishes, all_publish, writes_marker, all_markers, decides_commit, IsPublishing, IsLonger, Longer, Marked, is_produce}
 use Rattle.ks_commit.proofs.Entries.{later_setup, longer_both, longer_nothing, count_commits-append, markers_publish}
 use Rattle.ks_task.specs.declared.task.Task.{Task}
 use Rattle.ks_task.specs.Tasks.{task_view}

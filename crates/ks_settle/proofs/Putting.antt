@@ -1,5 +1,5 @@
 -- Tasks that were restored side by side, put into their order.
-use Rattle.std.proofs.Common.{◌≡◌, ℕ, zero, suc, ◌+◌, ◌<◌, true, List, [], ◌∷◌, ◌++◌, length, get_or, refl, sym, ap, subst, ◌∙◌, arith, append-nil, append_assoc, Result, Ok, Err, IfOk}
+use Rattle.std.proofs.Common.{◌≡◌, ℕ, zero, suc, true, List, [], ◌∷◌, ◌++◌, length, get_or, refl, sym, ap, subst, ◌∙◌, arith, append-nil, append_assoc, Result, Ok, Err, IfOk}
 use Rattle.std.specs.declared.alloc.AllocError.{AllocError}
 use Rattle.std.specs.List.{All}
 use Rattle.std.proofs.lemmas.List.{length-map, map-append}
@@ -12,7 +12,7 @@ use Rattle.ks_task.specs.declared.task.Task.{Task}
 use Rattle.ks_task.specs.Tasks.{task_view}
 use Rattle.ks_settle.specs.declared.restoring.Restoration.{Restoration}
 use Rattle.ks_settle.specs.Drained.{ids, Rests, AreRestored}
-use Rattle.ks_settle.specs.Restored.{names_in, IsRestoredAs, AreTried, ArePutBack}
+use Rattle.ks_settle.specs.Restored.{names_in, AreTried, ArePutBack}
 use Rattle.ks_settle.proofs.Works.{there_in}
 
 get_name : (xs : List Restoration) (k : ℕ) (d : Restoration) → get_or (names_in xs) k d.name ≡ (get_or xs k d).name

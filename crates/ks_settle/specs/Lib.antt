@@ -3,3 +3,4 @@ pub mod Fetches
 pub mod Reading
 pub mod Restoring
 pub mod Restored
+pub mod Picking

@@ -1,20 +1,22 @@
 -- Tasks that are restored side by side, and put into their order.
-use Rattle.std.specs.Prelude.{◌≡◌, ℕ, ◌<◌, List, ◌++◌, length, map, IfOk, slice_index_or}
+use Rattle.std.specs.Prelude.{◌≡◌, ℕ, ◌<◌, true, List, ◌++◌, length, map, Option, IfOk, IfSome, slice_index_or}
 use Rattle.std.specs.List.{All}
 use Rattle.ks_row.specs.declared.record.TaskId.{TaskId}
 use Rattle.ks_plan.specs.Drafts.{DraftView}
 use Rattle.ks_plan.specs.Plan.{plan_of}
 use Rattle.ks_history.specs.declared.journal.Entry.{Entry}
 use Rattle.ks_history.specs.Machine.{TaskPlan}
-use Rattle.ks_history.specs.State.{Setup}
+use Rattle.ks_history.specs.State.{Setup, has_task}
 use Rattle.ks_cluster.specs.View.{ClusterView, setup_of, state_of}
 use Rattle.ks_commit.specs.declared.publisher.Publisher.{Publisher}
 use Rattle.ks_commit.specs.Committed.{IsReady}
 use Rattle.ks_def_tasks.specs.Rules.{HaveParts}
+use Rattle.ks_standby.specs.declared.replica.Replica.{Replica}
 use Rattle.ks_task.specs.declared.task.Task.{Task}
 use Rattle.ks_task.specs.Tasks.{task_view}
 use Rattle.ks_settle.specs.declared.restoring.Restoration.{Restoration}
 use Rattle.ks_settle.specs.Drained.{MayDrain, HasTasksOf, ids, Rests}
+use Rattle.ks_settle.specs.Restoring.{IsReplicaOf}
 
 -- the tasks of a cluster may be restored by the worker that has them all
 pub record MayRestore {W : Type 0} (plan : W → TaskPlan) (d : DraftView) (c : ClusterView W) (publisher : Publisher) : Type 0 where
@@ -22,6 +24,17 @@ pub record MayRestore {W : Type 0} (plan : W → TaskPlan) (d : DraftView) (c : 
   pub of : HasTasksOf plan d c
   pub parts : HaveParts (plan_of d)
   pub ready : IsReady (setup_of plan c) (state_of plan c) publisher
+
+-- a replica that a task may be restored from, where there is one
+abbrev pub IsGiven : Setup → List Entry → TaskId → Option Replica → Type 0
+IsGiven setup journal t given = IfSome given (IsReplicaOf setup journal t)
+
+abbrev pub AreGiven : Setup → List Entry → List Restoration → Type 0
+AreGiven setup journal xs = All (λ x. IsGiven setup journal x.name x.replica) xs
+
+-- a task of the cluster, and a replica that it may be restored from
+abbrev pub MayBegin : {W : Type 0} → (W → TaskPlan) → ClusterView W → Restoration → Type 0
+MayBegin plan c x = (has_task x.name c.tasks ≡ true) × IsGiven (setup_of plan c) c.journal x.name x.replica
 
 abbrev pub names_in : List Restoration → List TaskId
 names_in xs = map (λ x. x.name) xs

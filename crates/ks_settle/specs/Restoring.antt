@@ -46,3 +46,9 @@ pub record IsFedTo (setup : Setup) (journal : List Entry) (t : TaskId) (topic : 
 pub record HasReachedFirst (setup : Setup) (journal : List Entry) (t : TaskId) (changelogs : List ℕ) (i : ℕ) (r : Replica) : Type 0 where
   pub of : IsReplicaOf setup journal t r
   pub ends : (k : ℕ) → k < i → end_of (at setup journal) (part_of (slice_index changelogs k) t) ≤ (replica_view r).position (slice_index changelogs k)
+
+-- a replica of a task of the cluster, with the task's changelogs, that follows the journal
+pub record IsReplicaAt (setup : Setup) (journal : List Entry) (r : Replica) : Type 0 where
+  pub known : has_task r.id setup.tasks ≡ true
+  pub changelogs : IsReplicaIn setup.plan r
+  pub follows : ReplicaFollows setup journal (replica_view r)

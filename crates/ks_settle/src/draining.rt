@@ -11,6 +11,7 @@ ghost use Rattle.ks_commit.specs.Everything.{everything, IsGoodForAll};
 ghost use Rattle.ks_commit.specs.Work.{work_view};
 ghost use Rattle.ks_def_tasks.specs.Rules.{HaveParts, rules_of};
 ghost use Rattle.ks_settle.specs.Drained.{MayDrain, IsOfTopology, MayRead, with_work, IsRead, Rests, tasks_in, AreTried, AreReading, AreResting, HasTasksOf, drain_worker, DrainsOn, Extends};
+ghost use Rattle.ks_settle.specs.Restoring.{IsReplicaAt};
 
 use crate::committed::tell;
 use crate::reading::read_task;
@@ -20,6 +21,7 @@ use ks_cluster::{Cluster, Work};
 use ks_commit::{Frozen, Publisher, commit};
 use ks_hash::Hash128;
 use ks_row::TaskId;
+use ks_standby::Replica;
 use ks_task::Task;
 use ks_topo::{Topology, share_topology};
 use std::alloc::{AllocError, Global};
@@ -167,12 +169,15 @@ impl TaskManager {
         alloc: Global,
         topology: &Topology,
         cluster: &mut Cluster<W>,
+        replicas: Vec<Replica>,
     ) -> Result<TaskManager, AllocError>
         requires may { MayDrain (setup_of W.plan cluster.old) }
         requires of { HasTasksOf W.plan (draft_of topology.now) cluster.old }
         requires parts { HaveParts (plan_in topology.now) }
         requires alone { IsGoodForAll (W.good cluster.old.work) (drain_worker ∷ [])
             (everything drain_worker cluster.old.tasks) }
+        requires replicas { All (IsReplicaAt (setup_of W.plan cluster.old) cluster.old.journal)
+            replicas.items }
         ensures resting { IfOk result (λ m. AreResting W.plan cluster.new m.publisher
             (draft_of topology.now) 0 m.tasks.items) }
         ensures on { DrainsOn 0 cluster.old cluster.new }
@@ -180,7 +185,9 @@ impl TaskManager {
         remove_workers(alloc, cluster)?;
         write_all_markers(alloc, cluster)?;
         let publisher = Publisher::start(alloc, cluster, WORKER, topology.tasks())?;
-        let tasks = restore_tasks(rt, alloc, topology, cluster, &publisher)?;
+        // The journal is a history: the replicas follow it.
+        let _journal = cluster.journal();
+        let tasks = restore_tasks(rt, alloc, topology, cluster, &publisher, replicas)?;
         Ok(TaskManager { tasks, publisher })
     }
 
@@ -273,7 +280,8 @@ impl TaskManager {
 }
 
 /// Brings to rest a cluster of a topology, whatever stands in its journal. Every worker is removed, all waiting markers are written, and
-/// a worker of its own, 16, has every task, which is good where it is the one member, and restores it. Then topic by topic, in the drain
+/// a worker of its own, 16, has every task, which is good where it is the one member, and restores it: of each task it goes on from the
+/// furthest of these replicas, where there is one. Then topic by topic, in the drain
 /// order, the tasks that read it read it to its end, and one transaction commits what they made. Want of memory is the one error, after
 /// which the journal has what was done before, and no further input.
 pub fn drain<H: Hash128 + Sync, R: Threads + Sync, W: Work + Sync>(
@@ -281,9 +289,12 @@ pub fn drain<H: Hash128 + Sync, R: Threads + Sync, W: Work + Sync>(
     alloc: Global,
     topology: &Topology,
     cluster: &mut Cluster<W>,
+    replicas: Vec<Replica>,
 ) -> Result<(), AllocError>
     requires setup { setup_of W.plan cluster.old
         ≡ topology_setup (rules_of H.hash_of) (plan_in topology.now) }
+    requires replicas { All (IsReplicaAt (setup_of W.plan cluster.old) cluster.old.journal)
+        replicas.items }
     requires parts { HaveParts (plan_in topology.now) }
     requires alone { IsGoodForAll (W.good cluster.old.work) (drain_worker ∷ [])
         (everything drain_worker cluster.old.tasks) }
@@ -294,7 +305,7 @@ pub fn drain<H: Hash128 + Sync, R: Threads + Sync, W: Work + Sync>(
         cluster.old cluster.new }
 {
     let _nodes = topology.nodes();
-    let mut manager = TaskManager::start(rt, alloc, topology, cluster)?;
+    let mut manager = TaskManager::start(rt, alloc, topology, cluster, replicas)?;
     manager.drain_all::<H, R, W>(rt, alloc, topology, cluster)?;
     let_go(rt, manager.tasks);
     Ok(())

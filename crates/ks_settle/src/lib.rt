@@ -3,6 +3,7 @@
 
 mod committed;
 mod draining;
+mod picking;
 mod reading;
 mod removing;
 mod restoring;

@@ -1,16 +1,18 @@
 //! Tasks are restored: replicas are fed up to the ends of their changelogs, and made tasks at the committed offsets.
-ghost use Rattle.std.specs.Prelude.{◌≡◌, ℕ, true, length, IfOk, OnOk};
+ghost use Rattle.std.specs.Prelude.{◌≡◌, ℕ, true, length, List, IfOk, OnOk};
 ghost use Rattle.std.specs.List.{All};
 ghost use Rattle.ks_history.specs.Machine.{has_topic};
-ghost use Rattle.ks_history.specs.State.{has_task};
+ghost use Rattle.ks_history.specs.declared.journal.Entry.{Entry};
+ghost use Rattle.ks_history.specs.State.{Setup, has_task};
 ghost use Rattle.ks_topo.specs.Topologies.{draft_of, plan_in};
 ghost use Rattle.ks_cluster.specs.View.{setup_of, state_of};
 ghost use Rattle.ks_commit.specs.Committed.{IsReady};
 ghost use Rattle.ks_def_tasks.specs.Rules.{HaveParts};
 ghost use Rattle.ks_settle.specs.Drained.{MayDrain, HasTasksOf, Rests, AreRestored};
-ghost use Rattle.ks_settle.specs.Restoring.{IsQuiet, IsReplicaOf, IsFedOn, IsFedTo, HasReachedFirst};
-ghost use Rattle.ks_settle.specs.Restored.{MayRestore, IsRestoredAs, names_in, AreTried};
+ghost use Rattle.ks_settle.specs.Restoring.{IsQuiet, IsReplicaAt, IsReplicaOf, IsFedOn, IsFedTo, HasReachedFirst};
+ghost use Rattle.ks_settle.specs.Restored.{MayRestore, MayBegin, IsRestoredAs, names_in, IsGiven, AreGiven, AreTried};
 
+use crate::picking::take_furthest;
 use ks_cluster::{Cluster, Work};
 use ks_commit::Publisher;
 use ks_row::{PartId, TaskId};
@@ -24,10 +26,11 @@ use std::thread::Threads;
 // The most threads that restore tasks side by side.
 const THREADS: usize = 64;
 
-// The name of a task, and what came of restoring it; want of memory until then.
+// The name of a task, a replica to go on from, where there is one, and what came of restoring it; want of memory until then.
 #[derive(Drop)]
 struct Restoration {
     name: TaskId,
+    replica: Option<Replica>,
     task: Result<Task, AllocError>,
 }
 
@@ -84,22 +87,49 @@ fn feed_to_end<W: Work>(
     Ok(())
 }
 
-// A replica of a task with these changelogs, fed each of them up to its end.
+// A replica of a task with these changelogs: the one that is given, or a new one.
+fn replica_or_new<W: Work>(
+    alloc: Global,
+    cluster: &Cluster<W>,
+    task: TaskId,
+    changelogs: &[u16],
+    given: Option<Replica>,
+) -> Result<Replica, AllocError>
+    requires given { IsGiven (setup_of W.plan cluster.now) cluster.now.journal task given }
+    requires quiet { IsQuiet W.plan cluster.now }
+    requires there { has_task task cluster.now.tasks ≡ true }
+    requires changelogs { changelogs.now ≡ (W.plan cluster.now.work).changelogs task.sub }
+    ensures { IfOk result (λ r. HasReachedFirst (setup_of W.plan cluster.now) cluster.now.journal
+        task changelogs.now 0 r) }
+{
+    // The journal is a history: a new replica follows it.
+    let _journal = cluster.journal();
+    match given {
+        Some(replica) => Ok(replica),
+        None => {
+            let replica = Replica::new(alloc, task, changelogs)?;
+            Ok(replica)
+        }
+    }
+}
+
+// A replica of a task with these changelogs, fed each of them up to its end: the one that is given, or a new one.
 fn fed_replica<W: Work>(
     alloc: Global,
     cluster: &Cluster<W>,
     task: TaskId,
     changelogs: &[u16],
+    given: Option<Replica>,
 ) -> Result<Replica, AllocError>
+    requires given { IsGiven (setup_of W.plan cluster.now) cluster.now.journal task given }
     requires quiet { IsQuiet W.plan cluster.now }
     requires there { has_task task cluster.now.tasks ≡ true }
     requires changelogs { changelogs.now ≡ (W.plan cluster.now.work).changelogs task.sub }
     ensures { IfOk result (λ r. HasReachedFirst (setup_of W.plan cluster.now) cluster.now.journal
         task changelogs.now (length changelogs.now) r) }
 {
-    // The journal is a history: a new replica follows it.
     let _journal = cluster.journal();
-    let mut replica = Replica::new(alloc, task, changelogs)?;
+    let mut replica = replica_or_new(alloc, cluster, task, changelogs, given)?;
     for i in 0..changelogs.len() {
         feed_to_end(alloc, cluster, &mut replica, changelogs[i])?;
     }
@@ -113,7 +143,9 @@ fn restore<W: Work>(
     cluster: &Cluster<W>,
     publisher: &Publisher,
     task: TaskId,
+    given: Option<Replica>,
 ) -> Result<Task, AllocError>
+    requires given { IsGiven (setup_of W.plan cluster.now) cluster.now.journal task given }
     requires may { MayDrain (setup_of W.plan cluster.now) }
     requires of { HasTasksOf W.plan (draft_of topology.now) cluster.now }
     requires parts { HaveParts (plan_in topology.now) }
@@ -126,21 +158,32 @@ fn restore<W: Work>(
 {
     let _journal = cluster.journal();
     let offsets = publisher.committed(alloc, cluster, task)?;
-    let replica = fed_replica(alloc, cluster, task, topology.changelogs(task.sub))?;
+    let changelogs = topology.changelogs(task.sub);
+    let replica = fed_replica(alloc, cluster, task, changelogs, given)?;
     match Task::of(alloc, topology, replica, offsets.as_slice()) {
         Ok(task) => Ok(task),
         Err(_) => Err(AllocError),
     }
 }
 
-// These tasks, none of which is restored yet.
-fn restorations_of(alloc: Global, names: &[TaskId]) -> Result<Vec<Restoration>, AllocError>
-    ensures { IfOk result (λ v. names_in v.items ≡ names.now) }
+// These tasks, none of which is restored yet; of each the furthest of the replicas is given to it.
+fn restorations_of(
+    alloc: Global,
+    names: &[TaskId],
+    replicas: Vec<Replica>,
+) -> Result<Vec<Restoration>, AllocError>
+    ensures names { IfOk result (λ v. names_in v.items ≡ names.now) }
+    ensures given { (setup : Setup) (journal : List Entry)
+        → All (IsReplicaAt setup journal) replicas.items
+        → IfOk result (λ v. AreGiven setup journal v.items) }
 {
+    let mut left = replicas;
     let mut all = Vec::with_capacity(alloc, names.len())?;
     for name in names {
+        let replica = take_furthest(&mut left, *name);
         all.push(Restoration {
             name: *name,
+            replica,
             task: Err(AllocError),
         })?;
     }
@@ -156,11 +199,12 @@ fn restore_own<W: Work>(
     one: &mut Restoration,
 )
     requires may { MayRestore W.plan (draft_of topology.now) cluster.now publisher.now }
-    requires there { has_task one.old.name cluster.now.tasks ≡ true }
+    requires there { MayBegin W.plan cluster.now one.old }
     ensures { IsRestoredAs (draft_of topology.now) (setup_of W.plan cluster.now)
         cluster.now.journal one.old.name one.new }
 {
-    one.task = restore(alloc, topology, cluster, publisher, one.name);
+    let given = one.replica.take();
+    one.task = restore(alloc, topology, cluster, publisher, one.name, given);
 }
 
 // Restores all of the tasks, side by side.
@@ -173,21 +217,22 @@ fn restore_each<R: Threads + Sync, W: Work + Sync>(
     all: &mut [Restoration],
 )
     requires may { MayRestore W.plan (draft_of topology.now) cluster.now publisher.now }
-    requires there { All (λ x. has_task x.name cluster.now.tasks ≡ true) all.old }
+    requires there { All (MayBegin W.plan cluster.now) all.old }
     ensures { AreTried (draft_of topology.now) (setup_of W.plan cluster.now)
         cluster.now.journal all.old all.new }
 {
     share_topology();
     let one = |_: usize, it: &mut Restoration|
         requires { MayRestore W.plan (draft_of topology.now) cluster.now publisher.now
-            × (has_task it.now.name cluster.now.tasks ≡ true) }
+            × MayBegin W.plan cluster.now it.now }
         ensures { IsRestoredAs (draft_of topology.entry.now) (setup_of W.plan cluster.entry.now)
             cluster.entry.now.journal it.entry.now.name it.exit.now }
     { restore_own(alloc, topology, cluster, publisher, it) };
     thread::for_each_mut(rt, all, THREADS, &one);
 }
 
-/// Every task of the topology, restored by the worker that has them all, side by side in at most 64 threads: its stores are what the
+/// Every task of the topology, restored by the worker that has them all, side by side in at most 64 threads, each on from the furthest of
+/// these replicas that is its own: its stores are what the
 /// committed records of its changelogs leave, its positions the committed offsets. Kafka Streams: what a `StoreChangelogReader` does
 /// before a task runs. `AllocError`: memory ran out; the cluster is as it was.
 pub fn restore_tasks<R: Threads + Sync, W: Work + Sync>(
@@ -196,7 +241,10 @@ pub fn restore_tasks<R: Threads + Sync, W: Work + Sync>(
     topology: &Topology,
     cluster: &Cluster<W>,
     publisher: &Publisher,
+    replicas: Vec<Replica>,
 ) -> Result<Vec<Task>, AllocError>
+    requires replicas { All (IsReplicaAt (setup_of W.plan cluster.now) cluster.now.journal)
+        replicas.items }
     requires may { MayDrain (setup_of W.plan cluster.now) }
     requires of { HasTasksOf W.plan (draft_of topology.now) cluster.now }
     requires parts { HaveParts (plan_in topology.now) }
@@ -205,7 +253,7 @@ pub fn restore_tasks<R: Threads + Sync, W: Work + Sync>(
     ensures { IfOk result (λ v. AreRestored (draft_of topology.now) (setup_of W.plan cluster.now)
         cluster.now.journal cluster.now.tasks v.items) }
 {
-    let mut all = restorations_of(alloc, topology.tasks())?;
+    let mut all = restorations_of(alloc, topology.tasks(), replicas)?;
     let each = all.as_mut_slice();
     restore_each(rt, alloc, topology, cluster, publisher, each);
     let mut tasks = Vec::new(alloc);

@@ -1,12 +1,12 @@
 //! Whether two records collide, and the first one that collides with another.
-ghost use Rattle.std.specs.Prelude.{◌≡◌, IfOk, IfSome, OnOk, option_map};
+ghost use Rattle.std.specs.Prelude.{◌≡◌, IfOk, IfSome, OnOk, option_copied, option_map};
 ghost use Rattle.ks_row.specs.Spelling.{FitsRow, spelling};
 ghost use Rattle.ks_expr.specs.Eval.{same_bytes};
 ghost use Rattle.ks_law_settled.specs.Collision.{row_by, same_keys, collide as collides, earlier as earlier_in};
 ghost use Rattle.ks_settle_report.specs.Hashed.{row_hash, kind_as, is_same_hash};
 
 use ks_hash::Hash128;
-use ks_row::{Blob, Rec, encode};
+use ks_row::{Blob, Rec};
 use ks_settle_tables::rows::{StoredForm, read_row};
 use std::alloc::{AllocError, Global};
 
@@ -27,13 +27,13 @@ pub fn row_bytes(alloc: Global, shown: StoredForm, rec: &Rec) -> Result<Option<B
         (row_by (kind_as shown) rec.now.value)) }
     ensures spelled { OnOk result (IfSome (row_by (kind_as shown) rec.now.value) FitsRow) }
 {
-    let Some(value) = &rec.value else {
+    let Some(value) = rec.value() else {
         return Ok(None);
     };
-    let Some(row) = read_row(alloc, shown, value.as_slice())? else {
+    let Some(row) = read_row(alloc, shown, value)? else {
         return Ok(None);
     };
-    Ok(Some(encode(alloc, &row)?))
+    Ok(Some(row.into_bytes()))
 }
 
 /// Whether these are the same bytes. Takes no memory.
@@ -43,13 +43,19 @@ pub fn are_equal(a: &[u8], b: &[u8]) -> bool
     a == b
 }
 
-fn is_same_key(a: &Option<Blob>, b: &Option<Blob>) -> bool
-    ensures { result ≡ same_keys a.now b.now }
+fn are_same_keys(a: Option<&[u8]>, b: Option<&[u8]>) -> bool
+    ensures { result ≡ same_keys (option_copied a.entry) (option_copied b.entry) }
 {
     match (a, b) {
-        (Some(a), Some(b)) => are_equal(a.as_slice(), b.as_slice()),
+        (Some(a), Some(b)) => are_equal(a, b),
         _ => false,
     }
+}
+
+fn is_same_key(a: &Rec, b: &Rec) -> bool
+    ensures { result ≡ same_keys a.now.key b.now.key }
+{
+    are_same_keys(a.key(), b.key())
 }
 
 // Whether the bytes differ and have one hash.
@@ -72,7 +78,7 @@ fn collide<H: Hash128>(
 ) -> Result<bool, AllocError>
     ensures { IfOk result (λ x. x ≡ collides (row_hash H.hash_of) (kind_as shown) a.now b.now) }
 {
-    if !is_same_key(&a.key, &b.key) {
+    if !is_same_key(a, b) {
         return Ok(false);
     }
     let one = row_bytes(alloc, shown, a)?;

@@ -34,10 +34,10 @@ fn entry_of<H: Hash128>(
     let Some(bytes) = row_bytes(alloc, shown, rec)? else {
         return Ok(None);
     };
-    let Some(key) = &rec.key else {
+    let Some(key) = rec.key() else {
         return Ok(None);
     };
-    let at = spot(alloc, key.as_slice(), H::hash(bytes.as_slice()))?;
+    let at = spot(alloc, key, H::hash(bytes.as_slice()))?;
     Ok(Some((at, bytes)))
 }
 
@@ -63,14 +63,27 @@ fn meets_other(rows: &mut OrderedStore, entry: &Option<(Blob, Blob)>) -> Result<
     Ok(other)
 }
 
-fn collision(record: &(u64, Rec), first: Option<u64>) -> Result<Option<Collision>, AllocError>
+fn copy_key(alloc: Global, rec: &Rec) -> Result<Option<Blob>, AllocError>
+    ensures { IfOk result (λ k. k ≡ rec.now.key) }
+{
+    match rec.key() {
+        Some(key) => Ok(Some(Blob::from_slice(alloc, key)?)),
+        None => Ok(None),
+    }
+}
+
+fn collision(
+    alloc: Global,
+    record: &(u64, Rec),
+    first: Option<u64>,
+) -> Result<Option<Collision>, AllocError>
     ensures { IfOk result (λ o. option_map pair_of o ≡ pair_at record.now first) }
 {
     let Some(first) = first else {
         return Ok(None);
     };
     Ok(Some(Collision {
-        key: record.1.key.clone()?,
+        key: copy_key(alloc, &record.1)?,
         first,
         second: record.0,
     }))
@@ -91,7 +104,7 @@ pub fn first_collision<H: Hash128>(
         let entry = entry_of::<H>(alloc, shown, &recs[i].1)?;
         if meets_other(&mut rows, &entry)? {
             let first = earlier::<H>(alloc, shown, &recs[..i], &recs[i].1)?;
-            return collision(&recs[i], first);
+            return collision(alloc, &recs[i], first);
         }
     }
     Ok(None)

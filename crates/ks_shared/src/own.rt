@@ -10,7 +10,7 @@ ghost use Rattle.ks_shared.specs.Own.{IsOwn};
 use crate::barred::Barred;
 use crate::touched::touched_in;
 use ks_cluster::{Cluster, Work};
-use ks_row::{PartId, Rec, TaskId};
+use ks_row::{PartId, SharedRecords, TaskId};
 use std::alloc::{AllocError, Global};
 
 pub(crate) fn init_own<W: Work>(
@@ -67,7 +67,7 @@ pub(crate) fn append_own<W: Work>(
     number: u64,
     task: TaskId,
     part: PartId,
-    recs: &[Rec],
+    recs: &SharedRecords,
     last: &mut u64,
 ) -> Result<Result<u64, Barred>, AllocError>
     requires { Meets (setup_of W.plan cluster.old) (state_of W.plan cluster.old)

@@ -30,7 +30,7 @@ use crate::state::SharedState;
 use ks_cluster::{Cluster, Work};
 use ks_growing::{Growing, Pass};
 use ks_history::Status;
-use ks_row::{Assignment, PartId, Rec, Refused, TaskId};
+use ks_row::{Assignment, PartId, Rec, Refused, SharedRecords, TaskId};
 use ks_standby::{Parked, Replica};
 use std::alloc::{AllocError, AllocFailed, Global};
 use std::sync::Wait;
@@ -362,7 +362,7 @@ impl<W: Work> Shared<W> {
         answer
     }
 
-    /// Appends copies of records of a task to a partition of the producer's transaction, and answers the
+    /// Appends records of a task, which log and journal share, to a partition of the producer's transaction, and answers the
     /// first offset. `number` is how many records the epoch has sent there. `last` is as for `add`.
     /// Refused: Fenced, NoTransaction, OutOfSequence.
     pub fn append<R: Wait>(
@@ -374,7 +374,7 @@ impl<W: Work> Shared<W> {
         number: u64,
         task: TaskId,
         part: PartId,
-        recs: &[Rec],
+        recs: &SharedRecords,
         last: &mut u64,
         pass: &mut Pass<SharedState<W>>,
     ) -> Result<Result<u64, Barred>, AllocError>

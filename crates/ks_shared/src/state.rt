@@ -21,7 +21,7 @@ use crate::own::{add_own, append_own, decide_own, init_own, send_own};
 use ks_cluster::{Cluster, Work};
 use ks_growing::Journaled;
 use ks_history::{Entry, Status};
-use ks_row::{Assignment, PartId, Rec, Refused, Seq, TaskId};
+use ks_row::{Assignment, PartId, Rec, Refused, Seq, SharedRecords, TaskId};
 use ks_standby::{Parked, Replica};
 use std::alloc::{AllocError, AllocFailed, Global};
 use std::marker::Model;
@@ -231,7 +231,7 @@ impl<W: Work> SharedState<W> {
         number: u64,
         task: TaskId,
         part: PartId,
-        recs: &[Rec],
+        recs: &SharedRecords,
         last: &mut u64,
     ) -> Result<Result<u64, Barred>, AllocError>
         requires { Meets (setup_of W.plan self.old) (state_of W.plan self.old)

@@ -1,5 +1,5 @@
 -- A hash table of vectors is the finite map of its rows, and the rows of the keys listed under a front are the pairs under it.
-use Rattle.std.proofs.Common.{◌≡◌, ℕ, ◌+◌, ◌-◌, Bool, true, false, cond, not, ◌&&◌, ◌||◌, T, List, [], ◌∷◌, ◌++◌, length, get_or, take, ◌<◌, Option, Some, None, refl, sym, ap, subst, ◌∙◌, arith, eqb-true, append-nil}
+use Rattle.std.proofs.Common.{◌≡◌, ℕ, ◌+◌, ◌-◌, Bool, true, false, cond, not, ◌&&◌, ◌||◌, T, List, [], ◌∷◌, ◌++◌, length, get_or, take, ◌<◌, Option, Some, None, refl, sym, ap, subst, ◌∙◌, arith, append-nil}
 use Rattle.std.specs.Prelude.{is_some, IsSome, ◌==◌, Result, Ok, Err, OnOk, OnErr, ⊤}
 use Rattle.std.specs.Bool.{nat_eq}
 use Rattle.std.specs.Global.{Vec}
@@ -8,7 +8,7 @@ use Rattle.std.specs.declared.cmp.Ordering.{Ordering}
 use Rattle.std.specs.declared.cmp.Ordering.TheVariants.{Less, Equal, Greater}
 use Rattle.std.specs.Ordering.{eq_by_cmp, is_eq}
 use Rattle.std.specs.Cmp.Lexicographic.{pointwise, texts_ties}
-use Rattle.std.specs.Cmp.{first_so, eq_by_cmp_equiv}
+use Rattle.std.specs.Cmp.{eq_by_cmp_equiv}
 use Rattle.std.specs.List.{starts_with}
 use Rattle.std.specs.Map.{lookup, KeepsOthers}
 use Rattle.std.proofs.lemmas.List.{length-map, take_more}
@@ -22,7 +22,9 @@ use Rattle.ks_row.specs.Spelling.{IsBytes}
 use Rattle.ks_store.specs.Pairs.{pairs_of, Rises}
 use Rattle.ks_def_runs.specs.Pairs.{ArePairs}
 use Rattle.ks_def_runs.specs.Prefixes.{pairs_under}
-use Rattle.ks_store.specs.Rows.{rows_of, row_store, is_fronted, Lists, ListsAll, with_found, rows_for, IsTable}
+use Rattle.ks_store.specs.declared.groups.Group.{Group}
+use Rattle.ks_store.specs.Groups.{groups_of, AreGroups, IsListed, Lists}
+use Rattle.ks_store.specs.Rows.{rows_of, row_store, ListsAll, with_found, rows_for, IsTable}
 use Rattle.ks_store.proofs.Trees.{first, second, under, bytes_where, bytes_put}
 
 abbrev Pairs : Type 0
@@ -45,10 +47,10 @@ pub find_rows : (es : List (Vec ℕ × List ℕ)) (q : List ℕ) → lookup (λ 
 find_rows [] q = refl
 find_rows (e ∷ es) q = ap (λ b. cond b (Some e.1) (lookup (λ (k : Vec ℕ). pointwise nat_eq q k.items) es)) (texts_ties q e.0.items) ∙ ap (cond (eq_by_cmp by_bytes q e.0.items) (Some e.1)) (find_rows es q)
 
-alike_test : (q : List ℕ) (x y : Vec ℕ) → pointwise nat_eq q x.items ≡ true → pointwise nat_eq q y.items ≡ pointwise nat_eq x.items y.items
+pub alike_test : (q : List ℕ) (x y : Vec ℕ) → pointwise nat_eq q x.items ≡ true → pointwise nat_eq q y.items ≡ pointwise nat_eq x.items y.items
 alike_test q x y e = ap (λ (k : List ℕ). pointwise nat_eq k y.items) (same_key q x.items (sym (texts_ties q x.items) ∙ e))
 
-apart_test : (q k : List ℕ) → eq_by_cmp by_bytes q k ≡ false → (x : Vec ℕ) → pointwise nat_eq k x.items ≡ true → pointwise nat_eq q x.items ≡ false
+pub apart_test : (q k : List ℕ) → eq_by_cmp by_bytes q k ≡ false → (x : Vec ℕ) → pointwise nat_eq k x.items ≡ true → pointwise nat_eq q x.items ≡ false
 apart_test q k apart x e = ap (λ (y : List ℕ). pointwise nat_eq q y) (sym (same_key k x.items (sym (texts_ties k x.items) ∙ e))) ∙ (texts_ties q k ∙ apart)
 
 -- what a change at the key k leaves, from what the table says of it
@@ -126,31 +128,22 @@ still_some q k v es h = ap is_some (find-put by_bytes nat_list_cmp_total q k v e
 pub now_some : (k v : List ℕ) (es : Pairs) → is_some (find by_bytes k (put by_bytes k v es)) ≡ true
 now_some k v es = ap is_some (find-put by_bytes nat_list_cmp_total k k v es) ∙ ap (λ b. is_some (cond b (Some v) (find by_bytes k es))) ((eq_by_cmp_equiv nat_list_cmp_total).refl k)
 
--- a key is listed, or want of memory left the list as it was
-pub listed_on : (r : Result ⊤ AllocError) (rows old new : Pairs) (k v : List ℕ) → Rises old × Lists rows old → Rises new → OnOk r (new ≡ put by_bytes k v old) → OnErr r (new ≡ old) → Rises new × Lists rows new
-listed_on (Ok u) rows old new k v h rises ok err = (rises, λ q f has. subst (λ (x : Pairs). is_some (find by_bytes q x) ≡ true) (sym ok) (still_some q k v old (h.1 q f has)))
-listed_on (Err x) rows old new k v h rises ok err = (rises, λ q f has. subst (λ (x : Pairs). is_some (find by_bytes q x) ≡ true) (sym err) (h.1 q f has))
-
-pub listed_has : (r : Result ⊤ AllocError) (old new : Pairs) (k c v : List ℕ) → c ≡ k → OnOk r (new ≡ put by_bytes c v old) → OnOk r (is_fronted k ≡ true → is_some (find by_bytes k new) ≡ true)
-listed_has (Ok u) old new k c v is ok = λ f. subst (λ (x : List ℕ). is_some (find by_bytes x new) ≡ true) is (subst (λ (x : Pairs). is_some (find by_bytes c x) ≡ true) (sym ok) (now_some c v old))
-listed_has (Err x) old new k c v is ok = tt
-
 -- after a row is put
-pub lists_put : (old new listed : Pairs) (k v : List ℕ) → ((q : List ℕ) → find by_bytes q new ≡ cond (eq_by_cmp by_bytes q k) (Some v) (find by_bytes q old)) → Lists old listed → (is_fronted k ≡ true → is_some (find by_bytes k listed) ≡ true) → Lists new listed
-lists_put old new listed k v is lists has q f some = by (eq_by_cmp by_bytes q k) refl (ap is_some (sym (is q)) ∙ some)
+pub lists_put : (old new : Pairs) (groups : List (List ℕ × Pairs)) (k v : List ℕ) → ((q : List ℕ) → find by_bytes q new ≡ cond (eq_by_cmp by_bytes q k) (Some v) (find by_bytes q old)) → Lists old groups → IsListed k groups → Lists new groups
+lists_put old new groups k v is lists has q some = by (eq_by_cmp by_bytes q k) refl (ap is_some (sym (is q)) ∙ some)
   where
-    by : (b : Bool) → eq_by_cmp by_bytes q k ≡ b → is_some (cond b (Some v) (find by_bytes q old)) ≡ true → is_some (find by_bytes q listed) ≡ true
-    by true e h = subst (λ (x : List ℕ). is_some (find by_bytes x listed) ≡ true) (sym (same_key q k e)) (has (subst (λ (x : List ℕ). is_fronted x ≡ true) (same_key q k e) f))
-    by false e h = lists q f h
+    by : (b : Bool) → eq_by_cmp by_bytes q k ≡ b → is_some (cond b (Some v) (find by_bytes q old)) ≡ true → IsListed q groups
+    by true e h = subst (λ (x : List ℕ). IsListed x groups) (sym (same_key q k e)) has
+    by false e h = lists q h
 
--- after a row is taken, and its key from the list
-pub lists_take : (old new listed fewer : Pairs) (k : List ℕ) → ((q : List ℕ) → find by_bytes q new ≡ cond (eq_by_cmp by_bytes q k) None (find by_bytes q old)) → Lists old listed →
-    ((q : List ℕ) → eq_by_cmp by_bytes q k ≡ false → find by_bytes q fewer ≡ find by_bytes q listed) → Lists new fewer
-lists_take old new listed fewer k is lists others q f some = by (eq_by_cmp by_bytes q k) refl (ap is_some (sym (is q)) ∙ some)
+-- after a row is taken, and its key from the groups
+pub lists_take : (old new : Pairs) (groups fewer : List (List ℕ × Pairs)) (k : List ℕ) → ((q : List ℕ) → find by_bytes q new ≡ cond (eq_by_cmp by_bytes q k) None (find by_bytes q old)) → Lists old groups →
+    ((q : List ℕ) → eq_by_cmp by_bytes q k ≡ false → IsListed q groups → IsListed q fewer) → Lists new fewer
+lists_take old new groups fewer k is lists others q some = by (eq_by_cmp by_bytes q k) refl (ap is_some (sym (is q)) ∙ some)
   where
-    by : (b : Bool) → eq_by_cmp by_bytes q k ≡ b → is_some (cond b None (find by_bytes q old)) ≡ true → is_some (find by_bytes q fewer) ≡ true
+    by : (b : Bool) → eq_by_cmp by_bytes q k ≡ b → is_some (cond b None (find by_bytes q old)) ≡ true → IsListed q fewer
     by true e h = absurd (true≢false (sym h))
-    by false e h = ap is_some (others q e) ∙ lists q f h
+    by false e h = others q e (lists q h)
 
 -- what is found elsewhere where the key k is taken from a list
 pub others_stay : (k : List ℕ) (es fs : Pairs) → fs ≡ where_key by_bytes (λ x. not (eq_by_cmp by_bytes k x)) es → (q : List ℕ) → eq_by_cmp by_bytes q k ≡ false → find by_bytes q fs ≡ find by_bytes q es
@@ -248,12 +241,6 @@ rows_under front rows listed rises lists =
         ∙ (ap (λ (o : Option (List ℕ)). cond (begins front q) o None) (sym (get_row rows q) ∙ fin.get-entries (row_store rows) q)
         ∙ sym (find-where_key by_bytes (begins front) q (alike q) (fin.entries (row_store rows))))))
 
--- a key that begins with a front has one
-pub begun_is_fronted : (front q : List ℕ) → is_fronted front ≡ true → begins front q ≡ true → is_fronted q ≡ true
-begun_is_fronted [] q f h = absurd (true≢false (sym f))
-begun_is_fronted (a ∷ more) [] f h = absurd (true≢false (sym h))
-begun_is_fronted (a ∷ more) (b ∷ bs) f h = subst (λ (x : ℕ). (x == 0) ≡ true) (eqb-true a b (first_so _ _ h)) f
-
 -- ---- all keys of a table, as they are listed
 
 -- each key with a row is listed or still to come
@@ -291,32 +278,32 @@ empty_bytes : ArePairs (fin.entries empty_store)
 unfolding fin.entries fin.empty
 empty_bytes = tt
 
-pub new_table : (es : List (Vec ℕ × List ℕ)) (ls : List (Vec ℕ × Vec ℕ)) → es ≡ [] → ls ≡ [] → IsTable (rows_of es) (pairs_of ls)
-new_table es ls e f =
-    let none : IsTable [] [] = ((tt, λ q g h. absurd (true≢false (sym h))), sym (fin.len-empty by_bytes (List ℕ)), empty_bytes) in
-    subst (λ (x : List (Vec ℕ × List ℕ)). IsTable (rows_of x) (pairs_of ls)) (sym e) (subst (λ (y : List (Vec ℕ × Vec ℕ)). IsTable [] (pairs_of y)) (sym f) none)
+pub new_table : (es : List (Vec ℕ × List ℕ)) (gs : List (Vec ℕ × Group)) → es ≡ [] → gs ≡ [] → IsTable (rows_of es) (groups_of gs)
+new_table es gs e f =
+    let none : IsTable [] [] = ((λ q. (tt, tt), λ q h. absurd (true≢false (sym h))), sym (fin.len-empty by_bytes (List ℕ)), empty_bytes) in
+    subst (λ (x : List (Vec ℕ × List ℕ)). IsTable (rows_of x) (groups_of gs)) (sym e) (subst (λ (y : List (Vec ℕ × Group)). IsTable [] (groups_of y)) (sym f) none)
 
-pub put_table : (r : Result ⊤ AllocError) (old new : List (Vec ℕ × List ℕ)) (listed : Pairs) (k v : List ℕ) →
+pub put_table : (r : Result ⊤ AllocError) (old new : List (Vec ℕ × List ℕ)) (groups : List (List ℕ × Pairs)) (k v : List ℕ) →
     OnOk r ((q : List ℕ) → find by_bytes q (rows_of new) ≡ cond (eq_by_cmp by_bytes q k) (Some v) (find by_bytes q (rows_of old))) →
     OnOk r (length new ≡ cond (is_some (find by_bytes k (rows_of old))) (length old) (length old + 1)) → OnErr r (new ≡ old) →
-    Rises listed × Lists (rows_of old) listed → (is_fronted k ≡ true → is_some (find by_bytes k listed) ≡ true) → IsBytes k × IsBytes v →
-    (length (rows_of old) ≡ fin.len (row_store (rows_of old))) × ArePairs (fin.entries (row_store (rows_of old))) → IsTable (rows_of new) listed
-put_table (Ok u) old new listed k v is len err lists has b h =
+    AreGroups groups × Lists (rows_of old) groups → IsListed k groups → IsBytes k × IsBytes v →
+    (length (rows_of old) ≡ fin.len (row_store (rows_of old))) × ArePairs (fin.entries (row_store (rows_of old))) → IsTable (rows_of new) groups
+put_table (Ok u) old new groups k v is len err lists has b h =
     let m : row_store (rows_of new) ≡ fin.insert (row_store (rows_of old)) k v = put_row (rows_of old) (rows_of new) k v is in
     let longer : length (rows_of new) ≡ cond (is_some (find by_bytes k (rows_of old))) (length (rows_of old)) (length (rows_of old) + 1) =
     length-rows_of new ∙ (len ∙ ap (λ (n : ℕ). cond (is_some (find by_bytes k (rows_of old))) n (n + 1)) (sym (length-rows_of old))) in
-    ((lists.0, lists_put (rows_of old) (rows_of new) listed k v is lists.1 has), len_put (rows_of old) (rows_of new) k v h.0 m longer, bytes_after_put _ _ k v m b h.1)
-put_table (Err x) old new listed k v is len err lists has b h = subst (λ (es : List (Vec ℕ × List ℕ)). IsTable (rows_of es) listed) (sym err) (lists, h.0, h.1)
+    ((lists.0, lists_put (rows_of old) (rows_of new) groups k v is lists.1 has), len_put (rows_of old) (rows_of new) k v h.0 m longer, bytes_after_put _ _ k v m b h.1)
+put_table (Err x) old new groups k v is len err lists has b h = subst (λ (es : List (Vec ℕ × List ℕ)). IsTable (rows_of es) groups) (sym err) (lists, h.0, h.1)
 
-pub take_table : (old new : List (Vec ℕ × List ℕ)) (listed fewer : Pairs) (k : List ℕ) →
+pub take_table : (old new : List (Vec ℕ × List ℕ)) (groups fewer : List (List ℕ × Pairs)) (k : List ℕ) →
     ((q : List ℕ) → find by_bytes q (rows_of new) ≡ cond (eq_by_cmp by_bytes q k) None (find by_bytes q (rows_of old))) →
-    length new ≡ cond (is_some (find by_bytes k (rows_of old))) (length old - 1) (length old) → Rises fewer →
-    ((q : List ℕ) → eq_by_cmp by_bytes q k ≡ false → find by_bytes q fewer ≡ find by_bytes q listed) → IsTable (rows_of old) listed → IsTable (rows_of new) fewer
-take_table old new listed fewer k is len rises others h =
+    length new ≡ cond (is_some (find by_bytes k (rows_of old))) (length old - 1) (length old) → AreGroups fewer →
+    ((q : List ℕ) → eq_by_cmp by_bytes q k ≡ false → IsListed q groups → IsListed q fewer) → IsTable (rows_of old) groups → IsTable (rows_of new) fewer
+take_table old new groups fewer k is len are others h =
     let m : row_store (rows_of new) ≡ fin.remove (row_store (rows_of old)) k = take_row (rows_of old) (rows_of new) k is in
     let shorter : length (rows_of new) ≡ cond (is_some (find by_bytes k (rows_of old))) (length (rows_of old) - 1) (length (rows_of old)) =
     length-rows_of new ∙ (len ∙ ap (λ (n : ℕ). cond (is_some (find by_bytes k (rows_of old))) (n - 1) n) (sym (length-rows_of old))) in
-    ((rises, lists_take (rows_of old) (rows_of new) listed fewer k is h.0.1 others), len_take (rows_of old) (rows_of new) k h.1 m shorter, bytes_after_take _ _ k m h.2)
+    ((are, lists_take (rows_of old) (rows_of new) groups fewer k is h.0.1 others), len_take (rows_of old) (rows_of new) k h.1 m shorter, bytes_after_take _ _ k m h.2)
 
 -- ---- the rows of the first keys of a list, and one more
 

@@ -1,5 +1,6 @@
 pub mod Restored
 pub mod Pairs
+pub mod Groups
 pub mod Rows
 pub mod Calls
 pub mod Changelogs

@@ -4,7 +4,7 @@ use Rattle.std.specs.Global.{Vec}
 use Rattle.std.specs.FinMap.Entries.{find}
 use Rattle.ks_def_runs.specs.Bytes.{Store, by_bytes}
 use Rattle.ks_def_runs.specs.FinMap as fin
-use Rattle.ks_store.specs.Pairs.{Rises}
+use Rattle.ks_store.specs.Groups.{Keys, AreGroups, Lists}
 use Rattle.ks_def_runs.specs.Pairs.{ArePairs}
 
 abbrev pub rows_of : List (Vec ℕ × List ℕ) → List (List ℕ × List ℕ)
@@ -13,15 +13,6 @@ rows_of es = map (λ e. (e.0.items, e.1)) es
 -- of several rows of a key the first counts
 abbrev pub row_store : List (List ℕ × List ℕ) → Store
 row_store es = fin.from_entries es
-
--- the key begins with a byte 0, as one that begins with a length does
-abbrev pub is_fronted : List ℕ → Bool
-is_fronted [] = false
-is_fronted (b ∷ bs) = b == 0
-
--- each key with a front that has a row is listed
-abbrev pub Lists : List (List ℕ × List ℕ) → List (List ℕ × List ℕ) → Type 0
-Lists rows listed = (q : List ℕ) → is_fronted q ≡ true → is_some (find by_bytes q rows) ≡ true → is_some (find by_bytes q listed) ≡ true
 
 -- each key that has a row is listed
 abbrev pub ListsAll : List (List ℕ × List ℕ) → List (List ℕ × List ℕ) → Type 0
@@ -36,6 +27,6 @@ abbrev pub rows_for : List (List ℕ × List ℕ) → List (List ℕ × List ℕ
 rows_for rows [] = []
 rows_for rows (e ∷ es) = with_found (find by_bytes e.0 rows) e.0 (rows_for rows es)
 
--- what a table keeps: its list of keys rises and has all with a front, there is one row for each key, and all that it holds is bytes
-abbrev pub IsTable : List (List ℕ × List ℕ) → List (List ℕ × List ℕ) → Type 0
-IsTable rows listed = (Rises listed × Lists rows listed) × (length rows ≡ fin.len (row_store rows)) × ArePairs (fin.entries (row_store rows))
+-- what a table keeps: its groups have all keys with a front, there is one row for each key, and all that it holds is bytes
+abbrev pub IsTable : List (List ℕ × List ℕ) → List (List ℕ × Keys) → Type 0
+IsTable rows groups = (AreGroups groups × Lists rows groups) × (length rows ≡ fin.len (row_store rows)) × ArePairs (fin.entries (row_store rows))

@@ -3,6 +3,7 @@
 
 mod calls;
 mod changelogs;
+mod groups;
 mod ordered;
 mod pairs;
 mod plain;

@@ -10,7 +10,7 @@ use ks_row::Blob;
 use std::alloc::{AllocError, Global};
 use std::marker::Model;
 
-/// A store in a hash table by keys; `prefix` looks its first pair up and goes on to the last where it begins with a length.
+/// A store in a hash table by keys; `prefix` looks at the pairs under a whole front alone.
 #[derive(Drop)]
 pub struct OrderedStore {
     table: Table,

@@ -1,5 +1,5 @@
 //! A store from its changelog.
-ghost use Rattle.std.specs.Prelude.{◌≡◌, ◌≤◌, OnOk, OnErr, ℕ, List, map, take, length};
+ghost use Rattle.std.specs.Prelude.{◌≡◌, ◌≤◌, OnOk, OnErr, ℕ, List, Some, map, take, length, option_copied};
 ghost use Rattle.ks_def_runs.specs.Bytes.{Store};
 ghost use Rattle.ks_history.specs.Machine.{applied, latest_from};
 ghost use Rattle.ks_store.specs.Restored.{records_of};
@@ -8,18 +8,29 @@ use crate::store::KvStore;
 use ks_row::Rec;
 use std::alloc::AllocError;
 
+// Puts the value of a key, or deletes it where there is none.
+fn apply_at<S: KvStore>(store: &mut S, key: &[u8], value: Option<&[u8]>) -> Result<(), AllocError>
+    ensures ok { OnOk result (S.contents store.new
+        ≡ applied (S.contents store.old) (Some key.now) (option_copied value.entry)) }
+    ensures err { OnErr result (S.contents store.new ≡ S.contents store.old) }
+{
+    match value {
+        Some(value) => store.put(key, value),
+        None => {
+            store.delete(key);
+            Ok(())
+        }
+    }
+}
+
 fn apply<S: KvStore>(store: &mut S, rec: &Rec) -> Result<(), AllocError>
     ensures ok { OnOk result (S.contents store.new
         ≡ applied (S.contents store.old) rec.now.key rec.now.value) }
     ensures err { OnErr result (S.contents store.new ≡ S.contents store.old) }
 {
-    match (&rec.key, &rec.value) {
-        (Some(key), Some(value)) => store.put(key.as_slice(), value.as_slice()),
-        (Some(key), None) => {
-            store.delete(key.as_slice());
-            Ok(())
-        }
-        (None, _) => Ok(()),
+    match rec.key() {
+        Some(key) => apply_at(store, key, rec.value()),
+        None => Ok(()),
     }
 }
 

@@ -4,9 +4,9 @@ ghost use Rattle.std.specs.Ordering.{eq_by_cmp};
 ghost use Rattle.std.specs.FinMap.Entries.{find};
 ghost use Rattle.ks_def_runs.specs.Bytes.{by_bytes};
 ghost use Rattle.ks_store.specs.Pairs.{pairs_of, Rises};
-ghost use Rattle.ks_store.specs.Rows.{rows_of, is_fronted, Lists, ListsAll, with_found, rows_for};
+ghost use Rattle.ks_store.specs.Rows.{rows_of, ListsAll, with_found, rows_for};
 
-use crate::pairs::{Pairs, set_at, take_away};
+use crate::pairs::{Pairs, set_at};
 use ks_row::Blob;
 use std::alloc::{AllocError, Global};
 use std::collections::{BTreeMap, HashMap};
@@ -63,54 +63,6 @@ pub fn take_row(rows: &mut Rows, key: &[u8])
         (length rows.old.entries - 1) (length rows.old.entries) }
 {
     rows.remove(key);
-}
-
-/// Whether a key is of those that a prefix is looked up among: it begins with a byte 0, as one that begins with a length does.
-pub fn has_front(key: &[u8]) -> bool
-    ensures { result ≡ is_fronted key.now }
-{
-    match key.first() {
-        Some(byte) => *byte == 0,
-        None => false,
-    }
-}
-
-/// Lists a key that is to get a row, where it is of those.
-pub fn list_key(
-    alloc: Global,
-    rows: &Rows,
-    listed: &mut Pairs,
-    key: &[u8],
-) -> Result<(), AllocError>
-    requires { Rises (pairs_of listed.old.entries)
-        × Lists (rows_of rows.now.entries) (pairs_of listed.old.entries) }
-    ensures lists { Rises (pairs_of listed.new.entries)
-        × Lists (rows_of rows.now.entries) (pairs_of listed.new.entries) }
-    ensures has { OnOk result (is_fronted key.now ≡ true
-        → is_some (find by_bytes key.now (pairs_of listed.new.entries)) ≡ true) }
-{
-    if !has_front(key) {
-        return Ok(());
-    }
-    if rows.contains_key(key) {
-        return Ok(());
-    }
-    let copy = Vec::from_slice(alloc, key)?;
-    set_at(listed, copy, Vec::new(alloc))
-}
-
-/// Lists a key no longer.
-pub fn unlist_key(listed: &mut Pairs, key: &[u8])
-    requires { Rises (pairs_of listed.old.entries) }
-    ensures rises { Rises (pairs_of listed.new.entries) }
-    ensures others { (q : List ℕ) → eq_by_cmp by_bytes q key.now ≡ false
-        → find by_bytes q (pairs_of listed.new.entries)
-        ≡ find by_bytes q (pairs_of listed.old.entries) }
-{
-    if !has_front(key) {
-        return;
-    }
-    take_away(listed, key);
 }
 
 /// All keys of a table, in order.

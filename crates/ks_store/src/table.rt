@@ -1,17 +1,17 @@
-//! A finite map from bytes to bytes in a hash table by keys, beside which the keys that begin with a length stand in order.
+//! A finite map from bytes to bytes in a hash table by keys, beside which the keys that begin with a length stand by what they so begin
+//! with.
 ghost use Rattle.std.specs.Prelude.{◌≡◌, IfOk, OnOk, OnErr, option_map};
 ghost use Rattle.ks_def_runs.specs.Bytes.{Store, empty_store};
 ghost use Rattle.ks_def_runs.specs.FinMap as map;
 ghost use Rattle.ks_def_runs.specs.Pairs.{ArePairs};
 ghost use Rattle.ks_def_runs.specs.Prefixes.{pairs_under};
 
-use crate::pairs::{Pairs, pairs_from};
-use crate::rows::{
-    Rows, all_keys, has_front, list_key, put_row, row_at, rows_at, take_row, unlist_key,
-};
+use crate::groups::{Groups, is_front, keys_under, list_key, unlist_key};
+use crate::pairs::pairs_from;
+use crate::rows::{Rows, all_keys, put_row, row_at, rows_at, take_row};
 use ks_row::Blob;
 use std::alloc::{AllocError, Global};
-use std::collections::{BTreeMap, HashMap};
+use std::collections::HashMap;
 use std::marker::Model;
 
 /// A finite map from bytes to bytes.
@@ -19,20 +19,20 @@ use std::marker::Model;
 pub struct Table {
     alloc: Global,
     rows: Rows,
-    // the keys with a front, each with nothing; it may have more of them than the rows
-    listed: Pairs,
+    // the keys with a front, by front; they may be more than the rows have
+    groups: Groups,
 }
 
 impl Model for Table {
     ghost use Rattle.ks_def_runs.specs.Bytes.{Store};
-    ghost use Rattle.ks_store.specs.Pairs.{pairs_of};
+    ghost use Rattle.ks_store.specs.Groups.{groups_of};
     ghost use Rattle.ks_store.specs.Rows.{rows_of, row_store, IsTable};
 
     ghost Value = { Store };
 
     ghost view = { λ t. row_store (rows_of t.rows.entries) };
 
-    ghost invariant = { λ t. IsTable (rows_of t.rows.entries) (pairs_of t.listed.entries) };
+    ghost invariant = { λ t. IsTable (rows_of t.rows.entries) (groups_of t.groups.entries) };
 }
 
 impl Table {
@@ -43,7 +43,7 @@ impl Table {
         Table {
             alloc,
             rows: HashMap::new(alloc),
-            listed: BTreeMap::new(alloc),
+            groups: HashMap::new(alloc),
         }
     }
 
@@ -68,7 +68,7 @@ impl Table {
         ensures err { OnErr result (self.new ≡ self.old) }
     {
         let value = Blob::from_slice(self.alloc, value)?;
-        list_key(self.alloc, &self.rows, &mut self.listed, key)?;
+        list_key(self.alloc, &self.rows, &mut self.groups, key)?;
         put_row(self.alloc, &mut self.rows, key, value)
     }
 
@@ -77,15 +77,15 @@ impl Table {
         ensures { self.new ≡ map.remove self.old key.now }
     {
         take_row(&mut self.rows, key);
-        unlist_key(&mut self.listed, key);
+        unlist_key(&mut self.groups, key);
     }
 
     /// The pairs whose key begins so, in order of bytes; looks at these alone where the front is one.
     pub fn seek(&self, front: &[u8]) -> Result<Vec<(Blob, Blob)>, AllocError>
         ensures { IfOk result (λ v. v.items ≡ pairs_under front.now self.now) }
     {
-        if has_front(front) {
-            let keys = pairs_from(self.alloc, &self.listed, front)?;
+        if is_front(front) {
+            let keys = keys_under(self.alloc, &self.groups, front)?;
             return rows_at(self.alloc, &self.rows, keys);
         }
         let all = all_keys(self.alloc, &self.rows)?;

@@ -1,5 +1,5 @@
 -- Stores keep bytes.
-use Rattle.std.proofs.Common.{◌≡◌, ◌<◌, arith, length, ℕ, ◌==◌, true, false, List, [], ◌∷◌, refl}
+use Rattle.std.proofs.Common.{◌<◌, arith, length, ◌==◌, true, false, List, [], ◌∷◌}
 use Rattle.std.specs.Prelude.{if◌then◌else◌}
 use Rattle.ks_def_runs.specs.FinMap as fin
 use Rattle.ks_def_runs.specs.Pairs.{ArePairs}

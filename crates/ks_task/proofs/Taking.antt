@@ -1,6 +1,7 @@
 -- Records that a task takes one after another.
-use Rattle.std.proofs.Common.{◌≡◌, ℕ, zero, suc, ◌+◌, ◌<◌, take, get_or, List, [], ◌∷◌, ◌++◌, length, refl, sym, ap, ◌∙◌, arith, add-one}
-use Rattle.ks_row.specs.declared.record.Rec.{Rec}
+use Rattle.std.proofs.Common.{◌≡◌, ℕ, zero, suc, ◌+◌, ◌<◌, take, get_or, List, [], ◌∷◌, ◌++◌, length, refl, sym, ap, subst, ◌∙◌, arith, add-one, Result}
+use Rattle.std.specs.Prelude.{OnOk}
+use Rattle.ks_row.specs.Records.{Record as Rec}
 use Rattle.ks_history.specs.Machine.{TaskPlan}
 use Rattle.ks_history.specs.Follows.{TaskView}
 use Rattle.ks_law_restore.specs.Views.{take_view, take_all}
@@ -18,3 +19,8 @@ pub one_record_more : (plan : TaskPlan) (topic : ℕ) (v now new : TaskView) (re
     new ≡ take_view plan now topic r.0 r.1 → new ≡ take_all plan v topic (take (i + 1) recs)
 one_record_more plan topic v now new recs i r h there was is =
     is ∙ ap (λ w. take_view plan w topic r.0 r.1) was ∙ sym (take_all-push plan topic v (take i recs) r) ∙ ap (take_all plan v topic) (sym (take_one recs i r h there))
+
+-- a record that is seen as another is taken as that one
+pub taken_as : {A E : Type 0} (r : Result A E) (plan : TaskPlan) (topic offset : ℕ) (old new : TaskView) (seen rec : Rec) → seen ≡ rec →
+    OnOk r (new ≡ take_view plan old topic offset seen) → OnOk r (new ≡ take_view plan old topic offset rec)
+taken_as r plan topic offset old new seen rec e h = subst (λ (x : Rec). OnOk r (new ≡ take_view plan old topic offset x)) e h

@@ -1,17 +1,17 @@
 -- What the calls of a task make of the view that it is.
-use Rattle.std.proofs.Common.{arith, ◌≡◌, ℕ, suc, ◌+◌, ◌==◌, Bool, true, false, cond, ◌||◌, List, [], ◌∷◌, ◌++◌, map, refl, sym, ap, ap₂, subst, ◌∙◌}
+use Rattle.std.proofs.Common.{arith, ◌≡◌, ℕ, ◌+◌, ◌==◌, Bool, true, false, cond, ◌||◌, List, [], ◌∷◌, ◌++◌, map, refl, sym, ap, ap₂, subst, ◌∙◌}
 use Rattle.std.specs.Prelude.{if◌then◌else◌}
 use Rattle.std.proofs.Math.Path.{fun_ext}
 use Rattle.std.proofs.lemmas.Bool.{true≢false}
 use Rattle.std.proofs.lemmas.Bool.Decides.{Decides-eqb}
-use Rattle.ks_row.specs.declared.record.Rec.{Rec}
+use Rattle.ks_row.specs.Records.{Record as Rec}
 use Rattle.ks_row.specs.declared.record.PartId.{PartId}
 use Rattle.ks_row.specs.declared.record.TaskId.{TaskId}
 use Rattle.ks_row.specs.Parts.{same_part}
 use Rattle.ks_def_runs.specs.Bytes.{Store}
 use Rattle.ks_def_runs.specs.Run.{Outcome, sent_to}
 use Rattle.ks_plan.specs.Drafts.{DraftView}
-use Rattle.ks_plan.specs.Plan.{Plan, Kind, plan_of}
+use Rattle.ks_plan.specs.Plan.{plan_of}
 use Rattle.ks_plan.specs.Layout.{topic_at}
 use Rattle.ks_plan.specs.Infos.{input_numbers, changelog_numbers}
 use Rattle.ks_def_tasks.specs.Bytes.{ByteStores, byte_step, has_number, stores_after, keep_all, records_at}

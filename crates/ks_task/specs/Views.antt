@@ -1,7 +1,7 @@
 -- A task's inputs and changelogs as lists, and the view that they are.
 use Rattle.std.specs.Prelude.{◌≡◌, ℕ, ◌+◌, ◌-◌, ◌==◌, Bool, true, false, List, [], ◌∷◌, ◌++◌, map, None, Option, Some, if◌then◌else◌}
 use Rattle.std.specs.List.{filter}
-use Rattle.ks_row.specs.declared.record.Rec.{Rec}
+use Rattle.ks_row.specs.Records.{Record as Rec}
 use Rattle.ks_row.specs.declared.record.PartId.{PartId}
 use Rattle.ks_row.specs.declared.record.TaskId.{TaskId}
 use Rattle.ks_row.specs.Parts.{same_part}
@@ -19,7 +19,9 @@ use Rattle.ks_history.specs.Follows.{TaskView}
 use Rattle.ks_task.specs.declared.inputs.Input.{Input}
 use Rattle.ks_task_nodes.specs.declared.topics.NodeTopics.{NodeTopics}
 use Rattle.ks_def_tasks.specs.Rules.{HaveParts}
-use Rattle.ks_task_nodes.specs.Nodes.{topics_from}
+use Rattle.ks_task_nodes.specs.declared.processor.ProcessorNode.{ProcessorNode}
+use Rattle.ks_task_nodes.specs.Nodes.{topics_from, node_view}
+use Rattle.ks_task_nodes.specs.Reach.{live_in}
 use Rattle.ks_store.specs.declared.changelogs.Changelog.{Changelog}
 use Rattle.ks_store.specs.Changelogs.{stores_in}
 use Rattle.ks_standby.specs.Replicas.{positions_in, numbers_of}
@@ -106,3 +108,8 @@ grouped outs (x ∷ xs) = grouped (with_output x.0 x.1 outs) xs
 abbrev pub output_place : PartId → List (PartId × List Rec) → ℕ
 output_place q [] = 0
 output_place q (out ∷ outs) = if same_part q out.0 then 0 else output_place q outs + 1
+
+-- the numbers of those of these nodes that a topic can reach
+abbrev pub AreLiveAt : List ProcessorNode → Option Topic → List ℕ → Type 0
+AreLiveAt nodes None live = live ≡ []
+AreLiveAt nodes (Some topic) live = live ≡ live_in topic [] (map node_view nodes)

@@ -1,5 +1,6 @@
 //! A task at work.
-ghost use Rattle.std.specs.Prelude.{◌≡◌, ◌≤◌, ◌-◌, ◌^◌, ℕ, List, IfOk, IfErr, OnOk, map, min, true, slice_get, option_map};
+ghost use Rattle.std.specs.Prelude.{◌≡◌, ◌≤◌, ◌-◌, ◌^◌, ◌++◌, ℕ, List, IfOk, IfErr, OnOk, map, min, true, slice_get, option_map};
+ghost use Rattle.ks_row.specs.Records.{record_seen};
 ghost use Rattle.ks_plan.specs.Drafts.{DraftView};
 ghost use Rattle.ks_plan.specs.Plan.{plan_of};
 ghost use Rattle.ks_topo.specs.Topologies.{draft_of, plan_in};
@@ -14,12 +15,13 @@ ghost use Rattle.ks_law_restore.specs.Views.{take_view, take_all, skip_view, com
 ghost use Rattle.ks_commit.specs.Work.{work_view};
 ghost use Rattle.ks_def_tasks.specs.Rules.{HaveParts, rules_of};
 ghost use Rattle.ks_task_nodes.specs.Nodes.{node_view, kinds_in, nodes_of};
+ghost use Rattle.ks_task_nodes.specs.Reach.{are_numbered};
 ghost use Rattle.ks_task_nodes.specs.Records.{arrival_of, arrival_at};
 ghost use Rattle.ks_task_step.specs.Steps.{made_or_none, late_or_none};
 ghost use Rattle.ks_store.specs.Changelogs.{stores_in};
 ghost use Rattle.ks_standby.specs.Replicas.{replica_view, changelogs_of};
-ghost use Rattle.ks_task.specs.Views.{own_ends};
-ghost use Rattle.ks_task.specs.Tasks.{task_view, uncommitted, IsClean, IsTaskOf};
+ghost use Rattle.ks_task.specs.Views.{own_ends, AreLiveAt};
+ghost use Rattle.ks_task.specs.Tasks.{task_view, with_made, uncommitted, IsClean, IsTaskOf};
 
 use crate::changelogs::{end_changelogs, hold_bytes, keep_records, record_is_bytes};
 use crate::fitting::topology_fits;
@@ -30,13 +32,13 @@ use crate::inputs::{
 };
 use ks_commit::Frozen;
 use ks_hash::Hash128;
-use ks_row::{PartId, Rec, Seq, TaskId};
+use ks_row::{PartId, PlacedRecords, Rec, RecordRef, Seq, TaskId};
 use ks_standby::{Replica, position_in_changelog};
 use ks_store::Changelog;
 use ks_task_nodes::{
-    NodeTopics, ProcessorNode, StampedRecord, node_topics, processor_nodes, read_record,
+    NodeTopics, ProcessorNode, StampedRecord, live_nodes, node_topics, processor_nodes, read_record,
 };
-use ks_task_step::{Step, StepOutput, process};
+use ks_task_step::{Step, process};
 use ks_topo::{Topic, Topology};
 use std::alloc::{AllocError, AllocFailed, Global};
 
@@ -55,7 +57,7 @@ pub struct Task {
     inputs: Vec<Input>,
     changelogs: Vec<Changelog>,
     order: Vec<(u16, u64)>,
-    made: Vec<(PartId, Rec)>,
+    made: PlacedRecords,
     late: u64,
 }
 
@@ -65,10 +67,11 @@ fn read_from<'a>(
     purposes: &[Topic],
     nodes: &[ProcessorNode<'_>],
     topic: u16,
-    rec: &'a Rec,
+    rec: RecordRef<'a>,
 ) -> Result<Option<StampedRecord<'a>>, AllocError>
     ensures { IfOk result (λ o. option_map arrival_of o
-        ≡ arrival_at (kinds_in (map node_view nodes.now)) (slice_get purposes.now topic) rec.now) }
+        ≡ arrival_at (kinds_in (map node_view nodes.now)) (slice_get purposes.now topic)
+        (record_seen rec.entry)) }
 {
     match purposes.get(topic as usize) {
         Some(purpose) => read_record(alloc, nodes, *purpose, rec),
@@ -76,39 +79,70 @@ fn read_from<'a>(
     }
 }
 
-// All that these nodes make of a record.
-fn process_record<'s, H: Hash128>(
+// The numbers of those of these nodes that a topic's records can reach.
+fn live_at(
     alloc: Global,
     purposes: &[Topic],
-    nodes: &'s [ProcessorNode<'s>],
-    changelogs: &'s [Changelog],
+    nodes: &[ProcessorNode<'_>],
+    topic: u16,
+) -> Result<Vec<u8>, AllocError>
+    ensures { IfOk result (λ v. AreLiveAt nodes.now (slice_get purposes.now topic) v.items) }
+{
+    match purposes.get(topic as usize) {
+        Some(purpose) => live_nodes(alloc, nodes, *purpose),
+        None => Ok(Vec::new(alloc)),
+    }
+}
+
+// The same by the number of a topology's topic.
+fn live_for(
+    alloc: Global,
+    topology: &Topology,
+    nodes: &[ProcessorNode<'_>],
+    topic: u16,
+) -> Result<Vec<u8>, AllocError>
+    ensures { IfOk result (λ v. AreLiveAt nodes.now (topic_at (plan_in topology.now) topic)
+        v.items) }
+{
+    live_at(alloc, topology.purposes(), nodes, topic)
+}
+
+// All that these nodes make of a record, at the end of what was made before; these of them are those that the topic can reach. How many
+// pairs were late.
+fn process_record<H: Hash128>(
+    alloc: Global,
+    made: &mut PlacedRecords,
+    purposes: &[Topic],
+    nodes: &[ProcessorNode<'_>],
+    live: &[u8],
+    changelogs: &[Changelog],
     at: PartId,
-    rec: &'s Rec,
-) -> Result<StepOutput, AllocError>
-    requires { at.part ≤ 63 }
-    ensures late { IfOk result (λ m. m.late ≡ capped
+    rec: RecordRef<'_>,
+) -> Result<u64, AllocError>
+    requires part { at.part ≤ 63 }
+    requires numbered { are_numbered 0 (map node_view nodes.now) ≡ true }
+    requires live { AreLiveAt nodes.now (slice_get purposes.now at.topic) live.now }
+    ensures late { IfOk result (λ n. n ≡ capped
         (late_or_none (map node_view nodes.now) (stores_in changelogs.now)
         (arrival_at (kinds_in (map node_view nodes.now)) (slice_get purposes.now at.topic)
-        rec.now))) }
-    ensures records { IfOk result (λ m. m.records.items
-        ≡ made_or_none (rules_of H.hash_of) (map node_view nodes.now) (stores_in changelogs.now)
+        (record_seen rec.entry)))) }
+    ensures records { OnOk result (made.new ≡ made.old
+        ++ made_or_none (rules_of H.hash_of) (map node_view nodes.now) (stores_in changelogs.now)
         at.part (arrival_at (kinds_in (map node_view nodes.now)) (slice_get purposes.now at.topic)
-        rec.now)) }
+        (record_seen rec.entry))) }
 {
     match read_from(alloc, purposes, nodes, at.topic, rec)? {
         Some(stamped) => {
             let step = Step {
                 nodes,
+                live,
                 changelogs,
                 partition: at.part,
                 stamped: &stamped,
             };
-            process::<H>(alloc, &step)
+            process::<H>(alloc, made, &step)
         }
-        None => Ok(StepOutput {
-            records: Vec::new(alloc),
-            late: 0,
-        }),
+        None => Ok(0),
     }
 }
 
@@ -150,7 +184,7 @@ impl Task {
             inputs,
             changelogs,
             order: Vec::new(alloc),
-            made: Vec::new(alloc),
+            made: PlacedRecords::new(alloc),
             late: 0,
         })
     }
@@ -184,34 +218,46 @@ impl Task {
         processor_nodes(alloc, &self.nodes, topology.topics(), topology.nodes())
     }
 
-    // All that its nodes make of a record of a topic.
+    // All that its nodes make of a record of a topic, at the end of what it made before. How many pairs were late.
     fn process<H: Hash128>(
-        &self,
+        &mut self,
         alloc: Global,
         topology: &Topology,
         nodes: &[ProcessorNode<'_>],
+        live: &[u8],
         topic: u16,
-        rec: &Rec,
-    ) -> Result<StepOutput, AllocError>
-        requires task { IsTaskOf (draft_of topology.now) self.now }
-        requires nodes { map node_view nodes.now ≡ nodes_of (plan_in topology.now) self.now.id.sub }
-        ensures late { IfOk result (λ m. m.late
-            ≡ capped (late_or_none (nodes_of (plan_in topology.now) self.now.id.sub)
-            (stores_in self.now.changelogs.items)
+        rec: RecordRef<'_>,
+    ) -> Result<u64, AllocError>
+        requires task { IsTaskOf (draft_of topology.now) self.old }
+        requires nodes { map node_view nodes.now ≡ nodes_of (plan_in topology.now) self.old.id.sub }
+        requires live { AreLiveAt nodes.now (topic_at (plan_in topology.now) topic) live.now }
+        ensures same { OnOk result (self.new ≡ with_made self.new.made self.old) }
+        ensures late { IfOk result (λ n. n
+            ≡ capped (late_or_none (nodes_of (plan_in topology.now) self.old.id.sub)
+            (stores_in self.old.changelogs.items)
             (arrival_at (plan_in topology.now).kinds (topic_at (plan_in topology.now) topic)
-            rec.now))) }
-        ensures records { IfOk result (λ m. m.records.items
-            ≡ made_or_none (rules_of H.hash_of) (nodes_of (plan_in topology.now) self.now.id.sub)
-            (stores_in self.now.changelogs.items) self.now.id.part
+            (record_seen rec.entry)))) }
+        ensures records { OnOk result (self.new.made ≡ self.old.made
+            ++ made_or_none (rules_of H.hash_of) (nodes_of (plan_in topology.now) self.old.id.sub)
+            (stores_in self.old.changelogs.items) self.old.id.part
             (arrival_at (plan_in topology.now).kinds (topic_at (plan_in topology.now) topic)
-            rec.now)) }
+            (record_seen rec.entry))) }
     {
         let at = PartId {
             topic,
             part: self.id.part,
         };
-        let purposes = topology.purposes();
-        process_record::<H>(alloc, purposes, nodes, &self.changelogs, at, rec)
+        let (made, changelogs) = (&mut self.made, self.changelogs.as_slice());
+        process_record::<H>(
+            alloc,
+            made,
+            topology.purposes(),
+            nodes,
+            live,
+            changelogs,
+            at,
+            rec,
+        )
     }
 
     // Takes the next readable record of an input by its nodes.
@@ -220,18 +266,20 @@ impl Task {
         alloc: Global,
         topology: &Topology,
         nodes: &[ProcessorNode<'_>],
+        live: &[u8],
         topic: u16,
         offset: u64,
-        rec: &Rec,
+        rec: RecordRef<'_>,
     ) -> Result<(), AllocError>
         requires task { IsTaskOf (draft_of topology.now) self.old }
+        requires live { AreLiveAt nodes.now (topic_at (plan_in topology.now) topic) live.now }
         requires nodes { map node_view nodes.now ≡ nodes_of (plan_in topology.now) self.old.id.sub }
         requires input { has_topic topic (input_numbers (plan_in topology.now)
             (task_view self.old).task.sub) ≡ true }
         ensures task { OnOk result (IsTaskOf (draft_of topology.now) self.new) }
         ensures view { OnOk result (task_view self.new
             ≡ take_view (work_of (rules_of H.hash_of) (plan_in topology.now)) (task_view self.old)
-            topic offset rec.now) }
+            topic offset (record_seen rec.entry)) }
     {
         let Some(next) = offset.checked_add(1) else {
             return Err(AllocError);
@@ -239,12 +287,12 @@ impl Task {
         // Stores and records hold bytes: the machine's law asks for it.
         hold_bytes(&self.changelogs);
         record_is_bytes(rec);
-        let mut output = self.process::<H>(alloc, topology, nodes, topic, rec)?;
-        keep_records(&mut self.changelogs, self.id.part, &output.records)?;
+        let before = self.made.len();
+        let late = self.process::<H>(alloc, topology, nodes, live, topic, rec)?;
+        keep_records(&mut self.changelogs, self.id.part, &self.made, before)?;
         move_input(&mut self.inputs, topic, next);
         take_in_order(&mut self.order, topic)?;
-        self.made.append(&mut output.records)?;
-        self.late = self.late.saturating_add(output.late);
+        self.late = self.late.saturating_add(late);
         Ok(())
     }
 
@@ -266,7 +314,10 @@ impl Task {
             topic offset rec.now) }
     {
         let nodes = self.own_nodes(alloc, topology)?;
-        self.take_by::<H>(alloc, topology, nodes.as_slice(), topic, offset, rec)
+        let nodes = nodes.as_slice();
+        let live = live_for(alloc, topology, nodes, topic)?;
+        let (live, rec) = (live.as_slice(), rec.as_ref());
+        self.take_by::<H>(alloc, topology, nodes, live, topic, offset, rec)
     }
 
     /// Takes these records of an input, with their offsets, one after another. After want of memory the task is to be dropped.
@@ -287,9 +338,11 @@ impl Task {
     {
         let nodes = self.own_nodes(alloc, topology)?;
         let nodes = nodes.as_slice();
+        let live = live_for(alloc, topology, nodes, topic)?;
+        let live = live.as_slice();
         for i in 0..recs.len() {
             let rec = &recs[i];
-            self.take_by::<H>(alloc, topology, nodes, topic, rec.0, &rec.1)?;
+            self.take_by::<H>(alloc, topology, nodes, live, topic, rec.0, rec.1.as_ref())?;
         }
         Ok(())
     }

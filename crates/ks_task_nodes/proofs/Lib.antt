@@ -1,2 +1,4 @@
 pub mod Numbers
 pub mod Spellings
+pub mod Still
+pub mod Going

@@ -1,10 +1,12 @@
 -- Nodes by number.
-use Rattle.std.proofs.Common.{◌≡◌, ◌<◌, arith, ℕ, zero, suc, ◌+◌, List, length, [], ◌∷◌, map, get_or, Option, Some, None, refl, sym, ap, ap₂, subst, ◌∙◌}
+use Rattle.std.proofs.Common.{◌≡◌, ◌<◌, arith, ℕ, zero, suc, ◌+◌, List, length, [], ◌∷◌, map, get_or, true, eq-eqb, Some, refl, sym, ap, ap₂, ◌∙◌}
 use Rattle.std.specs.Prelude.{slice_get}
+use Rattle.std.proofs.lemmas.Bool.{and_from}
 use Rattle.ks_plan.specs.Plan.{Plan, Kind}
 use Rattle.ks_plan.specs.Layout.{no_kind}
 use Rattle.ks_task_nodes.specs.declared.processor.ProcessorNode.{ProcessorNode}
 use Rattle.ks_task_nodes.specs.Nodes.{TaskNode, kind_of, node_view, kinds_in, node_of, nodes_from}
+use Rattle.ks_task_nodes.specs.Reach.{are_numbered}
 
 pub get_node : {A : Type 0} (g : TaskNode → A) (p : Plan) (sub m i : ℕ) (ks : List Kind) (k : Kind) (d : A) → slice_get ks i ≡ Some k → get_or (map g (nodes_from p sub m ks)) i d ≡ g (node_of p sub (m + i) k)
 get_node g p sub m i [] k d e = absurd cc
@@ -30,3 +32,8 @@ pub kind_there : (ns : List ProcessorNode) (n : ℕ) → n < length ns → (x : 
 kind_there [] n lt x h = absurd (omega (arith, lt))
 kind_there (y ∷ ns) zero lt x h = sym (ap (λ (z : ProcessorNode). kind_of z.processor) (h y))
 kind_there (y ∷ ns) (suc n) lt x h = kind_there ns n (omega (arith, lt)) x h
+
+-- the nodes of a plan stand at their numbers
+pub nodes_numbered : (p : Plan) (sub n : ℕ) (ks : List Kind) → are_numbered n (nodes_from p sub n ks) ≡ true
+nodes_numbered p sub n [] = refl
+nodes_numbered p sub n (k ∷ ks) = and_from _ _ (eq-eqb n n refl) (nodes_numbered p sub (suc n) ks)

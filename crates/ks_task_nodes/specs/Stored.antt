@@ -1,6 +1,7 @@
 -- Items of streams and stored values of tables, as a step has them node by node.
-use Rattle.std.specs.Prelude.{ℕ, Bool, not, cond, List, map, get_or, Option, Some, None, option_map, option_and_then}
+use Rattle.std.specs.Prelude.{ℕ, ℤ, Bool, true, false, not, cond, List, map, get_or, Option, Some, None, option_map, option_and_then}
 use Rattle.ks_row.specs.Reading.{row_from}
+use Rattle.ks_wire.specs.declared.values.Agg.{Agg}
 use Rattle.ks_query.specs.Streams.{StreamItem}
 use Rattle.ks_def_tasks.specs.Messages.{Stored, shown, same_option, same_row, same_stored}
 use Rattle.ks_def_tasks.specs.Messages.Stored.{OfRow, OfAgg}
@@ -53,3 +54,8 @@ old_values os = in_list (map stored_in os)
 
 abbrev pub new_values : List (Option StoredValue) → List NewValue → Values
 new_values os xs = value_in (old_values os) (map value_view xs)
+
+-- what an aggregate's row shows
+abbrev pub number_shown : Bool → Agg → ℤ
+number_shown true agg = agg.members
+number_shown false agg = agg.total

@@ -3,8 +3,7 @@ ghost use Rattle.std.specs.Prelude.{◌≡◌, Some, IfOk};
 ghost use Rattle.ks_row.specs.Spelling.{spelling, FitsRow};
 ghost use Rattle.ks_row.specs.Reading.{row_from};
 
-use ks_row::{Row, decode};
-use ks_wire::spells_row;
+use ks_row::{Row, spells_row};
 use std::alloc::{AllocError, Global};
 use std::marker::Model;
 
@@ -18,7 +17,7 @@ impl<'a> Model for EncodedRow<'a> {
     ghost use Rattle.std.specs.Prelude.{◌≡◌, List};
     ghost use Rattle.ks_row.specs.Rows.{Member};
     ghost use Rattle.ks_row.specs.Spelling.{spelling, FitsRow};
-    ghost use Rattle.ks_wire.specs.Judged.{row_in};
+    ghost use Rattle.ks_row.specs.Judged.{row_in};
 
     ghost Value = { List Member };
 
@@ -39,11 +38,20 @@ impl<'a> EncodedRow<'a> {
         }
     }
 
+    /// A row, where its bytes stand. Takes no memory.
+    pub fn of_row(row: &'a Row) -> EncodedRow<'a>
+        ensures { result ≡ row.now }
+    {
+        EncodedRow {
+            bytes: row.as_bytes(),
+        }
+    }
+
     /// The row itself, read from its bytes; it is always there. Want of memory is the one error.
     pub fn row(&self, alloc: Global) -> Result<Option<Row>, AllocError>
         ensures { IfOk result (λ o. o ≡ Some self.now) }
     {
-        decode(alloc, self.bytes)
+        Ok(Some(Row::of_spelling(alloc, self.bytes)?))
     }
 
     /// The bytes that spell the row.

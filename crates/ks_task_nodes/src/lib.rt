@@ -5,6 +5,7 @@
 mod encoded;
 mod items;
 mod processor;
+mod reach;
 mod records;
 mod topics;
 mod values;
@@ -13,6 +14,7 @@ mod windows;
 pub use encoded::EncodedRow;
 pub use items::{Item, copy_key, item_at, item_into, items_of};
 pub use processor::{ForeignKeyJoin, KeyJoin, Processor, ProcessorNode, processor_nodes};
+pub use reach::{live_nodes, nodes_out_of_reach_stay};
 pub use records::{Payload, StampedRecord, read_record};
 pub use topics::{NodeTopics, is_same_topic, node_topics};
 pub use values::{

@@ -1,6 +1,7 @@
 //! What a record of a topic says to a task.
 ghost use Rattle.std.specs.Prelude.{◌≡◌, Some, None, IfOk, map, option_map, option_copied};
 ghost use Rattle.ks_row.specs.Texts.{key_from};
+ghost use Rattle.ks_row.specs.Records.{record_seen};
 ghost use Rattle.ks_row.specs.Reading.{row_from};
 ghost use Rattle.ks_wire.specs.Reading.{delta_from, subscription_from, response_from};
 ghost use Rattle.ks_def_tasks.specs.Messages.{subscription_of};
@@ -13,7 +14,7 @@ ghost use Rattle.ks_task_nodes.specs.Records.{message_of, message_from, arrival_
 use crate::encoded::EncodedRow;
 use crate::processor::{Processor, ProcessorNode};
 use ks_plan::Topic;
-use ks_row::{Blob, Key, Rec};
+use ks_row::{Key, RecordRef};
 use ks_wire::{Delta, Response, Subscription, read_delta, read_response, read_subscription};
 use std::alloc::{AllocError, Global};
 
@@ -56,87 +57,89 @@ pub struct StampedRecord<'a> {
 }
 
 // None where the bytes are there and spell no key.
-fn read_key(alloc: Global, key: &Option<Blob>) -> Result<Option<Option<Key>>, AllocError>
-    ensures { IfOk result (λ o. o ≡ if_there key_from key.now) }
+fn read_key(alloc: Global, key: Option<&[u8]>) -> Result<Option<Option<Key>>, AllocError>
+    ensures { IfOk result (λ o. o ≡ if_there key_from (option_copied key.entry)) }
 {
     let Some(bytes) = key else {
         return Ok(Some(None));
     };
-    match Key::of(alloc, bytes.as_slice())? {
+    match Key::of(alloc, bytes)? {
         Some(key) => Ok(Some(Some(key))),
         None => Ok(None),
     }
 }
 
 // None where the bytes are there and spell no row. Takes no memory.
-fn read_row<'a>(value: &'a Option<Blob>) -> Option<Option<EncodedRow<'a>>>
-    ensures { result ≡ if_there row_from value.now }
+fn read_row<'a>(value: Option<&'a [u8]>) -> Option<Option<EncodedRow<'a>>>
+    ensures { result ≡ if_there row_from (option_copied value.entry) }
 {
     let Some(bytes) = value else {
         return Some(None);
     };
-    let row = EncodedRow::of(bytes.as_slice())?;
+    let row = EncodedRow::of(bytes)?;
     Some(Some(row))
 }
 
 // Of an input topic.
-fn read_input<'a>(alloc: Global, rec: &'a Rec) -> Result<Option<Payload<'a>>, AllocError>
-    ensures { IfOk result (λ o. option_map message_of o ≡ given_in rec.now) }
+fn read_input<'a>(alloc: Global, rec: RecordRef<'a>) -> Result<Option<Payload<'a>>, AllocError>
+    ensures { IfOk result (λ o. option_map message_of o ≡ given_in (record_seen rec.entry)) }
 {
-    let Some(key) = read_key(alloc, &rec.key)? else {
+    let Some(key) = read_key(alloc, rec.key)? else {
         return Ok(None);
     };
-    let Some(row) = read_row(&rec.value) else {
+    let Some(row) = read_row(rec.value) else {
         return Ok(None);
     };
     Ok(Some(Payload::Input { key, row }))
 }
 
 // Of the repartition topic of a stream's aggregate.
-fn read_grouped<'a>(alloc: Global, rec: &'a Rec) -> Result<Option<Payload<'a>>, AllocError>
-    ensures { IfOk result (λ o. option_map message_of o ≡ of_both key_from row_from Keyed rec.now) }
+fn read_grouped<'a>(alloc: Global, rec: RecordRef<'a>) -> Result<Option<Payload<'a>>, AllocError>
+    ensures { IfOk result (λ o. option_map message_of o
+        ≡ of_both key_from row_from Keyed (record_seen rec.entry)) }
 {
-    let (Some(key), Some(value)) = (&rec.key, &rec.value) else {
+    let (Some(key), Some(value)) = (rec.key, rec.value) else {
         return Ok(None);
     };
-    let Some(group) = Key::of(alloc, key.as_slice())? else {
+    let Some(group) = Key::of(alloc, key)? else {
         return Ok(None);
     };
-    let Some(row) = EncodedRow::of(value.as_slice()) else {
+    let Some(row) = EncodedRow::of(value) else {
         return Ok(None);
     };
     Ok(Some(Payload::Row { group, row }))
 }
 
 // Of the repartition topic of a table's aggregate.
-fn read_change<'a>(alloc: Global, rec: &'a Rec) -> Result<Option<Payload<'a>>, AllocError>
+fn read_change<'a>(alloc: Global, rec: RecordRef<'a>) -> Result<Option<Payload<'a>>, AllocError>
     ensures { IfOk result (λ o. option_map message_of o
-        ≡ of_both key_from delta_from Moved rec.now) }
+        ≡ of_both key_from delta_from Moved (record_seen rec.entry)) }
 {
-    let (Some(key), Some(value)) = (&rec.key, &rec.value) else {
+    let (Some(key), Some(value)) = (rec.key, rec.value) else {
         return Ok(None);
     };
-    let Some(group) = Key::of(alloc, key.as_slice())? else {
+    let Some(group) = Key::of(alloc, key)? else {
         return Ok(None);
     };
-    let Some(delta) = read_delta(value.as_slice()) else {
+    let Some(delta) = read_delta(value) else {
         return Ok(None);
     };
     Ok(Some(Payload::Delta { group, delta }))
 }
 
 // Of the subscriptions of a join on a foreign key.
-fn read_subscribed<'a>(alloc: Global, rec: &'a Rec) -> Result<Option<Payload<'a>>, AllocError>
+fn read_subscribed<'a>(alloc: Global, rec: RecordRef<'a>) -> Result<Option<Payload<'a>>, AllocError>
     ensures { IfOk result (λ o. option_map message_of o
-        ≡ of_both key_from subscription_from (λ b v. Asked b v.left (subscription_of v)) rec.now) }
+        ≡ of_both key_from subscription_from (λ b v. Asked b v.left (subscription_of v))
+        (record_seen rec.entry)) }
 {
-    let (Some(key), Some(value)) = (&rec.key, &rec.value) else {
+    let (Some(key), Some(value)) = (rec.key, rec.value) else {
         return Ok(None);
     };
-    let Some(foreign) = Key::of(alloc, key.as_slice())? else {
+    let Some(foreign) = Key::of(alloc, key)? else {
         return Ok(None);
     };
-    let Some(subscription) = read_subscription(alloc, value.as_slice())? else {
+    let Some(subscription) = read_subscription(alloc, value)? else {
         return Ok(None);
     };
     Ok(Some(Payload::Subscription {
@@ -146,17 +149,17 @@ fn read_subscribed<'a>(alloc: Global, rec: &'a Rec) -> Result<Option<Payload<'a>
 }
 
 // Of its responses.
-fn read_responded<'a>(alloc: Global, rec: &'a Rec) -> Result<Option<Payload<'a>>, AllocError>
+fn read_responded<'a>(alloc: Global, rec: RecordRef<'a>) -> Result<Option<Payload<'a>>, AllocError>
     ensures { IfOk result (λ o. option_map message_of o
-        ≡ of_both key_from response_from Answered rec.now) }
+        ≡ of_both key_from response_from Answered (record_seen rec.entry)) }
 {
-    let (Some(key), Some(value)) = (&rec.key, &rec.value) else {
+    let (Some(key), Some(value)) = (rec.key, rec.value) else {
         return Ok(None);
     };
-    let Some(left) = Key::of(alloc, key.as_slice())? else {
+    let Some(left) = Key::of(alloc, key)? else {
         return Ok(None);
     };
-    let Some(response) = read_response(alloc, value.as_slice())? else {
+    let Some(response) = read_response(alloc, value)? else {
         return Ok(None);
     };
     Ok(Some(Payload::Response { left, response }))
@@ -166,10 +169,10 @@ fn read_responded<'a>(alloc: Global, rec: &'a Rec) -> Result<Option<Payload<'a>>
 fn read_repartitioned<'a>(
     alloc: Global,
     processor: &Processor<'_>,
-    rec: &'a Rec,
+    rec: RecordRef<'a>,
 ) -> Result<Option<Payload<'a>>, AllocError>
     ensures { IfOk result (λ o. option_map message_of o
-        ≡ regrouped_in (kind_of processor.now) rec.now) }
+        ≡ regrouped_in (kind_of processor.now) (record_seen rec.entry)) }
 {
     match processor {
         Processor::StreamAggregate { .. } => read_grouped(alloc, rec),
@@ -183,10 +186,10 @@ fn read_payload<'a>(
     alloc: Global,
     nodes: &[ProcessorNode<'_>],
     topic: Topic,
-    rec: &'a Rec,
+    rec: RecordRef<'a>,
 ) -> Result<Option<Payload<'a>>, AllocError>
     ensures { IfOk result (λ o. option_map message_of o
-        ≡ message_from (kinds_in (map node_view nodes.now)) topic rec.now) }
+        ≡ message_from (kinds_in (map node_view nodes.now)) topic (record_seen rec.entry)) }
 {
     match topic {
         Topic::Input(_) => read_input(alloc, rec),
@@ -205,10 +208,10 @@ pub fn read_record<'a>(
     alloc: Global,
     nodes: &[ProcessorNode<'_>],
     topic: Topic,
-    rec: &'a Rec,
+    rec: RecordRef<'a>,
 ) -> Result<Option<StampedRecord<'a>>, AllocError>
     ensures { IfOk result (λ o. option_map arrival_of o
-        ≡ arrival_from (kinds_in (map node_view nodes.now)) topic rec.now) }
+        ≡ arrival_from (kinds_in (map node_view nodes.now)) topic (record_seen rec.entry)) }
 {
     match read_payload(alloc, nodes, topic, rec)? {
         Some(payload) => Ok(Some(StampedRecord {

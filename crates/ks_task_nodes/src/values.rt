@@ -1,5 +1,5 @@
 //! The stored values of tables.
-ghost use Rattle.std.specs.Prelude.{◌≡◌, ◌==◌, Some, None, IfOk, option_map, not};
+ghost use Rattle.std.specs.Prelude.{◌≡◌, ◌==◌, Some, None, IfOk, IfSome, option_map, not};
 ghost use Rattle.std.specs.Ordering.{eq_by_cmp, int_cmp};
 ghost use Rattle.std.specs.Cmp.Lexicographic.{pointwise};
 ghost use Rattle.ks_row.specs.Reading.{row_from};
@@ -8,13 +8,13 @@ ghost use Rattle.ks_def_tasks.specs.Messages.Stored.{OfRow, OfAgg};
 ghost use Rattle.ks_def_tasks.specs.Messages.{same_agg, same_bool, same_stored, same_option, same_row, shown, agg_of};
 ghost use Rattle.ks_def_tasks.specs.Bytes.{stored_from};
 ghost use Rattle.ks_task_nodes.specs.Nodes.{kind_of};
-ghost use Rattle.ks_task_nodes.specs.Stored.{stored_in, value_view, changed_bytes, is_other};
+ghost use Rattle.ks_task_nodes.specs.Stored.{stored_in, value_view, changed_bytes, is_other, number_shown};
 
 use crate::encoded::EncodedRow;
 use crate::processor::Processor;
 use ks_agg::agg_row;
-use ks_row::{Blob, Row, decode, encode};
-use ks_wire::{Agg, read_agg, spells_row, write_agg};
+use ks_row::{Blob, Row, decode, spells_row};
+use ks_wire::{Agg, read_agg, write_agg};
 use std::alloc::{AllocError, Global};
 
 /// What a table stores at a key, as it is found.
@@ -174,7 +174,6 @@ fn changed_to_row(
     Ok(Some(Some(Blob::from_slice(alloc, row.bytes())?)))
 }
 
-#[tactic(auto, using(crate::proofs::Spellings::read_again))]
 fn changed_to_made(
     alloc: Global,
     old: Option<StoredValue<'_>>,
@@ -182,11 +181,7 @@ fn changed_to_made(
 ) -> Result<Option<Option<Blob>>, AllocError>
     ensures { IfOk result (λ o. o ≡ changed_bytes (stored_in old.entry) (Some (OfRow row.now))) }
 {
-    let bytes = encode(alloc, row)?;
-    match EncodedRow::of(bytes.as_slice()) {
-        Some(row) => changed_to_row(alloc, old, &row),
-        None => unreachable!(),
-    }
+    changed_to_row(alloc, old, &EncodedRow::of_row(row))
 }
 
 fn changed_to_aggregate(
@@ -277,25 +272,19 @@ pub fn changed_value(
     }
 }
 
-#[tactic(auto, using(crate::proofs::Spellings::read_again))]
-fn is_same_row(alloc: Global, a: &Row, b: &Row) -> Result<bool, AllocError>
-    ensures { IfOk result (λ s. s ≡ same_row a.now b.now) }
+fn is_same_row(a: &Row, b: &Row) -> bool
+    ensures { result ≡ same_row a.now b.now }
 {
-    let left = encode(alloc, a)?;
-    let right = encode(alloc, b)?;
-    match EncodedRow::of(right.as_slice()) {
-        Some(row) => Ok(is_spelling(left.as_slice(), &row)),
-        None => unreachable!(),
-    }
+    is_spelling(a.as_bytes(), &EncodedRow::of_row(b))
 }
 
-fn is_changed_row(alloc: Global, old: &Option<Row>, new: &Option<Row>) -> Result<bool, AllocError>
-    ensures { IfOk result (λ c. c ≡ not (same_option same_row old.now new.now)) }
+fn is_changed_row(old: &Option<Row>, new: &Option<Row>) -> bool
+    ensures { result ≡ not (same_option same_row old.now new.now) }
 {
     match (old, new) {
-        (None, None) => Ok(false),
-        (Some(a), Some(b)) => Ok(!is_same_row(alloc, a, b)?),
-        _ => Ok(true),
+        (None, None) => false,
+        (Some(a), Some(b)) => !is_same_row(a, b),
+        _ => true,
     }
 }
 
@@ -309,7 +298,7 @@ fn is_other_made(
 {
     let before = stored_row(alloc, old)?;
     let now = row_after(alloc, new)?;
-    is_changed_row(alloc, &before, &now)
+    Ok(is_changed_row(&before, &now))
 }
 
 #[tactic(auto, using(crate::proofs::Spellings::same_shown))]
@@ -319,16 +308,10 @@ fn is_other_spelling(old: &[u8], new: &EncodedRow<'_>) -> bool
     !is_spelling(old, new)
 }
 
-#[tactic(auto, using(crate::proofs::Spellings::read_again))]
-fn is_other_than(alloc: Global, old: &[u8], new: &Row) -> Result<bool, AllocError>
-    ensures { IfOk result (λ c. c ≡ is_other (option_map OfRow (row_from old.now))
-        (Some (OfRow new.now))) }
+fn is_other_than(old: &[u8], new: &Row) -> bool
+    ensures { result ≡ is_other (option_map OfRow (row_from old.now)) (Some (OfRow new.now)) }
 {
-    let bytes = encode(alloc, new)?;
-    match EncodedRow::of(bytes.as_slice()) {
-        Some(row) => Ok(is_other_spelling(old, &row)),
-        None => unreachable!(),
-    }
+    is_other_spelling(old, &EncodedRow::of_row(new))
 }
 
 // Equal bytes are compared first.
@@ -342,7 +325,38 @@ fn is_other_bytes(alloc: Global, old: &[u8], new: &[u8]) -> Result<bool, AllocEr
     }
     let before = decode(alloc, old)?;
     let now = decode(alloc, new)?;
-    is_changed_row(alloc, &before, &now)
+    Ok(is_changed_row(&before, &now))
+}
+
+// The number that an aggregate's row shows.
+fn shown_number(is_count: bool, agg: &Agg) -> i64
+    ensures { result ≡ number_shown is_count agg.now }
+{
+    if is_count { agg.members } else { agg.total }
+}
+
+// Whether the rows of two aggregates are others.
+#[tactic(auto, using(crate::proofs::Spellings::same_totals, crate::proofs::Spellings::other_totals))]
+fn is_other_total(old_is_count: bool, old: &Agg, is_count: bool, new: &Agg) -> bool
+    ensures { result ≡ is_other (Some (OfAgg old_is_count old.now))
+        (Some (OfAgg is_count new.now)) }
+{
+    if is_same_bool(old_is_count, is_count) {
+        !is_same_number(shown_number(is_count, old), shown_number(is_count, new))
+    } else {
+        true
+    }
+}
+
+// Whether a value is other than none; where one is given it isn't read.
+fn is_other_than_none(new: &NewValue<'_>) -> Option<bool>
+    ensures { IfSome result (λ b. b ≡ is_other None (value_view new.now)) }
+{
+    match new {
+        NewValue::Unchanged(_) => None,
+        NewValue::Absent => Some(false),
+        _ => Some(true),
+    }
 }
 
 /// Whether the nodes below see another row than before. Rows are read only where bytes do not tell. Want of memory is the one error.
@@ -360,7 +374,21 @@ pub fn is_other_row(
         (Some(StoredValue::Row(before)), NewValue::Encoded(row)) => {
             Ok(is_other_spelling(before, row))
         }
-        (Some(StoredValue::Row(before)), NewValue::Row(row)) => is_other_than(alloc, before, row),
+        (Some(StoredValue::Row(before)), NewValue::Row(row)) => Ok(is_other_than(before, row)),
+        (Some(StoredValue::Row(before)), NewValue::Absent) => Ok(spells_row(before)),
+        (
+            Some(
+                StoredValue::Aggregate {
+                    is_count: before,
+                    agg: old,
+                },
+            ),
+            NewValue::Aggregate { is_count, agg },
+        ) => Ok(is_other_total(before, &old, *is_count, agg)),
+        (None, _) => match is_other_than_none(new) {
+            Some(is_other) => Ok(is_other),
+            None => is_other_made(alloc, old, new),
+        },
         _ => is_other_made(alloc, old, new),
     }
 }

@@ -1,5 +1,5 @@
 pub mod Looking
 pub mod Asking
 pub mod Capping
-pub mod Passing
-pub mod Sending
+pub mod LiveValues
+pub mod Quiet

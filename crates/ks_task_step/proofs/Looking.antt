@@ -1,43 +1,20 @@
 -- Nodes, values and stores by number.
-use Rattle.std.proofs.Common.{◌≡◌, ◌<◌, ◌≤◌, arith, ℕ, zero, suc, Bool, true, false, cond, not, List, length, [], ◌∷◌, ◌++◌, map, get_or, Option, Some, None, refl, sym, ap, subst, ◌∙◌}
-use Rattle.std.specs.Prelude.{ℤ, option_map}
+use Rattle.std.proofs.Common.{◌≡◌, ◌<◌, arith, ℕ, zero, suc, Bool, true, false, cond, not, List, length, [], ◌∷◌, ◌++◌, map, get_or, Option, Some, None, refl, sym, ap, subst}
+use Rattle.std.specs.Prelude.{ℤ}
 use Rattle.std.specs.Ordering.{is_eq}
 use Rattle.std.specs.Cmp.{tied_itself, int_cmp_total}
 use Rattle.std.specs.Cmp.Lexicographic.{nat_list_cmp_total}
 use Rattle.std.proofs.lemmas.Bool.{and_from}
-use Rattle.ks_def_runs.specs.FinMap as fin
-use Rattle.ks_def_runs.specs.Bytes.{by_bytes}
 use Rattle.ks_expr.specs.Eval.{Row}
 use Rattle.ks_query.specs.Streams.{Key}
 use Rattle.ks_query.specs.Aggregates.{same_share, share_under, deltas_of, table_parts}
-use Rattle.ks_def_tasks.specs.Messages.{Stored, shown, same_option, same_row}
-use Rattle.ks_def_tasks.specs.Bytes.{ByteStores, stored_bytes}
-use Rattle.ks_def_tasks.specs.Step.{Values, regroup_rows, send_deltas}
+use Rattle.ks_def_tasks.specs.Messages.{same_option, same_row}
+use Rattle.ks_def_tasks.specs.Bytes.{ByteStores}
+use Rattle.ks_def_tasks.specs.Step.{regroup_rows, send_deltas}
 use Rattle.ks_def_tasks.proofs.Same.{row-is}
-use Rattle.ks_def_lookups.specs.Lists.{value_in}
-use Rattle.ks_law_topology.proofs.Writes.{row_itself, option_itself}
-use Rattle.ks_task_nodes.specs.declared.values.NewValue.{NewValue}
 use Rattle.ks_task_nodes.specs.declared.processor.ProcessorNode.{ProcessorNode}
 use Rattle.ks_task_nodes.specs.Nodes.{node_view}
-use Rattle.ks_task_nodes.specs.Stored.{value_view, changed_bytes, is_other}
-use Rattle.ks_store.specs.declared.changelogs.Changelog.{Changelog}
 use Rattle.ks_task_step.specs.Steps.{stored_at}
-use Rattle.ks_store.specs.Changelogs.{stores_in}
-
--- ---- a value that no node made is what it was
-pub unchanged : (olds : Values) (xs : List NewValue) (n : ℕ) → length xs ≤ n → None ≡ changed_bytes (olds n) (value_in olds (map value_view xs) n)
-unchanged olds [] n e = ap (λ b. cond b None (Some (option_map stored_bytes (olds n)))) (sym (option_itself (olds n)))
-unchanged olds (x ∷ xs) zero e = absurd (omega (arith, e))
-unchanged olds (x ∷ xs) (suc n) e = unchanged (λ i. olds (suc i)) xs n (omega (arith, e))
-
-shown_itself : (o : Option Row) → same_option same_row o o ≡ true
-shown_itself None = refl
-shown_itself (Some row) = row_itself row
-
-pub unchanged_row : (olds : Values) (xs : List NewValue) (n : ℕ) → length xs ≤ n → false ≡ is_other (olds n) (value_in olds (map value_view xs) n)
-unchanged_row olds [] n e = ap not (sym (shown_itself (option_map shown (olds n))))
-unchanged_row olds (x ∷ xs) zero e = absurd (omega (arith, e))
-unchanged_row olds (x ∷ xs) (suc n) e = unchanged_row (λ i. olds (suc i)) xs n (omega (arith, e))
 
 -- ---- of a row that stays a table tells its groups nothing
 same_is : (old new : Option Row) → same_option same_row old new ≡ true → old ≡ new

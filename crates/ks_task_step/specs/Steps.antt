@@ -1,11 +1,10 @@
 -- One whole step of a task over the bytes of its stores, in the machine's own words, by the nodes as the task runs them.
-use Rattle.std.specs.Prelude.{not, ℕ, ◌+◌, ◌==◌, Bool, cond, nat_lt, ◌||◌, List, [], ◌∷◌, ◌++◌, map, Option, Some, None, option_map, if◌then◌else◌}
+use Rattle.std.specs.Prelude.{not, ℕ, ◌+◌, ◌==◌, Bool, cond, nat_lt, ◌||◌, List, [], ◌∷◌, ◌++◌, map, fold, Option, Some, None, option_map, slice_get, if◌then◌else◌}
 use Rattle.std.specs.List.{flat_map}
 use Rattle.ks_row.specs.Reading.{◌>>=◌}
-use Rattle.ks_row.specs.declared.record.Rec.{Rec}
+use Rattle.ks_row.specs.Records.{Record as Rec}
 use Rattle.ks_row.specs.declared.record.PartId.{PartId}
 use Rattle.ks_def_runs.specs.FinMap as fin
-use Rattle.ks_def_runs.specs.Bytes.{Store, empty_store}
 use Rattle.ks_hash.specs.Partition.{part_of_key}
 use Rattle.ks_wire.specs.Values.{SubscriptionValue}
 use Rattle.ks_wire.specs.Spelling.{subscription_key, subscription_bytes}
@@ -19,7 +18,7 @@ use Rattle.ks_expr.specs.Eval.{Row, holds, project, joined}
 use Rattle.ks_plan.specs.Plan.{Kind, is_windowed}
 use Rattle.ks_plan.specs.Plan.Kind.{StreamAggregate, TableAggregate, Windowed, ForeignKeyJoin}
 use Rattle.ks_plan.specs.declared.node.Topic.{Topic}
-use Rattle.ks_plan.specs.declared.node.Topic.TheVariants.{Subscriptions, Responses}
+use Rattle.ks_plan.specs.declared.node.Topic.TheVariants.{Subscriptions}
 use Rattle.ks_query.specs.Streams.{Key, StreamItem}
 use Rattle.ks_def_tasks.specs.Messages.{Stored, shown, Message, Rules, same_option, same_row, same_subscriber}
 use Rattle.ks_def_tasks.specs.Messages.Message.{Asked, KeptHash}
@@ -31,20 +30,18 @@ use Rattle.ks_def_lookups.specs.Kept.{kept_under}
 use Rattle.ks_def_lookups.specs.Windows.{CountedBytes}
 use Rattle.ks_def_lookups.specs.Lists.{item_in, all_items, value_in}
 use Rattle.ks_def_lookups.specs.Counts.{nothing_counted, counted_item}
-use Rattle.ks_task_nodes.specs.Nodes.{TaskNode, kinds_in}
-use Rattle.ks_task_nodes.specs.Stored.{views, in_list, old_values, new_values}
+use Rattle.ks_task_nodes.specs.Nodes.{TaskNode, kinds_in, node_view}
+use Rattle.ks_task_nodes.specs.Reach.{NoItems, SameValues}
+use Rattle.ks_task_nodes.specs.Records.{message_of}
+use Rattle.ks_task_nodes.specs.Stored.{views, in_list, stored_in, value_view}
 use Rattle.ks_store.specs.Changelogs.{stores_in}
+use Rattle.ks_task_step.specs.declared.taken.Step.{Step}
+use Rattle.ks_task_step.specs.declared.live.LiveValue.{LiveValue}
 use Rattle.ks_task_step.specs.declared.step.NodeValues.{NodeValues}
 
 -- ---- what the nodes have at a step's key: items, stored values before and after
 abbrev pub items_in : NodeValues → ℕ → Option StreamItem
 items_in v = item_in (views v.items.now)
-
-abbrev pub olds_in : NodeValues → Values
-olds_in v = old_values v.olds.now
-
-abbrev pub news_in : NodeValues → Values
-news_in v = new_values v.olds.now v.news.now
 
 -- what a node stores at a key
 abbrev pub stored_at : ByteStores → Key → TaskNode → Option Stored
@@ -53,6 +50,40 @@ stored_at stores k node = cond (is_windowed node.kind) None (cond node.topics.is
 abbrev pub old_list : ByteStores → Option Key → List TaskNode → List (Option Stored)
 old_list stores None nodes = []
 old_list stores (Some k) nodes = map (stored_at stores k) nodes
+
+-- before the step, of each node
+abbrev pub olds_at : Step → Values
+olds_at s = in_list (old_list (stores_in s.changelogs.now) (step_key (message_of s.stamped.now.payload)) (map node_view s.nodes.now))
+
+-- what is kept of a node that was gone through; of several the last counts
+abbrev pub live_at : ℕ → List LiveValue → Option LiveValue
+live_at n xs = fold (λ found (x : LiveValue). if n == x.number then Some x else found) None xs
+
+abbrev pub old_or : Option Stored → Option LiveValue → Option Stored
+old_or old None = old
+old_or old (Some x) = stored_in x.old
+
+abbrev pub new_or : Option Stored → Option LiveValue → Option Stored
+new_or old None = old
+new_or old (Some x) = value_view x.new
+
+-- of nodes that were gone through their own, of any other what it was
+abbrev pub live_olds : Values → List LiveValue → Values
+live_olds olds xs n = old_or (olds n) (live_at n xs)
+
+abbrev pub live_news : Values → List LiveValue → Values
+live_news olds xs n = new_or (olds n) (live_at n xs)
+
+abbrev pub olds_in : NodeValues → Values
+olds_in v = live_olds (olds_at v.step.now) v.live.now
+
+abbrev pub news_in : NodeValues → Values
+news_in v = live_news (olds_at v.step.now) v.live.now
+
+-- of any node that the step doesn't go through there is no item, and the value stays
+pub record IsQuiet (s : Step) (items : ℕ → Option StreamItem) (olds news : Values) : Type 0 where
+  pub none : NoItems s.live.now items
+  pub same : SameValues s.live.now olds news
 
 -- the nodes act in list order
 abbrev pub new_from : Rules → Arrival → (ℕ → Option StreamItem) → Values → List (Option Stored) → List TaskNode → List (Option Stored)
@@ -196,6 +227,15 @@ all_recs part stores a items olds news (node ∷ nodes) = recs_by part stores a 
 abbrev pub late_of : ByteStores → Arrival → (ℕ → Option StreamItem) → List TaskNode → ℕ
 late_of stores a items [] = 0
 late_of stores a items (node ∷ nodes) = (counts_at stores a items node).late + late_of stores a items nodes
+
+-- of the nodes with these numbers, among all
+abbrev pub late_by : ByteStores → Arrival → (ℕ → Option StreamItem) → Option TaskNode → ℕ
+late_by stores a items None = 0
+late_by stores a items (Some node) = (counts_at stores a items node).late
+
+abbrev pub late_at_numbers : ByteStores → Arrival → (ℕ → Option StreamItem) → List TaskNode → List ℕ → ℕ
+late_at_numbers stores a items all [] = 0
+late_at_numbers stores a items all (n ∷ ns) = late_by stores a items (slice_get all n) + late_at_numbers stores a items all ns
 
 -- all that a step makes: sends, then changelog records
 abbrev pub made_with : Rules → List TaskNode → ByteStores → ℕ → Arrival → (ℕ → Option StreamItem) → Values → Values → List (PartId × Rec)

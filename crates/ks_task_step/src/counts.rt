@@ -6,8 +6,9 @@ ghost use Rattle.ks_task_nodes.specs.Records.{arrival_of};
 ghost use Rattle.ks_task_step.specs.Steps.{items_in, counts_at, at_part};
 ghost use Rattle.ks_store.specs.Changelogs.{stores_in};
 
-use crate::step::{NodeValues, Step};
-use ks_row::{Key, PartId, Rec};
+use crate::step::NodeValues;
+use crate::taken::Step;
+use ks_row::{Key, PartId, PlacedRecords, RecordList};
 use ks_store::{Changelog, OrderedStore};
 use ks_task_nodes::{HoppingWindow, Processor, ProcessorNode, item_into};
 use ks_window::count;
@@ -20,10 +21,10 @@ fn count_in(
     key: &Key,
     time: u64,
     window: &HoppingWindow,
-) -> Result<(u64, Vec<Rec>), AllocError>
+) -> Result<(u64, RecordList), AllocError>
     ensures late { IfOk result (λ r. r.0 ≡ (counted window.now (stores_in changelogs.now number)
         key.now time).late) }
-    ensures recs { IfOk result (λ r. r.1.items
+    ensures recs { IfOk result (λ r. r.1
         ≡ (counted window.now (stores_in changelogs.now number) key.now time).recs) }
 {
     let mut rest = changelogs;
@@ -43,10 +44,10 @@ pub fn count_of(
     step: &Step<'_>,
     node: &ProcessorNode<'_>,
     values: &NodeValues<'_, '_>,
-) -> Result<(u64, Vec<Rec>), AllocError>
+) -> Result<(u64, RecordList), AllocError>
     ensures late { IfOk result (λ r. r.0 ≡ (counts_at (stores_in step.now.changelogs.now)
         (arrival_of step.now.stamped.now) (items_in values.now) (node_view node.now)).late) }
-    ensures recs { IfOk result (λ r. r.1.items
+    ensures recs { IfOk result (λ r. r.1
         ≡ (counts_at (stores_in step.now.changelogs.now) (arrival_of step.now.stamped.now)
         (items_in values.now) (node_view node.now)).recs) }
 {
@@ -59,40 +60,34 @@ pub fn count_of(
             ..
         } => {
             if !topics.is_own {
-                return Ok((0, Vec::new(alloc)));
+                return Ok((0, RecordList::new(alloc)));
             }
             let items = values.items;
             let Some(item) = item_into(alloc, items, topics.number, *from, *through, step.stamped)?
             else {
-                return Ok((0, Vec::new(alloc)));
+                return Ok((0, RecordList::new(alloc)));
             };
             let logs = step.changelogs;
             match &item.key {
                 Some(key) => count_in(alloc, logs, topics.changelog, key, item.time, window),
-                None => Ok((0, Vec::new(alloc))),
+                None => Ok((0, RecordList::new(alloc))),
             }
         }
-        _ => Ok((0, Vec::new(alloc))),
+        _ => Ok((0, RecordList::new(alloc))),
     }
-}
-
-fn copy(rec: &Rec) -> Result<Rec, AllocError>
-    ensures { IfOk result (λ made. made ≡ rec.now) }
-{
-    rec.clone()
 }
 
 /// The records at the end of others, in a partition of a changelog. Want of memory is the one error.
 pub fn push_recs(
-    out: &mut Vec<(PartId, Rec)>,
+    out: &mut PlacedRecords,
     topic: u16,
     part: u8,
-    recs: &[Rec],
+    recs: &RecordList,
 ) -> Result<(), AllocError>
-    ensures { OnOk result (out.new.items ≡ out.old.items ++ map (at_part topic part) recs.now) }
+    ensures { OnOk result (out.new ≡ out.old ++ map (at_part topic part) recs.now) }
 {
-    for rec in recs {
-        out.push((PartId { topic, part }, copy(rec)?))?;
+    for place in 0..recs.len() {
+        out.push(PartId { topic, part }, recs.get(place))?;
     }
     Ok(())
 }

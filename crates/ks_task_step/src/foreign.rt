@@ -19,15 +19,16 @@ ghost use Rattle.ks_task_step.specs.Steps.{olds_in, news_in, old_list, named_by,
 ghost use Rattle.ks_store.specs.Changelogs.{stores_in};
 
 use crate::hashes::new_hash;
-use crate::sends::{part_for, send_to};
-use crate::step::{NodeValues, Step, change_at, is_changed, new_row, old_row, stored_value};
+use crate::sends::{part_for, push_send, push_told};
+use crate::step::{NodeValues, change_at, is_changed, new_row, old_row, stored_value};
+use crate::taken::Step;
 use crate::values::value_of_row;
 use ks_expr::{Fk, fk_of};
 use ks_fk_left::{is_answer_to, subscriptions_by};
 use ks_fk_right::{answer, kept_of, on_right};
 use ks_hash::Hash128;
 use ks_plan::Topic;
-use ks_row::{Blob, Change, Key, PartId, Rec, Row};
+use ks_row::{Blob, Change, Key, PartId, PlacedRecords, Row};
 use ks_store::{Changelog, OrderedStore, find_bytes};
 use ks_table_ops::join_rows;
 use ks_task_nodes::{
@@ -155,7 +156,7 @@ pub fn foreign_value<'a, H: Hash128>(
         (set_of join.now.set.now) (olds_in values.now) (news_in values.now) join.now.left
         (arrived (arrival_of stamped.now) (Responses number)) (stored_in old.entry)) }
 {
-    if is_changed(alloc, values, join.left)? {
+    if is_changed(values, join.left) {
         direct_value(alloc, join, stamped.key(), old, values)
     } else {
         responded_value::<H>(alloc, number, join, old, values, stamped)
@@ -213,18 +214,18 @@ fn response_place(node: &ProcessorNode<'_>, left: &Key, named: Option<u8>) -> Op
 
 fn push_subscriptions(
     alloc: Global,
-    out: &mut Vec<(PartId, Rec)>,
+    out: &mut PlacedRecords,
     node: &ProcessorNode<'_>,
     asked: &[(Key, Subscription)],
     time: u64,
 ) -> Result<(), AllocError>
-    ensures { OnOk result (out.new.items ≡ out.old.items
+    ensures { OnOk result (out.new ≡ out.old
         ++ map (asked_by (node_view node.now) time) asked.now) }
 {
     for (foreign, subscription) in asked {
         let value = write_subscription(alloc, subscription)?;
         let to = subscription_place(node, foreign);
-        out.push(send_to(alloc, to, foreign, value, time)?)?;
+        push_send(out, to, foreign, value.as_slice(), time)?;
     }
     Ok(())
 }
@@ -232,31 +233,30 @@ fn push_subscriptions(
 // A response to a left key, where it has a place.
 fn push_response(
     alloc: Global,
-    out: &mut Vec<(PartId, Rec)>,
+    out: &mut PlacedRecords,
     to: Option<PartId>,
     left: &Key,
     response: &Response,
     time: u64,
 ) -> Result<(), AllocError>
-    ensures { OnOk result (out.new.items ≡ out.old.items
+    ensures { OnOk result (out.new ≡ out.old
         ++ sent_at time (Answered left.now response.now) to) }
 {
     let Some(to) = to else {
         return Ok(());
     };
     let value = write_response(alloc, response)?;
-    out.push(send_to(alloc, to, left, value, time)?)?;
-    Ok(())
+    push_send(out, to, left, value.as_slice(), time)
 }
 
 fn push_responses(
     alloc: Global,
-    out: &mut Vec<(PartId, Rec)>,
+    out: &mut PlacedRecords,
     node: &ProcessorNode<'_>,
     responses: &[(Key, Response, Option<u8>)],
     time: u64,
 ) -> Result<(), AllocError>
-    ensures { OnOk result (out.new.items ≡ out.old.items
+    ensures { OnOk result (out.new ≡ out.old
         ++ flat_map (sent_by (node_view node.now) time)
         (send_responses node.now.topics.number responses.now)) }
 {
@@ -325,13 +325,13 @@ fn responses_to(
 // A right row that changed answers.
 fn push_right(
     alloc: Global,
-    out: &mut Vec<(PartId, Rec)>,
+    out: &mut PlacedRecords,
     changelogs: &[Changelog],
     node: &ProcessorNode<'_>,
     change: &Change,
     time: u64,
 ) -> Result<(), AllocError>
-    ensures { OnOk result (out.new.items ≡ out.old.items
+    ensures { OnOk result (out.new ≡ out.old
         ++ flat_map (sent_by (node_view node.now) time)
         (send_responses node.now.topics.number
         (answer_all change.now.new (kept_at (stores_in changelogs.now) (node_view node.now)
@@ -344,7 +344,7 @@ fn push_right(
 #[tactic(auto, using(crate::proofs::Asking::asked_is))]
 fn push_left_if<H: Hash128>(
     alloc: Global,
-    out: &mut Vec<(PartId, Rec)>,
+    out: &mut PlacedRecords,
     step: &Step<'_>,
     node: &ProcessorNode<'_>,
     join: &ForeignKeyJoin<'_>,
@@ -352,13 +352,13 @@ fn push_left_if<H: Hash128>(
     key: &Key,
 ) -> Result<(), AllocError>
     requires { step.now.partition ≤ 63 }
-    ensures { OnOk result (out.new.items ≡ out.old.items
+    ensures { OnOk result (out.new ≡ out.old
         ++ flat_map (sent_by (node_view node.now) step.now.stamped.now.time)
         (left_sends (rules_of H.hash_of) step.now.partition (node_view node.now)
         join.now.foreign_key.now key.now (row_in (olds_in values.now) join.now.left)
         (row_in (news_in values.now) join.now.left))) }
 {
-    if is_changed(alloc, values, join.left)? {
+    if is_changed(values, join.left) {
         let part = named_partition(node, step.partition);
         let asked = asked_by_left::<H>(alloc, join, part, values, key)?;
         push_subscriptions(alloc, out, node, &asked, step.stamped.time)
@@ -369,19 +369,19 @@ fn push_left_if<H: Hash128>(
 
 fn push_right_if(
     alloc: Global,
-    out: &mut Vec<(PartId, Rec)>,
+    out: &mut PlacedRecords,
     step: &Step<'_>,
     node: &ProcessorNode<'_>,
     right: u8,
     values: &NodeValues<'_, '_>,
     key: &Key,
 ) -> Result<(), AllocError>
-    ensures { OnOk result (out.new.items ≡ out.old.items
+    ensures { OnOk result (out.new ≡ out.old
         ++ flat_map (sent_by (node_view node.now) step.now.stamped.now.time)
         (right_sends (stores_in step.now.changelogs.now) (node_view node.now) key.now
         (row_in (olds_in values.now) right) (row_in (news_in values.now) right))) }
 {
-    if is_changed(alloc, values, right)? {
+    if is_changed(values, right) {
         let change = change_at(alloc, values, key.clone()?, right)?;
         push_right(
             alloc,
@@ -400,14 +400,14 @@ fn push_right_if(
 #[tactic(auto, using(crate::proofs::Asking::both_sent))]
 pub fn push_join<H: Hash128>(
     alloc: Global,
-    out: &mut Vec<(PartId, Rec)>,
+    out: &mut PlacedRecords,
     step: &Step<'_>,
     node: &ProcessorNode<'_>,
     join: &ForeignKeyJoin<'_>,
     values: &NodeValues<'_, '_>,
 ) -> Result<(), AllocError>
     requires { step.now.partition ≤ 63 }
-    ensures { OnOk result (out.new.items ≡ out.old.items
+    ensures { OnOk result (out.new ≡ out.old
         ++ flat_map (sent_by (node_view node.now) step.now.stamped.now.time)
         (join_here (rules_of H.hash_of) (stores_in step.now.changelogs.now) step.now.partition
         (node_view node.now) join.now.foreign_key.now join.now.left join.now.right
@@ -443,13 +443,13 @@ fn right_row(
 // The answer to a subscription, where there is one, to the partition that it names.
 fn push_answer_to(
     alloc: Global,
-    out: &mut Vec<(PartId, Rec)>,
+    out: &mut PlacedRecords,
     node: &ProcessorNode<'_>,
     subscription: &Subscription,
     right: Option<&Row>,
     time: u64,
 ) -> Result<(), AllocError>
-    ensures { OnOk result (out.new.items ≡ out.old.items
+    ensures { OnOk result (out.new ≡ out.old
         ++ flat_map (sent_by (node_view node.now) time)
         (send_responses node.now.topics.number (answer_of subscription.now.left
         subscription.now.part (answer_to (subscription_of subscription.now)
@@ -466,12 +466,12 @@ fn push_answer_to(
 /// The answer to a subscription, with the right row of the moment. Want of memory is the one error.
 pub fn push_answer(
     alloc: Global,
-    out: &mut Vec<(PartId, Rec)>,
+    out: &mut PlacedRecords,
     step: &Step<'_>,
     node: &ProcessorNode<'_>,
     right: u8,
 ) -> Result<(), AllocError>
-    ensures { OnOk result (out.new.items ≡ out.old.items
+    ensures { OnOk result (out.new ≡ out.old
         ++ flat_map (sent_by (node_view node.now) step.now.stamped.now.time)
         (answer_here (map node_view step.now.nodes.now) (stores_in step.now.changelogs.now)
         node.now.topics.number right (arrived (arrival_of step.now.stamped.now)
@@ -549,42 +549,35 @@ fn subscriber_value(
 
 fn push_new_subscriber(
     alloc: Global,
-    out: &mut Vec<(PartId, Rec)>,
+    out: &mut PlacedRecords,
     step: &Step<'_>,
     node: &ProcessorNode<'_>,
     foreign: &Key,
     left: &Key,
     subscriber: Option<Subscriber>,
 ) -> Result<(), AllocError>
-    ensures { OnOk result (out.new.items ≡ out.old.items
+    ensures { OnOk result (out.new ≡ out.old
         ++ hash_told (node_view node.now) step.now.partition step.now.stamped.now.time
         (KeptHash foreign.now left.now subscriber) ∷ []) }
 {
     let key = write_subscription_key(alloc, foreign, left)?;
     let value = subscriber_value(alloc, subscriber)?;
-    out.push((
-        PartId {
-            topic: node.topics.hash_changelog,
-            part: step.partition,
-        },
-        Rec {
-            key: Some(key),
-            value,
-            ts: step.stamped.time,
-        },
-    ))?;
-    Ok(())
+    let to = PartId {
+        topic: node.topics.hash_changelog,
+        part: step.partition,
+    };
+    push_told(out, to, key.as_slice(), &value, step.stamped.time)
 }
 
 fn push_other_subscriber(
     alloc: Global,
-    out: &mut Vec<(PartId, Rec)>,
+    out: &mut PlacedRecords,
     step: &Step<'_>,
     node: &ProcessorNode<'_>,
     foreign: &Key,
     subscription: &Subscription,
 ) -> Result<(), AllocError>
-    ensures { OnOk result (out.new.items ≡ out.old.items
+    ensures { OnOk result (out.new ≡ out.old
         ++ map (hash_told (node_view node.now) step.now.partition step.now.stamped.now.time)
         (hash_here (stores_in step.now.changelogs.now) (node_view node.now)
         (Some (Asked foreign.now subscription.now.left (subscription_of subscription.now))))) }
@@ -601,11 +594,11 @@ fn push_other_subscriber(
 /// The changelog record of what is kept of a subscription, where it is other than it was. Want of memory is the one error.
 pub fn push_subscriber(
     alloc: Global,
-    out: &mut Vec<(PartId, Rec)>,
+    out: &mut PlacedRecords,
     step: &Step<'_>,
     node: &ProcessorNode<'_>,
 ) -> Result<(), AllocError>
-    ensures { OnOk result (out.new.items ≡ out.old.items
+    ensures { OnOk result (out.new ≡ out.old
         ++ hashed_by step.now.partition (stores_in step.now.changelogs.now)
         (arrival_of step.now.stamped.now) (node_view node.now)) }
 {

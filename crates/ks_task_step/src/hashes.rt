@@ -8,19 +8,19 @@ ghost use Rattle.ks_fk_left.specs.Asked.{row_hash};
 ghost use Rattle.ks_task_nodes.specs.Stored.{value_view};
 ghost use Rattle.ks_task_step.specs.Steps.{news_in};
 
-use crate::step::{NodeValues, old_row};
+use crate::step::{NodeValues, live_value, new_row};
 use ks_fk_left::hash_row;
 use ks_hash::Hash128;
 use ks_row::Row;
 use ks_task_nodes::{EncodedRow, NewValue, StoredValue, row_after};
 use std::alloc::{AllocError, Global};
 
-fn hash_made<H: Hash128>(alloc: Global, row: Option<&Row>) -> Result<Option<u128>, AllocError>
-    ensures { IfOk result (λ h. h ≡ hash_of (row_hash H.hash_of) (option_copied row.entry)) }
+fn hash_made<H: Hash128>(row: Option<&Row>) -> Option<u128>
+    ensures { result ≡ hash_of (row_hash H.hash_of) (option_copied row.entry) }
 {
     match row {
-        Some(row) => Ok(Some(hash_row::<H>(alloc, row)?)),
-        None => Ok(None),
+        Some(row) => Some(hash_row::<H>(row)),
+        None => None,
     }
 }
 
@@ -40,10 +40,11 @@ fn hash_after<H: Hash128>(alloc: Global, new: &NewValue<'_>) -> Result<Option<u1
 {
     match new {
         NewValue::Encoded(row) => Ok(Some(H::hash(row.bytes()))),
+        NewValue::Row(row) => Ok(Some(hash_row::<H>(row))),
         NewValue::Unchanged(Some(StoredValue::Row(bytes))) => Ok(hash_stored::<H>(bytes)),
         _ => {
             let row = row_after(alloc, new)?;
-            hash_made::<H>(alloc, row.as_ref())
+            Ok(hash_made::<H>(row.as_ref()))
         }
     }
 }
@@ -57,11 +58,11 @@ pub fn new_hash<H: Hash128>(
     ensures { IfOk result (λ h. h ≡ hash_of (row_hash H.hash_of)
         (row_in (news_in values.now) number)) }
 {
-    match values.news.get(number as usize) {
-        Some(new) => hash_after::<H>(alloc, new),
+    match live_value(values.live, number) {
+        Some(live) => hash_after::<H>(alloc, &live.new),
         None => {
-            let row = old_row(alloc, values, number)?;
-            hash_made::<H>(alloc, row.as_ref())
+            let row = new_row(alloc, values, number)?;
+            Ok(hash_made::<H>(row.as_ref()))
         }
     }
 }

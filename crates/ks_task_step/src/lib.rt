@@ -5,11 +5,13 @@
 mod counts;
 mod foreign;
 mod hashes;
+mod live;
 mod processing;
 mod sends;
 mod step;
 mod streams;
+mod taken;
 mod values;
 
 pub use processing::process;
-pub use step::{Step, StepOutput};
+pub use taken::Step;

@@ -1,22 +1,24 @@
 //! What the nodes of a step send to repartition topics and between the sides of joins.
-ghost use Rattle.std.specs.Prelude.{◌≡◌, ◌≤◌, ◌++◌, IfOk, OnOk, Some, map, option_copied};
+ghost use Rattle.std.specs.Prelude.{◌≡◌, ◌≤◌, ◌++◌, ◌∷◌, [], IfOk, OnOk, Some, map, option_copied, slice_get};
 ghost use Rattle.std.specs.List.{flat_map};
 ghost use Rattle.ks_expr.specs.Keys.{spread_part};
 ghost use Rattle.ks_query.specs.Streams.{group_key};
 ghost use Rattle.ks_def_tasks.specs.Step.{row_in, regroup, regroup_rows, send_deltas};
 ghost use Rattle.ks_def_tasks.specs.Rules.{rules_of};
 ghost use Rattle.ks_task_nodes.specs.Nodes.{node_view};
+ghost use Rattle.ks_task_nodes.specs.Reach.{of_node, at_numbers};
 ghost use Rattle.ks_task_nodes.specs.Records.{arrival_of};
 ghost use Rattle.ks_task_nodes.specs.Stored.{item_view};
-ghost use Rattle.ks_task_step.specs.Steps.{items_in, olds_in, news_in, part_in, grouped_at, sent_by, sends_by, all_sends};
+ghost use Rattle.ks_task_step.specs.Steps.{items_in, olds_in, news_in, part_in, grouped_at, sent_by, sends_by, all_sends, IsQuiet};
 ghost use Rattle.ks_store.specs.Changelogs.{stores_in};
 
 use crate::foreign::{push_answer, push_join};
-use crate::step::{NodeValues, Step, change_at, is_changed};
+use crate::step::{NodeValues, change_at, is_changed, node_at};
+use crate::taken::Step;
 use ks_agg::table_parts;
 use ks_expr::spread_part;
 use ks_hash::{Hash128, murmur2};
-use ks_row::{Blob, Change, Key, Name, PartId, Rec, encode, key_of_field};
+use ks_row::{Blob, Change, Key, Name, PartId, PlacedRecords, RecordRef, key_of_field};
 use ks_task_nodes::{Item, Processor, ProcessorNode, copy_key, item_at};
 use ks_wire::{Delta, write_delta};
 use std::alloc::{AllocError, Global};
@@ -39,27 +41,52 @@ pub fn part_for(before: Option<&Name>, key: &Key, partitions: u8) -> u8
     part_of_bytes(spread_part(before, key.as_str().as_bytes()), partitions)
 }
 
-/// A record for a partition. Want of memory is the one error.
-pub fn send_to(
-    alloc: Global,
+/// One more record for a partition. Want of memory is the one error.
+pub fn push_send(
+    out: &mut PlacedRecords,
     to: PartId,
     key: &Key,
-    value: Blob,
+    value: &[u8],
     time: u64,
-) -> Result<(PartId, Rec), AllocError>
-    ensures part { IfOk result (λ x. x.0 ≡ to) }
-    ensures rec { IfOk result (λ x. x.1 ≡ record
-        { key = Some key.now; value = Some value; ts = time }) }
+) -> Result<(), AllocError>
+    ensures { OnOk result (out.new ≡ out.old ++ (
+      to,
+      record
+          { key = Some key.now; value = Some value.now; ts = time },
+    ) ∷ []) }
 {
-    let key = Blob::from_slice(alloc, key.as_str().as_bytes())?;
-    Ok((
-        to,
-        Rec {
-            key: Some(key),
-            value: Some(value),
-            ts: time,
-        },
-    ))
+    let rec = RecordRef {
+        key: Some(key.as_str().as_bytes()),
+        value: Some(value),
+        ts: time,
+    };
+    out.push(to, rec)
+}
+
+/// One more record for a changelog: a key's value, or that it has none. Want of memory is the one error.
+pub fn push_told(
+    out: &mut PlacedRecords,
+    to: PartId,
+    key: &[u8],
+    value: &Option<Blob>,
+    time: u64,
+) -> Result<(), AllocError>
+    ensures { OnOk result (out.new ≡ out.old ++ (
+      to,
+      record
+          { key = Some key.now; value = value.now; ts = time },
+    ) ∷ []) }
+{
+    let value = match value {
+        Some(value) => Some(value.as_slice()),
+        None => None,
+    };
+    let rec = RecordRef {
+        key: Some(key),
+        value,
+        ts: time,
+    };
+    out.push(to, rec)
 }
 
 // The place of a group in a node's repartition topic.
@@ -74,19 +101,19 @@ fn group_place(node: &ProcessorNode<'_>, group: &Key) -> PartId
 
 fn push_deltas(
     alloc: Global,
-    out: &mut Vec<(PartId, Rec)>,
+    out: &mut PlacedRecords,
     node: &ProcessorNode<'_>,
     deltas: &[(Key, Delta)],
     time: u64,
 ) -> Result<(), AllocError>
-    ensures { OnOk result (out.new.items ≡ out.old.items
+    ensures { OnOk result (out.new ≡ out.old
         ++ flat_map (sent_by (node_view node.now) time)
         (send_deltas node.now.topics.number deltas.now)) }
 {
     for (group, delta) in deltas {
         let value = write_delta(alloc, delta)?;
         let to = group_place(node, group);
-        out.push(send_to(alloc, to, group, value, time)?)?;
+        push_send(out, to, group, value.as_slice(), time)?;
     }
     Ok(())
 }
@@ -103,23 +130,26 @@ fn group_of(alloc: Global, by: &Option<Name>, item: &Item) -> Result<Option<Key>
 // An item goes to its group; one without a group goes nowhere.
 fn push_item(
     alloc: Global,
-    out: &mut Vec<(PartId, Rec)>,
+    out: &mut PlacedRecords,
     node: &ProcessorNode<'_>,
     by: &Option<Name>,
     item: &Item,
     time: u64,
 ) -> Result<(), AllocError>
-    ensures { OnOk result (out.new.items ≡ out.old.items
+    ensures { OnOk result (out.new ≡ out.old
         ++ flat_map (sent_by (node_view node.now) time)
         (regroup by.now node.now.topics.number (Some (item_view item.now)))) }
 {
     let Some(group) = group_of(alloc, by, item)? else {
         return Ok(());
     };
-    let value = encode(alloc, &item.row)?;
-    let to = group_place(node, &group);
-    out.push(send_to(alloc, to, &group, value, time)?)?;
-    Ok(())
+    push_send(
+        out,
+        group_place(node, &group),
+        &group,
+        item.row.as_bytes(),
+        time,
+    )
 }
 
 // Any key: what a table sends to its groups is told by the rows alone.
@@ -132,14 +162,14 @@ fn any_key(alloc: Global) -> Result<Key, AllocError> {
 
 fn push_row_change(
     alloc: Global,
-    out: &mut Vec<(PartId, Rec)>,
+    out: &mut PlacedRecords,
     node: &ProcessorNode<'_>,
     by: &Name,
     field: Option<&Name>,
     change: &Change,
     time: u64,
 ) -> Result<(), AllocError>
-    ensures { OnOk result (out.new.items ≡ out.old.items
+    ensures { OnOk result (out.new ≡ out.old
         ++ flat_map (sent_by (node_view node.now) time)
         (regroup_rows by.now (option_copied field.entry) node.now.topics.number change.now.old
         change.now.new)) }
@@ -151,7 +181,7 @@ fn push_row_change(
 // A table's row leaves its old group and joins the new one; a row that stays is not looked at.
 fn push_table_change(
     alloc: Global,
-    out: &mut Vec<(PartId, Rec)>,
+    out: &mut PlacedRecords,
     node: &ProcessorNode<'_>,
     from: u8,
     by: &Name,
@@ -159,13 +189,12 @@ fn push_table_change(
     values: &NodeValues<'_, '_>,
     time: u64,
 ) -> Result<(), AllocError>
-    ensures { OnOk result (out.new.items ≡ out.old.items
+    ensures { OnOk result (out.new ≡ out.old
         ++ flat_map (sent_by (node_view node.now) time)
         (regroup_rows by.now (option_copied field.entry) node.now.topics.number
         (row_in (olds_in values.now) from) (row_in (news_in values.now) from))) }
 {
-    let is_other = is_changed(alloc, values, from)?;
-    if is_other {
+    if is_changed(values, from) {
         let change = change_at(alloc, values, any_key(alloc)?, from)?;
         push_row_change(alloc, out, node, by, field, &change, time)
     } else {
@@ -176,13 +205,13 @@ fn push_table_change(
 // What a node sends.
 fn push_sends<H: Hash128>(
     alloc: Global,
-    out: &mut Vec<(PartId, Rec)>,
+    out: &mut PlacedRecords,
     step: &Step<'_>,
     node: &ProcessorNode<'_>,
     values: &NodeValues<'_, '_>,
 ) -> Result<(), AllocError>
     requires { step.now.partition ≤ 63 }
-    ensures { OnOk result (out.new.items ≡ out.old.items
+    ensures { OnOk result (out.new ≡ out.old
         ++ sends_by (rules_of H.hash_of) (map node_view step.now.nodes.now)
         (stores_in step.now.changelogs.now) step.now.partition (arrival_of step.now.stamped.now)
         (items_in values.now) (olds_in values.now) (news_in values.now) (node_view node.now)) }
@@ -218,21 +247,64 @@ fn push_sends<H: Hash128>(
     }
 }
 
-/// What all nodes send in a step, whose partition is at most 63. Want of memory is the one error.
-pub fn sends_of<H: Hash128>(
+// What the node with a number sends, where there is one.
+fn push_sends_at<H: Hash128>(
     alloc: Global,
+    out: &mut PlacedRecords,
+    step: &Step<'_>,
+    number: u8,
+    values: &NodeValues<'_, '_>,
+) -> Result<(), AllocError>
+    requires { step.now.partition ≤ 63 }
+    ensures { OnOk result (out.new ≡ out.old
+        ++ of_node (sends_by (rules_of H.hash_of) (map node_view step.now.nodes.now)
+        (stores_in step.now.changelogs.now) step.now.partition (arrival_of step.now.stamped.now)
+        (items_in values.now) (olds_in values.now) (news_in values.now))
+        (slice_get (map node_view step.now.nodes.now) number)) }
+{
+    match node_at(step.nodes, number) {
+        Some(node) => push_sends::<H>(alloc, out, step, node, values),
+        None => Ok(()),
+    }
+}
+
+// What the nodes send that a step goes through.
+fn push_live_sends<H: Hash128>(
+    alloc: Global,
+    out: &mut PlacedRecords,
     step: &Step<'_>,
     values: &NodeValues<'_, '_>,
-) -> Result<Vec<(PartId, Rec)>, AllocError>
+) -> Result<(), AllocError>
     requires { step.now.partition ≤ 63 }
-    ensures { IfOk result (λ v. v.items ≡ all_sends (rules_of H.hash_of)
+    ensures { OnOk result (out.new ≡ out.old
+        ++ at_numbers (sends_by (rules_of H.hash_of) (map node_view step.now.nodes.now)
+        (stores_in step.now.changelogs.now) step.now.partition (arrival_of step.now.stamped.now)
+        (items_in values.now) (olds_in values.now) (news_in values.now))
+        (map node_view step.now.nodes.now) step.now.live.now) }
+{
+    let mut rest = step.live;
+    while let [number, more @ ..] = rest {
+        push_sends_at::<H>(alloc, out, step, *number, values)?;
+        rest = more;
+    }
+    Ok(())
+}
+
+/// What all nodes send in a step, whose partition is at most 63, at the end of others: those that it doesn't go through send nothing. Want
+/// of memory is the one error.
+pub fn push_all_sends<H: Hash128>(
+    alloc: Global,
+    out: &mut PlacedRecords,
+    step: &Step<'_>,
+    values: &NodeValues<'_, '_>,
+) -> Result<(), AllocError>
+    requires part { step.now.partition ≤ 63 }
+    requires quiet { IsQuiet step.now (items_in values.now) (olds_in values.now)
+        (news_in values.now) }
+    ensures { OnOk result (out.new ≡ out.old ++ all_sends (rules_of H.hash_of)
         (map node_view step.now.nodes.now) (stores_in step.now.changelogs.now) step.now.partition
         (arrival_of step.now.stamped.now) (items_in values.now) (olds_in values.now)
         (news_in values.now) (map node_view step.now.nodes.now)) }
 {
-    let mut out = Vec::new(alloc);
-    for node in step.nodes {
-        push_sends::<H>(alloc, &mut out, step, node, values)?;
-    }
-    Ok(out)
+    push_live_sends::<H>(alloc, out, step, values)
 }

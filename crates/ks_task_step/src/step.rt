@@ -1,44 +1,27 @@
-//! What a step is given, what the nodes have in it, and what it makes.
-ghost use Rattle.std.specs.Prelude.{◌≡◌, IfOk, Some, option_map};
+//! What the nodes have in a step.
+ghost use Rattle.std.specs.Prelude.{◌≡◌, IfOk, Some, map, option_map, option_copied, slice_get};
 ghost use Rattle.ks_def_tasks.specs.Messages.{shown};
-ghost use Rattle.ks_def_tasks.specs.Step.{changed, row_in};
+ghost use Rattle.ks_def_tasks.specs.Step.{changed, row_in, step_key};
 ghost use Rattle.ks_task_nodes.specs.Nodes.{node_view};
-ghost use Rattle.ks_task_nodes.specs.Stored.{stored_in, old_values};
-ghost use Rattle.ks_task_step.specs.Steps.{stored_at, olds_in, news_in};
+ghost use Rattle.ks_task_nodes.specs.Records.{message_of};
+ghost use Rattle.ks_task_nodes.specs.Stored.{stored_in};
+ghost use Rattle.ks_task_step.specs.Steps.{stored_at, olds_at, live_at, olds_in, news_in};
 ghost use Rattle.ks_store.specs.Changelogs.{stores_in};
 
-use ks_row::{Change, Key, PartId, Rec, Row};
+use crate::live::LiveValue;
+use crate::taken::Step;
+use ks_row::{Change, Key, Row};
 use ks_store::{Changelog, find_bytes};
-use ks_task_nodes::{
-    Item, NewValue, ProcessorNode, StampedRecord, StoredValue, is_other_row, read_value, row_after,
-    stored_row,
-};
+use ks_task_nodes::{Item, ProcessorNode, StoredValue, read_value, row_after, stored_row};
 use std::alloc::{AllocError, Global};
 
-/// What a task takes a record with: its nodes, its changelogs, its partition, and the record.
-#[derive(Clone, Copy)]
-pub struct Step<'s> {
-    pub nodes: &'s [ProcessorNode<'s>],
-    pub changelogs: &'s [Changelog],
-    pub partition: u8,
-    pub stamped: &'s StampedRecord<'s>,
-}
-
-/// What the nodes have in a step, by number: the items of streams, the stored values of tables before and after it. Of a node past the
-/// end of `news` the value is what it was.
+/// What the nodes have in a step: the items of streams by number, and the values of those that were gone through so far. Of any other
+/// node the value is what it was.
 #[derive(Clone, Copy)]
 pub struct NodeValues<'s, 'v> {
+    pub step: &'s Step<'v>,
     pub items: &'s [Option<Item>],
-    pub olds: &'s [Option<StoredValue<'v>>],
-    pub news: &'s [NewValue<'v>],
-}
-
-/// What a step makes: records by partition, first those that are sent, then those of changelogs; and how many pairs of an item and a
-/// window were late, up to the greatest number.
-#[derive(Drop)]
-pub struct StepOutput {
-    pub records: Vec<(PartId, Rec)>,
-    pub late: u64,
+    pub live: &'s [LiveValue<'v>],
 }
 
 /// What a table stores at a key before the step; none of a windowed count, and of a node of another subtopology. Takes no memory.
@@ -56,14 +39,50 @@ pub fn stored_value<'a>(
     read_value(&node.processor, bytes)
 }
 
-/// The value of a node before the step; none past the end. Takes no memory.
-pub fn old_value<'a>(olds: &[Option<StoredValue<'a>>], number: u8) -> Option<StoredValue<'a>>
-    ensures { stored_in result ≡ old_values olds.now number }
+/// The node with a number, where there is one. Takes no memory.
+pub fn node_at<'s, 'n>(nodes: &'s [ProcessorNode<'n>], number: u8) -> Option<&'s ProcessorNode<'n>>
+    ensures { option_map (λ n. node_view n.now) result
+        ≡ slice_get (map node_view nodes.now) number }
 {
-    match olds.get(number as usize) {
-        Some(old) => *old,
+    match nodes.get(number as usize) {
+        Some(node) => Some(node),
         None => None,
     }
+}
+
+// What a node stores at a step's key before it; none past the last node.
+fn stored_of<'v>(step: &Step<'v>, key: &Key, number: u8) -> Option<StoredValue<'v>>
+    requires { step_key (message_of step.now.stamped.now.payload) ≡ Some key.now }
+    ensures { stored_in result ≡ olds_at step.now number }
+{
+    match node_at(step.nodes, number) {
+        Some(node) => stored_value(step.changelogs, key, node),
+        None => None,
+    }
+}
+
+// The same; none where the record has no key.
+fn stored_here<'v>(step: &Step<'v>, number: u8) -> Option<StoredValue<'v>>
+    ensures { stored_in result ≡ olds_at step.now number }
+{
+    match step.stamped.key() {
+        Some(key) => stored_of(step, key, number),
+        None => None,
+    }
+}
+
+/// What is kept of a node that was gone through. Takes no memory.
+pub fn live_value<'s, 'v>(live: &'s [LiveValue<'v>], number: u8) -> Option<&'s LiveValue<'v>>
+    ensures { option_copied result ≡ live_at number live.now }
+{
+    let mut rest = live;
+    while let [more @ .., last] = rest {
+        if number == last.number {
+            return Some(last);
+        }
+        rest = more;
+    }
+    None
 }
 
 /// The row that a node shows before the step. Want of memory is the one error.
@@ -74,7 +93,10 @@ pub fn old_row(
 ) -> Result<Option<Row>, AllocError>
     ensures { IfOk result (λ r. r ≡ row_in (olds_in values.now) number) }
 {
-    stored_row(alloc, old_value(values.olds, number))
+    match live_value(values.live, number) {
+        Some(live) => stored_row(alloc, live.old),
+        None => stored_row(alloc, stored_here(values.step, number)),
+    }
 }
 
 /// The row that a node shows after the step. Want of memory is the one error.
@@ -85,23 +107,19 @@ pub fn new_row(
 ) -> Result<Option<Row>, AllocError>
     ensures { IfOk result (λ r. r ≡ row_in (news_in values.now) number) }
 {
-    match values.news.get(number as usize) {
-        Some(new) => row_after(alloc, new),
-        None => old_row(alloc, values, number),
+    match live_value(values.live, number) {
+        Some(live) => row_after(alloc, &live.new),
+        None => stored_row(alloc, stored_here(values.step, number)),
     }
 }
 
-/// Whether a node shows another row after the step. Want of memory is the one error.
-pub fn is_changed(
-    alloc: Global,
-    values: &NodeValues<'_, '_>,
-    number: u8,
-) -> Result<bool, AllocError>
-    ensures { IfOk result (λ c. c ≡ changed (olds_in values.now) (news_in values.now) number) }
+/// Whether a node shows another row after the step. Takes no memory.
+pub fn is_changed(values: &NodeValues<'_, '_>, number: u8) -> bool
+    ensures { result ≡ changed (olds_in values.now) (news_in values.now) number }
 {
-    match values.news.get(number as usize) {
-        Some(new) => is_other_row(alloc, old_value(values.olds, number), new),
-        None => Ok(false),
+    match live_value(values.live, number) {
+        Some(live) => live.is_changed,
+        None => false,
     }
 }
 

@@ -1,67 +1,33 @@
-//! What tables store at a step's key, before and after the step.
-ghost use Rattle.std.specs.Prelude.{◌≡◌, ◌++◌, ◌∷◌, [], IfOk, OnOk, map, option_map, option_copied};
+//! What the nodes that a step goes through store at its key, before and after it.
+ghost use Rattle.std.specs.Prelude.{◌≡◌, IfOk, OnOk, Some, map, option_map, option_copied, slice_get};
 ghost use Rattle.ks_expr.specs.Terms.{test_of, set_of};
 ghost use Rattle.ks_plan.specs.declared.node.Topic.TheVariants.{Input, Repartition};
+ghost use Rattle.ks_query.specs.Query.{with_number};
 ghost use Rattle.ks_def_tasks.specs.Step.{arrived, step_key, taken_row, applied, added, of_row, value_at};
-ghost use Rattle.ks_def_lookups.specs.Lists.{item_in};
+ghost use Rattle.ks_def_lookups.specs.Lists.{item_in, value_in};
 ghost use Rattle.ks_def_tasks.specs.Rules.{rules_of};
 ghost use Rattle.ks_task_nodes.specs.Nodes.{kind_of, node_view};
+ghost use Rattle.ks_task_nodes.specs.Reach.{NoItems, SameValues, valued_by, values_at_numbers};
 ghost use Rattle.ks_task_nodes.specs.Records.{arrival_of, message_of};
-ghost use Rattle.ks_task_nodes.specs.Stored.{item_view, views, stored_in, value_view, old_values, new_values};
-ghost use Rattle.ks_task_step.specs.Steps.{items_in, olds_in, news_in, stored_at, old_list, new_from, new_list, filter_value as filter_stored, map_value as map_stored, join_value as join_stored};
+ghost use Rattle.ks_task_nodes.specs.Stored.{item_view, views, stored_in, value_view};
+ghost use Rattle.ks_task_step.specs.Steps.{items_in, olds_in, news_in, stored_at, olds_at, live_olds, live_news, new_list, filter_value as filter_stored, map_value as map_stored, join_value as join_stored};
 ghost use Rattle.ks_store.specs.Changelogs.{stores_in};
 
 use crate::foreign::foreign_value;
-use crate::step::{NodeValues, Step, is_changed, new_row, old_value, stored_value};
+use crate::live::LiveValue;
+use crate::step::{NodeValues, is_changed, new_row, node_at, stored_value};
+use crate::taken::Step;
 use ks_agg::{stream_add, table_apply};
 use ks_expr::{Pred, Proj};
 use ks_hash::Hash128;
 use ks_plan::Topic;
 use ks_row::{Key, Name, Row};
-use ks_store::Changelog;
 use ks_table_ops::{filter_row, join_rows, map_row};
 use ks_task_nodes::{
     EncodedRow, Item, KeyJoin, NewValue, Payload, Processor, ProcessorNode, StampedRecord,
-    StoredValue, aggregate_in, is_same_topic, item_into,
+    StoredValue, aggregate_in, is_other_row, is_same_topic, item_into,
 };
 use std::alloc::{AllocError, Global};
-
-// ---- before the step
-
-fn stored_values_at<'a>(
-    alloc: Global,
-    changelogs: &'a [Changelog],
-    nodes: &[ProcessorNode<'_>],
-    key: &Key,
-) -> Result<Vec<Option<StoredValue<'a>>>, AllocError>
-    ensures { IfOk result (λ v. map stored_in v.items
-        ≡ map (stored_at (stores_in changelogs.now) key.now) (map node_view nodes.now)) }
-{
-    let mut olds = Vec::with_capacity(alloc, nodes.len())?;
-    for node in nodes {
-        olds.push(stored_value(changelogs, key, node))?;
-    }
-    Ok(olds)
-}
-
-/// The stored values of all nodes before a step; none at all where the record has no key. Want of memory is the one error.
-pub fn stored_values<'a>(
-    alloc: Global,
-    changelogs: &'a [Changelog],
-    nodes: &[ProcessorNode<'_>],
-    stamped: &StampedRecord<'_>,
-) -> Result<Vec<Option<StoredValue<'a>>>, AllocError>
-    ensures { IfOk result (λ v. map stored_in v.items
-        ≡ old_list (stores_in changelogs.now) (step_key (message_of stamped.now.payload))
-        (map node_view nodes.now)) }
-{
-    match stamped.key() {
-        Some(key) => stored_values_at(alloc, changelogs, nodes, key),
-        None => Ok(Vec::new(alloc)),
-    }
-}
-
-// ---- after the step
 
 /// The value that a row is, where there is one. Takes no memory.
 pub fn value_of_row<'a>(row: Option<Row>) -> NewValue<'a>
@@ -109,7 +75,7 @@ fn filter_value<'a>(
     ensures { IfOk result (λ v. value_view v ≡ filter_stored (test_of test.now) (olds_in values.now)
         (news_in values.now) from (stored_in old.entry)) }
 {
-    if !is_changed(alloc, values, from)? {
+    if !is_changed(values, from) {
         return Ok(NewValue::Unchanged(old));
     }
     let row = new_row(alloc, values, from)?;
@@ -128,7 +94,7 @@ fn map_value<'a>(
     ensures { IfOk result (λ v. value_view v ≡ map_stored (set_of set.now) (olds_in values.now)
         (news_in values.now) from (olds_in values.now number)) }
 {
-    if !is_changed(alloc, values, from)? {
+    if !is_changed(values, from) {
         return Ok(NewValue::Unchanged(old));
     }
     let row = new_row(alloc, values, from)?;
@@ -145,9 +111,7 @@ fn join_value<'a>(
         (olds_in values.now) (news_in values.now) join.now.left join.now.right
         (stored_in old.entry)) }
 {
-    let left_changed = is_changed(alloc, values, join.left)?;
-    let right_changed = is_changed(alloc, values, join.right)?;
-    if left_changed || right_changed {
+    if is_changed(values, join.left) || is_changed(values, join.right) {
         let left = new_row(alloc, values, join.left)?;
         let right = new_row(alloc, values, join.right)?;
         let row = join_rows(alloc, join.kind, join.set, left.as_ref(), right.as_ref())?;
@@ -198,7 +162,7 @@ fn stream_aggregate_value<'a>(
     }
 }
 
-// What a node stores at the key after the step.
+// What a node stores at the key after the step, where it stores this before it.
 fn new_value<'a, H: Hash128>(
     alloc: Global,
     node: &ProcessorNode<'_>,
@@ -236,66 +200,109 @@ fn new_value<'a, H: Hash128>(
     }
 }
 
-fn push_new_value<'a, 's, H: Hash128>(
+// What a node stores at the step's key before and after it, behind those of the nodes before it.
+fn push_live_value<'v, H: Hash128>(
     alloc: Global,
-    news: &mut Vec<NewValue<'a>>,
+    live: &mut Vec<LiveValue<'v>>,
+    step: &Step<'v>,
+    key: &Key,
+    items: &[Option<Item>],
     node: &ProcessorNode<'_>,
-    items: &'s [Option<Item>],
-    olds: &'s [Option<StoredValue<'a>>],
-    stamped: &'a StampedRecord<'a>,
 ) -> Result<(), AllocError>
-    ensures { OnOk result (map value_view news.new.items ≡ map value_view news.old.items
-        ++ value_at (rules_of H.hash_of) (arrival_of stamped.now) (item_in (views items.now))
-        (old_values olds.now) (new_values olds.now news.old.items) node.now.topics.number
-        (kind_of node.now.processor) ∷ []) }
+    requires olds { live_olds (olds_at step.now) live.old.items ≡ olds_at step.now }
+    requires node { stored_at (stores_in step.now.changelogs.now) key.now (node_view node.now)
+        ≡ olds_at step.now node.now.topics.number }
+    ensures olds { OnOk result (live_olds (olds_at step.now) live.new.items ≡ olds_at step.now) }
+    ensures news { OnOk result (live_news (olds_at step.now) live.new.items
+        ≡ with_number (live_news (olds_at step.now) live.old.items) node.now.topics.number
+        (value_at (rules_of H.hash_of) (arrival_of step.now.stamped.now)
+        (item_in (views items.now)) (olds_at step.now)
+        (live_news (olds_at step.now) live.old.items) node.now.topics.number
+        (kind_of node.now.processor))) }
 {
-    let old = old_value(olds, node.topics.number);
+    let old = stored_value(step.changelogs, key, node);
     let values = NodeValues {
+        step,
         items,
-        olds,
-        news: news.as_slice(),
+        live: live.as_slice(),
     };
-    let new = new_value::<H>(alloc, node, old, &values, stamped)?;
-    news.push(new)?;
+    let new = new_value::<H>(alloc, node, old, &values, step.stamped)?;
+    let is_changed = is_other_row(alloc, old, &new)?;
+    live.push(LiveValue {
+        number: node.topics.number,
+        old,
+        new,
+        is_changed,
+    })?;
     Ok(())
 }
 
-fn new_values_at<'a, 's, H: Hash128>(
+// The same of the node with a number, where there is one.
+fn push_live_at<'v, H: Hash128>(
     alloc: Global,
-    nodes: &[ProcessorNode<'_>],
-    items: &'s [Option<Item>],
-    olds: &'s [Option<StoredValue<'a>>],
-    stamped: &'a StampedRecord<'a>,
-) -> Result<Vec<NewValue<'a>>, AllocError>
-    ensures { IfOk result (λ v. map value_view v.items
-        ≡ new_from (rules_of H.hash_of) (arrival_of stamped.now) (item_in (views items.now))
-        (old_values olds.now) [] (map node_view nodes.now)) }
+    live: &mut Vec<LiveValue<'v>>,
+    step: &Step<'v>,
+    key: &Key,
+    items: &[Option<Item>],
+    number: u8,
+) -> Result<(), AllocError>
+    requires key { step_key (message_of step.now.stamped.now.payload) ≡ Some key.now }
+    requires olds { live_olds (olds_at step.now) live.old.items ≡ olds_at step.now }
+    ensures olds { OnOk result (live_olds (olds_at step.now) live.new.items ≡ olds_at step.now) }
+    ensures news { OnOk result (live_news (olds_at step.now) live.new.items
+        ≡ valued_by (rules_of H.hash_of) (arrival_of step.now.stamped.now)
+        (item_in (views items.now)) (olds_at step.now)
+        (live_news (olds_at step.now) live.old.items)
+        (slice_get (map node_view step.now.nodes.now) number)) }
 {
-    let mut news = Vec::with_capacity(alloc, nodes.len())?;
-    let mut rest = nodes;
-    while let [node, more @ ..] = rest {
-        push_new_value::<H>(alloc, &mut news, node, items, olds, stamped)?;
-        rest = more;
+    match node_at(step.nodes, number) {
+        Some(node) => push_live_value::<H>(alloc, live, step, key, items, node),
+        None => Ok(()),
     }
-    Ok(news)
 }
 
-/// The values of all nodes after a step, each made of those of the nodes before it; none at all where the record has no key. Want of
-/// memory is the one error.
-pub fn next_values<'a, 's, H: Hash128>(
+// The values at a step's key of the nodes that it goes through.
+fn live_values_at<'v, H: Hash128>(
     alloc: Global,
-    nodes: &[ProcessorNode<'_>],
-    items: &'s [Option<Item>],
-    olds: &'s [Option<StoredValue<'a>>],
-    stamped: &'a StampedRecord<'a>,
-) -> Result<Vec<NewValue<'a>>, AllocError>
-    ensures { IfOk result (λ v. map value_view v.items
-        ≡ new_list (rules_of H.hash_of) (arrival_of stamped.now) (item_in (views items.now))
-        (old_values olds.now) (step_key (message_of stamped.now.payload))
-        (map node_view nodes.now)) }
+    step: &Step<'v>,
+    key: &Key,
+    items: &[Option<Item>],
+) -> Result<Vec<LiveValue<'v>>, AllocError>
+    requires { step_key (message_of step.now.stamped.now.payload) ≡ Some key.now }
+    ensures olds { IfOk result (λ v. live_olds (olds_at step.now) v.items ≡ olds_at step.now) }
+    ensures news { IfOk result (λ v. live_news (olds_at step.now) v.items
+        ≡ values_at_numbers (rules_of H.hash_of) (arrival_of step.now.stamped.now)
+        (item_in (views items.now)) (olds_at step.now) (map node_view step.now.nodes.now)
+        (olds_at step.now) step.now.live.now) }
 {
-    match stamped.key() {
-        Some(_) => new_values_at::<H>(alloc, nodes, items, olds, stamped),
+    let mut live = Vec::with_capacity(alloc, step.live.len())?;
+    let mut rest = step.live;
+    while let [number, more @ ..] = rest {
+        push_live_at::<H>(alloc, &mut live, step, key, items, *number)?;
+        rest = more;
+    }
+    Ok(live)
+}
+
+/// The values of all nodes that a step goes through, each made of those of the nodes before it; none at all where the record has no key.
+/// Of any other node there is no item, and the value stays. Want of memory is the one error.
+pub fn live_values<'v, H: Hash128>(
+    alloc: Global,
+    step: &Step<'v>,
+    items: &[Option<Item>],
+) -> Result<Vec<LiveValue<'v>>, AllocError>
+    requires { NoItems step.now.live.now (item_in (views items.now)) }
+    ensures olds { IfOk result (λ v. live_olds (olds_at step.now) v.items ≡ olds_at step.now) }
+    ensures news { IfOk result (λ v. live_news (olds_at step.now) v.items
+        ≡ value_in (olds_at step.now) (new_list (rules_of H.hash_of)
+        (arrival_of step.now.stamped.now) (item_in (views items.now)) (olds_at step.now)
+        (step_key (message_of step.now.stamped.now.payload))
+        (map node_view step.now.nodes.now))) }
+    ensures same { IfOk result (λ v. SameValues step.now.live.now (olds_at step.now)
+        (live_news (olds_at step.now) v.items)) }
+{
+    match step.stamped.key() {
+        Some(key) => live_values_at::<H>(alloc, step, key, items),
         None => Ok(Vec::new(alloc)),
     }
 }

@@ -7,7 +7,7 @@ use ks_expr::{Expr, Fk, JoinKind, Proj};
 use ks_fk_left::{Answer, respond, subscriptions};
 use ks_fk_right::{on_right, on_subscription};
 use ks_hash::{Hash128, Murmur3};
-use ks_row::{Blob, Change, Key, Name, Rec, Row, Seq, decode, encode};
+use ks_row::{Blob, Change, Key, Name, Rec, RecordRef, Row, Seq, decode, encode};
 use ks_store::{KvStore, OrderedStore, PlainStore, StoreCall, StoreReply, restore, run_calls};
 use ks_table_ops::joined_after;
 use ks_window::{Window, apply};
@@ -289,22 +289,14 @@ fn count<S: KvStore>(alloc: Global, store: &mut S, t: u64) -> Result<Vec<u8>, Al
     Ok(text)
 }
 
-fn blob(alloc: Global, bytes: Option<&[u8]>) -> Result<Option<Blob>, AllocError> {
-    match bytes {
-        Some(bytes) => Ok(Some(Blob::from_slice(alloc, bytes)?)),
-        None => Ok(None),
-    }
-}
-
 fn restore_one<S: KvStore>(
     alloc: Global,
     store: &mut S,
     key: Option<&[u8]>,
     value: Option<&[u8]>,
 ) -> Result<Vec<u8>, AllocError> {
-    let key = blob(alloc, key)?;
-    let value = blob(alloc, value)?;
-    restore(store, &[(7, Rec { key, value, ts: 0 })])?;
+    let rec = Rec::of(alloc, RecordRef { key, value, ts: 0 })?;
+    restore(store, &[(7, rec)])?;
     Ok(Vec::new(alloc))
 }
 

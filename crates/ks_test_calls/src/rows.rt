@@ -31,7 +31,7 @@ fn row_of(alloc: Global, members: &[(&str, Value)]) -> Result<Option<Row>, Alloc
             None => return Ok(None),
         }
     }
-    Row::of(fields)
+    Row::of(alloc, fields)
 }
 
 // The bytes of this row, once it was read from its own bytes; no byte for none.

@@ -8,8 +8,9 @@ ghost use Rattle.ks_law_exactly_once.specs.Example.{setup, active_at};
 ghost use Rattle.ks_test_cluster.specs.Ours.{IsOurs};
 
 use crate::copying::{Copying, TASK};
+use crate::tables::OneRecord;
 use ks_cluster::Cluster;
-use ks_row::{Assignment, PartId, Rec, Refused, Seq, TaskId};
+use ks_row::{Assignment, PartId, Rec, Refused, Seq, SharedRecords, TaskId};
 use std::alloc::{AllocError, Global};
 
 /// A call. All are of the only task and of partition 0 of the topic that is named.
@@ -168,7 +169,7 @@ fn append(
     epoch: u64,
     number: u64,
     topic: u16,
-    recs: &[Rec],
+    recs: &SharedRecords,
 ) -> Result<String, AllocError>
     requires { IsOurs cluster.old }
     ensures { OnOk result (IsOurs cluster.new) }
@@ -477,14 +478,14 @@ fn status(alloc: Global, cluster: &Cluster<Copying>) -> Result<String, AllocErro
 fn write(
     alloc: Global,
     cluster: &mut Cluster<Copying>,
-    recs: &[Rec; 1],
+    recs: &OneRecord,
     call: &Call,
 ) -> Result<Option<String>, AllocError>
     requires { IsOurs cluster.old }
     ensures { OnOk result (IsOurs cluster.new) }
 {
     let told = match *call {
-        Call::Produce { topic } => produce(alloc, cluster, topic, &recs[0])?,
+        Call::Produce { topic } => produce(alloc, cluster, topic, &recs.rec)?,
         Call::Init { w } => init(alloc, cluster, w)?,
         Call::Add { w, epoch, topic } => add(alloc, cluster, w, epoch, topic)?,
         Call::Append {
@@ -492,7 +493,7 @@ fn write(
             epoch,
             number,
             topic,
-        } => append(alloc, cluster, w, epoch, number, topic, recs)?,
+        } => append(alloc, cluster, w, epoch, number, topic, &recs.list)?,
         Call::SendOffset {
             w,
             epoch,
@@ -534,7 +535,7 @@ fn read(alloc: Global, cluster: &Cluster<Copying>, call: &Call) -> Result<String
 pub fn answer(
     alloc: Global,
     cluster: &mut Cluster<Copying>,
-    recs: &[Rec; 1],
+    recs: &OneRecord,
     call: &Call,
 ) -> Result<String, AllocError>
     requires { IsOurs cluster.old }

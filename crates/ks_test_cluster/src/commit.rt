@@ -5,7 +5,7 @@ ghost use Rattle.ks_test_cluster.specs.Stages.{Stands};
 use crate::calls::active;
 use crate::copying::{Copying, TASK, new_cluster};
 use ks_cluster::Cluster;
-use ks_row::{PartId, Rec};
+use ks_row::{PartId, Rec, SharedRecords};
 use std::alloc::{AllocError, Global};
 
 /// A new cluster with one record in partition 0 of topic 0.
@@ -50,7 +50,7 @@ fn added(alloc: Global, rec: &Rec) -> Result<Cluster<Copying>, AllocError>
     Ok(cluster)
 }
 
-fn appended(alloc: Global, rec: &Rec, recs: &[Rec]) -> Result<Cluster<Copying>, AllocError>
+fn appended(alloc: Global, rec: &Rec, recs: &SharedRecords) -> Result<Cluster<Copying>, AllocError>
     requires { recs.now ≡ rec.now ∷ [] }
     ensures { IfOk result (λ c. Stands 6 rec.now c) }
 {
@@ -60,7 +60,7 @@ fn appended(alloc: Global, rec: &Rec, recs: &[Rec]) -> Result<Cluster<Copying>, 
 }
 
 /// A cluster whose worker 0 has offsets pending for the record that it took.
-pub fn sent(alloc: Global, rec: &Rec, recs: &[Rec]) -> Result<Cluster<Copying>, AllocError>
+pub fn sent(alloc: Global, rec: &Rec, recs: &SharedRecords) -> Result<Cluster<Copying>, AllocError>
     requires { recs.now ≡ rec.now ∷ [] }
     ensures { IfOk result (λ c. Stands 7 rec.now c) }
 {
@@ -70,7 +70,11 @@ pub fn sent(alloc: Global, rec: &Rec, recs: &[Rec]) -> Result<Cluster<Copying>, 
 }
 
 /// A cluster whose worker 0 has a decided transaction for the record that it took.
-pub fn decided(alloc: Global, rec: &Rec, recs: &[Rec]) -> Result<Cluster<Copying>, AllocError>
+pub fn decided(
+    alloc: Global,
+    rec: &Rec,
+    recs: &SharedRecords,
+) -> Result<Cluster<Copying>, AllocError>
     requires { recs.now ≡ rec.now ∷ [] }
     ensures { IfOk result (λ c. Stands 8 rec.now c) }
 {
@@ -80,7 +84,11 @@ pub fn decided(alloc: Global, rec: &Rec, recs: &[Rec]) -> Result<Cluster<Copying
 }
 
 /// A cluster whose worker 0 has decided its transaction and written the marker.
-pub fn marked(alloc: Global, rec: &Rec, recs: &[Rec]) -> Result<Cluster<Copying>, AllocError>
+pub fn marked(
+    alloc: Global,
+    rec: &Rec,
+    recs: &SharedRecords,
+) -> Result<Cluster<Copying>, AllocError>
     requires { recs.now ≡ rec.now ∷ [] }
     ensures { IfOk result (λ c. Stands 9 rec.now c) }
 {

@@ -3,7 +3,7 @@
 
 use crate::copying::TASK;
 use ks_log::Part;
-use ks_row::Rec;
+use ks_row::{Rec, RecordList, RecordRef, SharedRecords};
 use std::alloc::{AllocError, Global};
 use std::process::Abort;
 use std::test::Fail;
@@ -167,8 +167,8 @@ const TWO_EPOCHS: &[(PartCall, &str)] = &[
     (PartCall::Read { from: 0, max: 9 }, "1: 20, to 4"),
 ];
 
-fn record_at(ts: u64) -> Rec {
-    Rec {
+fn record_at(ts: u64) -> RecordRef<'static> {
+    RecordRef {
         key: None,
         value: None,
         ts,
@@ -183,9 +183,15 @@ fn append(
     number: u64,
     ts: u64,
 ) -> Result<String, AllocError> {
-    let mut recs = Vec::new(alloc);
+    let mut recs = RecordList::new(alloc);
     recs.push(record_at(ts))?;
-    match part.append(producer, epoch, number, TASK, recs)? {
+    match part.append(
+        producer,
+        epoch,
+        number,
+        TASK,
+        SharedRecords::of(alloc, recs)?,
+    )? {
         Ok(first) => format!(in alloc; "{first}"),
         Err(missed) => format!(in alloc; "the next number is {}", missed.expected),
     }
@@ -195,7 +201,7 @@ fn read(alloc: Global, part: &Part, from: u64, max: u32) -> Result<String, Alloc
     let (recs, next) = part.read_committed(alloc, from, max)?;
     let mut text = String::new(alloc);
     for (offset, rec) in &recs {
-        write!(text, "{offset}: {}, ", rec.ts)?;
+        write!(text, "{offset}: {}, ", rec.ts())?;
     }
     write!(text, "to {next}")?;
     Ok(text)
@@ -205,7 +211,7 @@ fn read(alloc: Global, part: &Part, from: u64, max: u32) -> Result<String, Alloc
 fn written(alloc: Global, part: &mut Part, call: &PartCall) -> Result<Option<String>, AllocError> {
     let told = match *call {
         PartCall::Plain { ts } => {
-            let at = part.append_plain(record_at(ts))?;
+            let at = part.append_plain(Rec::of(alloc, record_at(ts))?)?;
             format!(in alloc; "{at}")?
         }
         PartCall::Append {

@@ -92,23 +92,23 @@ const BEHIND: &str = "settled false, pending 0, 0/0 committed 0 end 1";
 fn a_report_at_each_stage_of_a_commit(rt: HostRuntime) -> Result<(), Fail> {
     let alloc = rt.alloc();
     let topology = topology(&rt, alloc)?;
-    let recs = [record(alloc)?];
-    let cluster = produced(alloc, &recs[0])?;
+    let recs = record(alloc)?;
+    let cluster = produced(alloc, &recs.rec)?;
     assert_eq!(rt; told(&rt, alloc, &cluster, &topology)?.as_str(), BEHIND);
     // What was read and isn't committed doesn't count.
     assert_eq!(rt; fetch(alloc, &cluster, 0, 0, 10)?.as_str(), "1 to 1");
     assert_eq!(rt; told(&rt, alloc, &cluster, &topology)?.as_str(), BEHIND);
-    let cluster = sent(alloc, &recs[0], &recs)?;
+    let cluster = sent(alloc, &recs.rec, &recs.list)?;
     assert_eq!(rt;
         told(&rt, alloc, &cluster, &topology)?.as_str(),
         "settled false, pending 1, 0/0 committed 0 end 1"
     );
-    let cluster = decided(alloc, &recs[0], &recs)?;
+    let cluster = decided(alloc, &recs.rec, &recs.list)?;
     assert_eq!(rt;
         told(&rt, alloc, &cluster, &topology)?.as_str(),
         "settled false, pending 1"
     );
-    let cluster = marked(alloc, &recs[0], &recs)?;
+    let cluster = marked(alloc, &recs.rec, &recs.list)?;
     assert_eq!(rt;
         told(&rt, alloc, &cluster, &topology)?.as_str(),
         "settled true, pending 0"

@@ -1,5 +1,6 @@
 //! Tables of calls with their answers.
 
+ghost use Rattle.std.specs.Prelude.{◌≡◌, ◌∷◌, [], IfOk};
 ghost use Rattle.ks_test_cluster.specs.Ours.{IsOurs};
 
 use crate::calls::{Call, answer};
@@ -8,17 +9,32 @@ use crate::copying::{Copying, new_cluster};
 use ks_cluster::Cluster;
 use ks_history::Reply;
 use ks_journal::push_journal;
-use ks_row::{Blob, Rec};
+use ks_row::{Rec, RecordList, RecordRef, SharedRecords};
 use std::alloc::{AllocError, Global};
 use std::process::Abort;
 use std::test::Fail;
 
+/// One record, alone and as a list.
+#[derive(Drop)]
+pub struct OneRecord {
+    pub rec: Rec,
+    pub list: SharedRecords,
+}
+
 /// The record of key a with the row `{"n":1}`.
-pub fn record(alloc: Global) -> Result<Rec, AllocError> {
-    Ok(Rec {
-        key: Some(Blob::from_slice(alloc, b"a")?),
-        value: Some(Blob::from_slice(alloc, b"\x01\x01n\x00\x00\x00\x00\x00\x00\x00\x00\x01")?),
+pub fn record(alloc: Global) -> Result<OneRecord, AllocError>
+    ensures { IfOk result (λ r. r.list ≡ r.rec ∷ []) }
+{
+    let one = RecordRef {
+        key: Some(b"a".as_slice()),
+        value: Some(b"\x01\x01n\x00\x00\x00\x00\x00\x00\x00\x00\x01".as_slice()),
         ts: 0,
+    };
+    let mut list = RecordList::new(alloc);
+    list.push(one)?;
+    Ok(OneRecord {
+        rec: Rec::of(alloc, one)?,
+        list: SharedRecords::of(alloc, list)?,
     })
 }
 
@@ -267,7 +283,7 @@ fn run_all<R: Abort>(
     rt: &R,
     alloc: Global,
     cluster: Cluster<Copying>,
-    recs: &[Rec; 1],
+    recs: &OneRecord,
     table: &[(Call, &str)],
 ) -> Result<Cluster<Copying>, Fail>
     requires { IsOurs cluster }
@@ -303,18 +319,36 @@ fn replies(alloc: Global, cluster: &Cluster<Copying>) -> Result<String, AllocErr
 #[test]
 fn calls_and_answers(rt: HostRuntime) -> Result<(), Fail> {
     let alloc = rt.alloc();
-    let recs = [record(alloc)?];
+    let recs = record(alloc)?;
     run_all(&rt, alloc, new_cluster(alloc)?, &recs, OTHERS)?;
-    run_all(&rt, alloc, sent(alloc, &recs[0], &recs)?, &recs, BEFORE)?;
-    run_all(&rt, alloc, decided(alloc, &recs[0], &recs)?, &recs, BETWEEN)?;
-    run_all(&rt, alloc, marked(alloc, &recs[0], &recs)?, &recs, AFTER)?;
+    run_all(
+        &rt,
+        alloc,
+        sent(alloc, &recs.rec, &recs.list)?,
+        &recs,
+        BEFORE,
+    )?;
+    run_all(
+        &rt,
+        alloc,
+        decided(alloc, &recs.rec, &recs.list)?,
+        &recs,
+        BETWEEN,
+    )?;
+    run_all(
+        &rt,
+        alloc,
+        marked(alloc, &recs.rec, &recs.list)?,
+        &recs,
+        AFTER,
+    )?;
     Ok(())
 }
 
 #[test]
 fn zombie_and_its_journal(rt: HostRuntime) -> Result<(), Fail> {
     let alloc = rt.alloc();
-    let recs = [record(alloc)?];
+    let recs = record(alloc)?;
     let cluster = run_all(&rt, alloc, new_cluster(alloc)?, &recs, ZOMBIE)?;
     let mut text = Vec::new(alloc);
     push_journal(&mut text, cluster.journal())?;
@@ -325,8 +359,8 @@ fn zombie_and_its_journal(rt: HostRuntime) -> Result<(), Fail> {
 #[test]
 fn one_commit(rt: HostRuntime) -> Result<(), Fail> {
     let alloc = rt.alloc();
-    let recs = [record(alloc)?];
-    let cluster = marked(alloc, &recs[0], &recs)?;
+    let recs = record(alloc)?;
+    let cluster = marked(alloc, &recs.rec, &recs.list)?;
     let told = replies(alloc, &cluster)?;
     assert_eq!(rt;
         told.as_str(),

@@ -7,7 +7,7 @@ ghost use Rattle.ks_shared.specs.Shelf.{IsReplicaOf};
 ghost use Rattle.ks_test_shared.specs.Ours.{IsOurs};
 
 use ks_growing::Pass;
-use ks_row::{PartId, Rec};
+use ks_row::{PartId, Rec, RecordList, RecordRef, SharedRecords};
 use ks_shared::{Barred, Shared, SharedState};
 use ks_standby::Replica;
 use ks_test_cluster::copying::{Copying, TASK};
@@ -76,11 +76,13 @@ pub fn append<R: Wait>(
     ensures ours { IsOurs shared.now.growing.id pass.new }
     ensures number { pass.new.number ≡ pass.old.number }
 {
-    let recs = [Rec {
+    let mut list = RecordList::new(alloc);
+    list.push(RecordRef {
         key: None,
         value: None,
         ts: 0,
-    }];
+    })?;
+    let recs = SharedRecords::of(alloc, list)?;
     shared.append(rt, alloc, 0, 1, 0, TASK, CHANGELOG, &recs, last, pass)
 }
 

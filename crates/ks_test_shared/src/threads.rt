@@ -5,7 +5,7 @@ ghost use Rattle.ks_test_shared.specs.Ours.{IsOurs};
 use crate::calls::{fetch, init, produce};
 use crate::passes::{Locked, close, new_locked};
 use ks_growing::Pass;
-use ks_row::Rec;
+use ks_row::{Rec, RecordRef};
 use ks_shared::{Shared, SharedState};
 use ks_test_cluster::copying::Copying;
 use std::alloc::{AllocError, Global};
@@ -26,11 +26,12 @@ fn feed<R: Wait>(
     ensures number { pass.new.number ≡ pass.old.number }
 {
     for ts in 0..100u64 {
-        let rec = Rec {
+        let empty = RecordRef {
             key: None,
             value: None,
             ts,
         };
+        let rec = Rec::of(alloc, empty)?;
         produce(rt, alloc, shared, &rec, pass)?;
     }
     Ok(())
@@ -75,7 +76,7 @@ fn two_threads(rt: HostRuntime) -> Result<(), Fail> {
     let mut expected = 0u64;
     for (offset, rec) in recs.as_slice() {
         assert_eq!(rt; *offset, expected);
-        assert_eq!(rt; rec.ts, expected);
+        assert_eq!(rt; rec.ts(), expected);
         expected = expected.wrapping_add(1);
     }
     let locked = Locked {

@@ -217,8 +217,11 @@ fn close<W: Work, G: Gate>(
     let Pair { one, two } = pair;
     let mut passes = Vec::new(alloc);
     passes.push(first)?;
-    passes.push(one.worker.into_pass())?;
-    passes.push(two.worker.into_pass())?;
+    let mut replicas = Vec::new(alloc);
+    let second = one.worker.into_pass(&mut replicas)?;
+    passes.push(second)?;
+    let third = two.worker.into_pass(&mut replicas)?;
+    passes.push(third)?;
     Ok(shared.close(passes))
 }
 

@@ -21,7 +21,7 @@ use Rattle.ks_query.specs.Aggregates.{stream_add}
 use Rattle.ks_def_tasks.specs.Messages.{same_option}
 use Rattle.ks_def_tasks.specs.Windowed.{greater}
 use Rattle.ks_def_tasks.specs.Laws.{AllBelow}
-use Rattle.ks_row.specs.declared.record.Rec.{Rec}
+use Rattle.ks_row.specs.Records.{Record as Rec}
 use Rattle.ks_def_lookups.specs.Windows.{CountedBytes, time_in, count_in, kept_rec, next_rec, time_rec, keep, count_start, counted}
 
 -- ---- what an item makes of a store that is read and not written

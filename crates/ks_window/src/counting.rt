@@ -10,7 +10,7 @@ ghost use Rattle.ks_def_lookups.specs.Windows.{time_in, next_bytes, kept_rec, ne
 ghost use Rattle.ks_window.specs.Shape.{shape};
 
 use crate::windows::starts;
-use ks_row::{Blob, Key, Rec};
+use ks_row::{Blob, Key, RecordList, RecordRef};
 use ks_store::KvStore;
 use ks_wire::{Agg, read_agg, read_time, write_agg, write_window_key};
 use std::alloc::{AllocError, Global};
@@ -74,20 +74,18 @@ fn one_more(old: Option<Agg>) -> Agg
 
 // Adds the changelog record of a value.
 pub(crate) fn push_rec(
-    alloc: Global,
-    recs: &mut Vec<Rec>,
+    recs: &mut RecordList,
     t: u64,
     key: &[u8],
     value: &[u8],
 ) -> Result<(), AllocError>
-    ensures { OnOk result (recs.new.items ≡ recs.old.items ++ kept_rec t key.now value.now ∷ []) }
+    ensures { OnOk result (recs.new ≡ recs.old ++ kept_rec t key.now value.now ∷ []) }
 {
-    recs.push(Rec {
-        key: Some(Blob::from_slice(alloc, key)?),
-        value: Some(Blob::from_slice(alloc, value)?),
+    recs.push(RecordRef {
+        key: Some(key),
+        value: Some(value),
         ts: t,
-    })?;
-    Ok(())
+    })
 }
 
 // The count of a key's window, one higher.
@@ -107,53 +105,51 @@ pub(crate) fn next_count<S: KvStore>(
 
 // Sets a value and tells the changelog.
 fn keep<S: KvStore>(
-    alloc: Global,
     store: &mut S,
-    recs: &mut Vec<Rec>,
+    recs: &mut RecordList,
     t: u64,
     key: &[u8],
     value: &[u8],
 ) -> Result<(), AllocError>
     ensures store { OnOk result (S.contents store.new
         ≡ fin.insert (S.contents store.old) key.now value.now) }
-    ensures recs { OnOk result (recs.new.items ≡ recs.old.items ++ kept_rec t key.now value.now
+    ensures recs { OnOk result (recs.new ≡ recs.old ++ kept_rec t key.now value.now
         ∷ []) }
 {
     store.put(key, value)?;
-    push_rec(alloc, recs, t, key, value)
+    push_rec(recs, t, key, value)
 }
 
 fn keep_greatest<S: KvStore>(
-    alloc: Global,
     store: &mut S,
-    recs: &mut Vec<Rec>,
+    recs: &mut RecordList,
     t: u64,
     now: u64,
 ) -> Result<(), AllocError>
     ensures store { OnOk result (S.contents store.new
         ≡ fin.insert (S.contents store.old) time_key (time_bytes now)) }
-    ensures recs { OnOk result (recs.new.items ≡ recs.old.items
+    ensures recs { OnOk result (recs.new ≡ recs.old
         ++ kept_rec t time_key (time_bytes now) ∷ []) }
 {
-    keep(alloc, store, recs, t, &TIME_KEY, &now.to_be_bytes())
+    keep(store, recs, t, &TIME_KEY, &now.to_be_bytes())
 }
 
 fn count_window<S: KvStore>(
     alloc: Global,
     store: &mut S,
-    recs: &mut Vec<Rec>,
+    recs: &mut RecordList,
     t: u64,
     key: &Key,
     start: u64,
 ) -> Result<(), AllocError>
     ensures store { OnOk result (S.contents store.new
         ≡ with_next (S.contents store.old) (window_key key.now start)) }
-    ensures recs { OnOk result (recs.new.items ≡ recs.old.items
+    ensures recs { OnOk result (recs.new ≡ recs.old
         ++ next_rec t (S.contents store.old) (window_key key.now start) ∷ []) }
 {
     let place = write_window_key(alloc, key, start)?;
     let value = next_count(alloc, store, place.as_slice())?;
-    keep(alloc, store, recs, t, place.as_slice(), value.as_slice())
+    keep(store, recs, t, place.as_slice(), value.as_slice())
 }
 
 /// Takes an item with a key and a timestamp: how many of its windows were over and dropped it, and the changelog records, the
@@ -165,20 +161,20 @@ pub fn apply<S: KvStore>(
     key: &Key,
     t: u64,
     window: &Window,
-) -> Result<(u64, Vec<Rec>), AllocError>
+) -> Result<(u64, RecordList), AllocError>
     requires some { 1 ≤ window.now.advance }
     requires most { window.now.advance ≤ window.now.size }
     ensures { IfOk result (λ r. record {
       store = S.contents store.new;
       late = r.0;
-      recs = r.1.items;
+      recs = r.1;
     } ≡ counted (shape window.now) (S.contents store.old) key.now t) }
 {
     let before = time_of(store);
     let now = later_of(before, t);
-    let mut recs = Vec::new(alloc);
+    let mut recs = RecordList::new(alloc);
     if !is_kept(before, now) {
-        keep_greatest(alloc, store, &mut recs, t, now)?;
+        keep_greatest(store, &mut recs, t, now)?;
     }
     let all = starts(alloc, t, window.size, window.advance)?;
     let mut late = 0;

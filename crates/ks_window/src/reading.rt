@@ -8,7 +8,7 @@ use crate::counting::{
     TIME_KEY, Window, is_kept, is_taken, later_of, next_count, push_rec, time_of,
 };
 use crate::windows::starts;
-use ks_row::{Key, Rec};
+use ks_row::{Key, RecordList};
 use ks_store::KvStore;
 use ks_wire::write_window_key;
 use std::alloc::{AllocError, Global};
@@ -17,28 +17,28 @@ use std::alloc::{AllocError, Global};
 fn push_count<S: KvStore>(
     alloc: Global,
     store: &S,
-    recs: &mut Vec<Rec>,
+    recs: &mut RecordList,
     t: u64,
     key: &Key,
     start: u64,
 ) -> Result<(), AllocError>
-    ensures { OnOk result (recs.new.items ≡ recs.old.items
+    ensures { OnOk result (recs.new ≡ recs.old
         ++ next_rec t (S.contents store.now) (window_key key.now start) ∷ []) }
 {
     let place = write_window_key(alloc, key, start)?;
     let value = next_count(alloc, store, place.as_slice())?;
-    push_rec(alloc, recs, t, place.as_slice(), value.as_slice())
+    push_rec(recs, t, place.as_slice(), value.as_slice())
 }
 
 // The changelog record of the greatest timestamp, where it changes.
-fn time_recs(alloc: Global, before: Option<u64>, t: u64, now: u64) -> Result<Vec<Rec>, AllocError>
-    ensures { IfOk result (λ v. v.items ≡ time_rec before t now) }
+fn time_recs(alloc: Global, before: Option<u64>, t: u64, now: u64) -> Result<RecordList, AllocError>
+    ensures { IfOk result (λ v. v ≡ time_rec before t now) }
 {
-    let mut recs = Vec::new(alloc);
+    let mut recs = RecordList::new(alloc);
     if is_kept(before, now) {
         return Ok(recs);
     }
-    push_rec(alloc, &mut recs, t, &TIME_KEY, &now.to_be_bytes())?;
+    push_rec(&mut recs, t, &TIME_KEY, &now.to_be_bytes())?;
     Ok(recs)
 }
 
@@ -50,12 +50,12 @@ pub fn count<S: KvStore>(
     key: &Key,
     t: u64,
     window: &Window,
-) -> Result<(u64, Vec<Rec>), AllocError>
+) -> Result<(u64, RecordList), AllocError>
     requires some { 1 ≤ window.now.advance }
     requires most { window.now.advance ≤ window.now.size }
     ensures late { IfOk result (λ r. r.0 ≡ (counted (shape window.now) (S.contents store.now)
         key.now t).late) }
-    ensures recs { IfOk result (λ r. r.1.items
+    ensures recs { IfOk result (λ r. r.1
         ≡ (counted (shape window.now) (S.contents store.now) key.now t).recs) }
 {
     // The key is one: no two windows of it have one place in the store.

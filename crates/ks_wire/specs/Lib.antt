@@ -1,4 +1,3 @@
 pub mod Values
 pub mod Spelling
 pub mod Reading
-pub mod Judged

@@ -20,7 +20,7 @@ hash_at flag bytes =
     if flag == 128 then Some (None, bytes)
     else (if flag == 0 then option_map (λ h. (Some h.0, h.1)) (number_at w128 bytes) else None)
 
--- a partition of at most 64, in all of the bytes
+-- a partition of at most 63, in all of the bytes
 unfoldable pub part_from : List ℕ → Option ℕ
 part_from bytes = do
   n ← number_at w32 bytes

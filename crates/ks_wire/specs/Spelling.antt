@@ -1,6 +1,6 @@
 -- The one spelling of what tasks say to one another and keep.
--- A subscription and a response have the layout of Kafka Streams' `SubscriptionWrapper` and `SubscriptionResponseWrapper`
--- (KIP-213), with hashes and lengths of this project's own.
+-- A subscription and a response have the fields of Kafka Streams' `SubscriptionWrapper` and `SubscriptionResponseWrapper`
+-- (KIP-213); the layout is this project's own.
 use Rattle.std.specs.Prelude.{◌≡◌, ℕ, ◌+◌, ◌<◌, ◌≤◌, ◌^◌, List, [], ◌∷◌, ◌++◌, length, Option, Some, None, IfSome, Bool, if◌then◌else◌}
 use Rattle.std.specs.Int.{w32, w64, w128, to_be_bytes}
 use Rattle.std.specs.Int.RustNames.{FitsSigned}
@@ -61,7 +61,7 @@ agg_bytes a = int_bytes a.members ++ int_bytes a.total
 abbrev pub long_key : List ℕ → List ℕ
 long_key k = to_be_bytes w32 (length k) ++ k
 
--- where the store of a foreign-key join keeps the hash of a left key at a foreign key
+-- where the store of a foreign-key join keeps the subscriber of a left key at a foreign key
 unfoldable pub subscription_key : List ℕ → List ℕ → List ℕ
 subscription_key foreign left = long_key foreign ++ left
 

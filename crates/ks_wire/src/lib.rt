@@ -2,7 +2,6 @@
 #![tactic(auto)]
 
 mod codec;
-mod judging;
 mod reading;
 mod values;
 mod writing;
@@ -11,7 +10,6 @@ pub use codec::{
     read_agg, read_delta, read_response, read_subscriber, read_subscription, read_subscription_key,
     read_time, read_window_key, reading_undoes_writing,
 };
-pub use judging::spells_row;
 pub use values::{Agg, Delta, Response, Subscriber, Subscription};
 pub use writing::{
     write_agg, write_delta, write_response, write_subscriber, write_subscription,

@@ -38,7 +38,7 @@ fn read_flagged_hash(flag: u8, bytes: &[u8]) -> Option<(Option<u128>, &[u8])>
     }
 }
 
-// A partition of at most 64, in all of the bytes.
+// A partition of at most 63, in all of the bytes.
 #[tactic(auto, unfolding(crate::specs::Reading::part_from))]
 fn read_part(bytes: &[u8]) -> Option<u8>
     ensures part { result ≡ part_from bytes.now }

@@ -5,7 +5,7 @@ ghost use Rattle.ks_row.specs.Texts.{IsKey};
 ghost use Rattle.ks_wire.specs.Spelling.{hash_flag, hash_or_nothing, version_of, part_or_nothing, subscriber_bytes, time_bytes, subscription_bytes, response_bytes, delta_bytes, agg_bytes, long_key, subscription_key, window_key, FitsHash, FitsSubscription, FitsSubscriber, FitsResponse, FitsDelta, FitsAgg, FitsKeys, FitsWindow};
 
 use crate::values::{Agg, Delta, Response, Subscriber, Subscription};
-use ks_row::{Blob, BlobBuilder, Key, encode};
+use ks_row::{Blob, BlobBuilder, Key};
 use std::alloc::{AllocError, Global};
 
 const NO_HASH: u8 = 128;
@@ -76,8 +76,7 @@ pub fn write_response(alloc: Global, response: &Response) -> Result<Blob, AllocE
     push_flag(&mut out, response.hash)?;
     push_hash(&mut out, response.hash)?;
     if let Some(row) = &response.right {
-        let row = encode(alloc, row)?;
-        out.extend_from_slice(row.as_slice())?;
+        out.extend_from_slice(row.as_bytes())?;
     }
     out.into_blob()
 }
@@ -106,7 +105,7 @@ pub fn write_agg(alloc: Global, agg: &Agg) -> Result<Blob, AllocError>
     out.into_blob()
 }
 
-/// The bytes that a subscription store keeps of a subscriber, whose partition is at most 63.
+/// The bytes that a subscription store keeps of a subscriber; they are read back where its partition is at most 63.
 #[tactic(auto, unfolding(crate::specs::Spelling::subscriber_bytes))]
 pub fn write_subscriber(alloc: Global, subscriber: Subscriber) -> Result<Blob, AllocError>
     ensures { IfOk result (λ b. b ≡ subscriber_bytes subscriber) }

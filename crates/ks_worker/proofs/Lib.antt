@@ -4,3 +4,4 @@ pub mod Performed
 pub mod Shown
 pub mod Turning
 pub mod Summing
+pub mod Left

@@ -2,3 +2,4 @@ pub mod Beginning
 pub mod Acts
 pub mod Running
 pub mod View
+pub mod Left

@@ -1,15 +1,18 @@
 //! A worker.
-ghost use Rattle.std.specs.Prelude.{◌≡◌, ◌≤◌};
+ghost use Rattle.std.specs.Prelude.{◌≡◌, ◌≤◌, IfOk, OnOk};
 ghost use Rattle.ks_worker.specs.Beginning.{IsNew};
+ghost use Rattle.ks_worker.specs.Left.{LeavesStandbys};
 
 use ks_assign::Placing;
 use ks_cluster::Work;
 use ks_edge::Gate;
 use ks_growing::Pass;
 use ks_shared::SharedState;
+use ks_standby::Replica;
+use ks_worker_acts::rest_tasks;
 use ks_worker_client::{ClusterClient, Member, Session, TurnGate};
 use ks_worker_state::WorkerState;
-use std::alloc::Global;
+use std::alloc::{AllocError, Global};
 
 /// A worker of a run: what it holds, and what its gate sees of it beside that. Kafka Streams: a `StreamThread`.
 #[derive(Drop)]
@@ -76,14 +79,24 @@ impl<W: Work, G: Gate> Worker<W, G> {
         }
     }
 
-    /// Its pass; all else is let go. Takes no memory.
-    pub fn into_pass(self) -> Pass<SharedState<W>>
-        ensures { result ≡ self.state.session.client.pass }
+    /// Its pass; its replicas, and those that its clean tasks leave, are put behind others; all else is let go.
+    pub fn into_pass(self, replicas: &mut Vec<Replica>) -> Result<Pass<SharedState<W>>, AllocError>
+        ensures pass { IfOk result (λ p. p ≡ self.state.session.client.pass) }
+        ensures replicas { OnOk result (LeavesStandbys W.plan self.state replicas.old.items
+            replicas.new.items) }
     {
         let Worker { state, .. } = self;
-        let WorkerState { session, .. } = state;
+        let WorkerState {
+            session,
+            tasks,
+            replicas: own,
+            ..
+        } = state;
+        let mut left = own;
+        rest_tasks(tasks, &mut left)?;
+        replicas.append(&mut left)?;
         let Session { client, .. } = session;
         let ClusterClient { pass, .. } = client;
-        pass
+        Ok(pass)
     }
 }

@@ -13,7 +13,7 @@ mod removing;
 pub use commit::{CommitEnd, commit_tasks};
 pub use dropping::abort;
 pub use feeding::pump;
-pub use leaving::leave;
+pub use leaving::{leave, rest_tasks};
 pub use places::InputPlace;
 pub use probing::probe;
 pub use reading::work;

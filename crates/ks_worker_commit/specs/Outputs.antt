@@ -1,7 +1,7 @@
 -- What the requests of a commit put into a transaction, in the order in which a worker makes them: each output partition, the records by
 -- partition and then task, the offsets of each task (Kafka Streams: RecordCollector, StreamsProducer).
 use Rattle.std.specs.Prelude.{ℕ, if◌then◌else◌, List, [], ◌∷◌}
-use Rattle.ks_row.specs.declared.record.Rec.{Rec}
+use Rattle.ks_row.specs.Records.{Record as Rec}
 use Rattle.ks_row.specs.declared.record.PartId.{PartId}
 use Rattle.ks_row.specs.declared.record.TaskId.{TaskId}
 use Rattle.ks_row.specs.Parts.{same_part}

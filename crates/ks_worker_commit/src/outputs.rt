@@ -5,7 +5,7 @@ ghost use Rattle.ks_commit.specs.Committed.{works_of};
 ghost use Rattle.ks_worker_commit.specs.Outputs.{parts_with, parts_in};
 
 use ks_commit::Frozen;
-use ks_row::{PartId, Rec, Seq};
+use ks_row::{PartId, SharedRecords};
 use std::alloc::{AllocError, Global};
 
 // A rising list with one partition more.
@@ -33,7 +33,7 @@ fn with_part(alloc: Global, parts: &[PartId], p: PartId) -> Result<Vec<PartId>, 
 fn with_outputs(
     alloc: Global,
     parts: &[PartId],
-    outputs: &[(PartId, Seq<Rec>)],
+    outputs: &[(PartId, SharedRecords)],
 ) -> Result<Vec<PartId>, AllocError>
     ensures { IfOk result (λ made. made.items ≡ parts_with parts.now outputs.now) }
 {

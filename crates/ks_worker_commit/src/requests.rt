@@ -18,14 +18,14 @@ use crate::numbers::{number, with_next_number};
 use ks_cluster::Work;
 use ks_commit::Frozen;
 use ks_edge::Gate;
-use ks_row::{PartId, Rec, Seq, TaskId};
+use ks_row::{PartId, SharedRecords, TaskId};
 use ks_shared::{Barred, Shared};
 use ks_worker_client::{Member, Session};
 use std::alloc::{AllocError, Global};
 use std::sync::Wait;
 
 // How many records of its epoch a producer has sent to a partition, after these.
-fn number_after(before: u64, recs: &[Rec]) -> Result<u64, AllocError>
+fn number_after(before: u64, recs: &SharedRecords) -> Result<u64, AllocError>
     ensures { IfOk result (λ after. after ≡ before + length recs.now) }
 {
     match before.checked_add(recs.len() as u64) {
@@ -40,12 +40,12 @@ fn note_end(
     ends: &mut Vec<(TaskId, PartId, u64)>,
     place: (TaskId, PartId),
     offset: u64,
-    recs: &[Rec],
+    recs: &SharedRecords,
 ) -> Result<(), AllocError>
     ensures { OnOk result (ends.new.items ≡ with_end place.0 place.1 offset recs.now
         ends.old.items) }
 {
-    if recs.is_empty() {
+    if recs.len() == 0 {
         return Ok(());
     }
     let end = number_after(offset, recs)?;
@@ -119,7 +119,7 @@ pub fn append_output<R: Wait, W: Work, G: Gate>(
     session: &mut Session<W, G>,
     member: Member,
     task: TaskId,
-    out: &(PartId, Seq<Rec>),
+    out: &(PartId, SharedRecords),
 ) -> Result<(), Halt>
     requires may { MayRequest shared.now.growing.id member.number session.old }
     requires part { IsPart (setup_in W.plan session.old.client.pass.frame) out.now.0 }
@@ -136,7 +136,7 @@ pub fn append_output<R: Wait, W: Work, G: Gate>(
     if session.client.gate.pass_step().is_err() {
         return Err(Halt::Cut);
     }
-    let (part, recs) = (out.0, out.1.as_slice());
+    let (part, recs) = (out.0, &out.1);
     let before = number(session.numbers.as_slice(), part);
     let after = number_after(before, recs)?;
     let numbers = with_next_number(alloc, session.numbers.as_slice(), part, after)?;

@@ -16,7 +16,7 @@ use crate::requests::{add_part, append_output, send_offsets};
 use ks_cluster::Work;
 use ks_commit::Frozen;
 use ks_edge::Gate;
-use ks_row::{PartId, Rec, Seq, TaskId};
+use ks_row::{PartId, SharedRecords, TaskId};
 use ks_shared::Shared;
 use ks_worker_client::{Member, Session};
 use std::alloc::Global;
@@ -59,7 +59,7 @@ fn append_if_in<R: Wait, W: Work, G: Gate>(
     session: &mut Session<W, G>,
     member: Member,
     place: (TaskId, PartId),
-    out: &(PartId, Seq<Rec>),
+    out: &(PartId, SharedRecords),
 ) -> Result<(), Halt>
     requires may { MayRequest shared.now.growing.id member.number session.old }
     requires part { IsPart (setup_in W.plan session.old.client.pass.frame) out.now.0 }
@@ -87,7 +87,7 @@ fn append_outputs<R: Wait, W: Work, G: Gate>(
     session: &mut Session<W, G>,
     member: Member,
     place: (TaskId, PartId),
-    outputs: &[(PartId, Seq<Rec>)],
+    outputs: &[(PartId, SharedRecords)],
 ) -> Result<(), Halt>
     requires may { MayRequest shared.now.growing.id member.number session.old }
     requires parts { All (λ out. IsPart (setup_in W.plan session.old.client.pass.frame) out.0)

@@ -1,4 +1,4 @@
-use Rattle.std.proofs.Common.{◌≡◌, ◌+◌, [], ◌∷◌, length, get_or, refl, ap, ◌∙◌, arith}
+use Rattle.std.proofs.Common.{◌≡◌, ℕ, ◌+◌, [], ◌∷◌, length, get_or, refl, ap, ◌∙◌, arith}
 use Rattle.std.proofs.lemmas.List.{get_or_read}
 use Rattle.ks_history.specs.declared.journal.Reply.TheVariants.{Done}
 use Rattle.ks_history.specs.Reads.{end_of}
@@ -29,5 +29,6 @@ returns-clause-sending g c =
     let s = put_sends g.W.Work.plan c.args.cluster.now c.add.new.cluster c.args.publisher.now c.args.task c.args.part c.args.recs.now c.number-before.result Done c.requires.sending (c.number-before.ensures ∙ ap (number_in c.args.part) c.as_slice.ensures.value) c.in_ok-add.ensures.ok c.append.new.cluster _ c.in_ok-append.ensures.ok in
     sending_more plan c.args.cluster.now c.append.new.cluster c.args.publisher.now c.requires.sending (c.args.part ∷ []) ((c.args.task, c.args.part, c.args.recs.now) ∷ []) [] s _ refl refl refl
     (numbers_rise (state_of plan c.args.cluster.now) (state_of plan c.append.new.cluster) c.args.publisher.now.worker c.args.publisher.now.epoch c.args.part c.args.task c.args.recs.now c.number-before.result _ c.args.publisher.now.numbers.items c.in_ok-numbers.numbers.items
-    c.requires.sending.numbers (c.number-before.ensures ∙ ap (number_in c.args.part) c.as_slice.ensures.value) refl (c.in_ok-numbers.ensures ∙ ap (renumber c.args.part (c.number-before.result + length c.args.recs.now)) c.as_slice-2.ensures.value)
+    c.requires.sending.numbers (c.number-before.ensures ∙ ap (number_in c.args.part) c.as_slice.ensures.value) refl (c.in_ok-numbers.ensures ∙ (ap (λ (n : ℕ). renumber c.args.part (c.number-before.result + n) c.as_slice-2.result.now) c.len.ensures
+    ∙ ap (renumber c.args.part (c.number-before.result + length c.args.recs.now)) c.as_slice-2.ensures.value))
     (put_counts plan c.args.cluster.now c.append.new.cluster c.args.publisher.now (c.args.part ∷ []) ((c.args.task, c.args.part, c.args.recs.now) ∷ []) c.requires.sending s))

@@ -1,5 +1,5 @@
 use Rattle.std.proofs.Common.{◌≡◌, ℕ, List, [], ◌∷◌, refl, sym, ap, ◌∙◌, subst, arith, rules}
-use Rattle.ks_row.specs.declared.record.Rec.{Rec}
+use Rattle.ks_row.specs.Records.{Record as Rec}
 use Rattle.ks_row.specs.declared.record.PartId.{PartId}
 use Rattle.ks_history.specs.State.{Setup, IsPart}
 use Rattle.ks_cluster.specs.View.{setup_of}
@@ -27,8 +27,7 @@ loop-out-preserved g c =
     record {
       whole = one_taken c.loop-out.yielded c.loop-out.out-iterator.rest.items c.args.outputs.items c.next.new.self.rest.items x inv.whole c.in-Some.ensures.steps.0;
       sends = outs_more g.W.Work.plan c.args.cluster.now c.loop-out.cluster c.put.new.cluster c.args.publisher.now.worker c.args.task c.loop-out.yielded x inv.sends
-          (subst (λ (rs : List Rec). Sends g.W.Work.plan c.loop-out.cluster c.put.new.cluster c.args.publisher.now.worker (x.0 ∷ []) ((c.args.task, x.0, rs) ∷ []) []) c.as_slice.ensures
-          (subst (λ (w : ℕ). Sends g.W.Work.plan c.loop-out.cluster c.put.new.cluster w (x.0 ∷ []) ((c.args.task, x.0, c.as_slice.result.now) ∷ []) []) inv.same.0 c.in_ok-put.ensures.sends));
+          (subst (λ (w : ℕ). Sends g.W.Work.plan c.loop-out.cluster c.put.new.cluster w (x.0 ∷ []) ((c.args.task, x.0, x.1) ∷ []) []) inv.same.0 c.in_ok-put.ensures.sends);
       sending = c.in_ok-put.ensures.sending;
       same = (c.in_ok-put.ensures.same.0 ∙ inv.same.0, c.in_ok-put.ensures.same.1 ∙ inv.same.1, c.in_ok-put.ensures.same.2 ∙ inv.same.2);
     }

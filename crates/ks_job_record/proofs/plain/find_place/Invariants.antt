@@ -1,9 +1,8 @@
-use Rattle.std.proofs.Common.{◌≡◌, ◌+◌, length}
+use Rattle.std.proofs.Common.{◌≡◌, drop, map}
+use Rattle.ks_row.specs.Fields.{member_seen}
 use Rattle.ks_job_record.specs.PlainRows.{place_among}
 use Rattle.ks_job_record.proofs.plain.find_place.Given as goal
 
-abbrev pub invariant-loop-rest : goal.invariant-loop-rest
-invariant-loop-rest l = record { found : place_among l.place l.name l.rest ≡ place_among 0 l.name l.fields; count : l.place + length l.rest ≡ length l.fields }
-
-abbrev pub decreases-loop-rest : goal.decreases-loop-rest
-decreases-loop-rest l = length l.rest
+-- the members from here on decide
+abbrev pub invariant-loop-place : goal.invariant-loop-place
+invariant-loop-place l = place_among l.place l.name (drop l.place (map member_seen l.fields)) ≡ place_among 0 l.name (map member_seen l.fields)

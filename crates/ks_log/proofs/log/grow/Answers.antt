@@ -22,7 +22,7 @@ returns-then-at-len-clause-ok c =
     let there : place c.args.part parts < length parts = omega (arith, c.requires, c.if-at-len.true, c.len.ensures, c.args.parts.now.ok.0) in
     let is = c.index_mut-written.ensures.value ∙ ap (λ n. get_or parts n written) c.requires in
     log_appended-is c.args.part b parts _ written c.append.new.self there
-    (c.in_ok-answer.ensures.ok ∙ ap (λ (w : Written). appended b.producer b.epoch b.number b.task b.recs.items w.slots) is)
+    (c.in_ok-answer.ensures.ok ∙ ap (λ (w : Written). appended b.producer b.epoch b.number b.task b.recs w.slots) is)
     (ap (λ (w : Written). set parts c.args.at (record { part = w.part; slots = c.append.new.self })) is ∙ ap (λ n. set parts n (record { part = (get_or parts (place c.args.part parts) written).part; slots = c.append.new.self })) c.requires)
 
 pub returns-then-is_err-clause-answer : goal.returns-then-is_err-clause-answer
@@ -51,4 +51,4 @@ returns-clause-ok c =
     let answer = c.in_ok-answer-2.ensures.answer ∙ ap (append_answer b.producer b.epoch b.number) c.new-slots.ensures in
     log_appended-new c.args.part b c.args.parts.now.items c.push.new.self.items c.append-2.new.self beyond
     (is_taken b.producer b.epoch b.number [] c.in_ok-answer-2.answer answer (sym c.is_err.ensures.value ∙ c.if-is_err.false))
-    (c.in_ok-answer-2.ensures.ok ∙ ap (appended b.producer b.epoch b.number b.task b.recs.items) c.new-slots.ensures) c.in_ok-push.ensures.items
+    (c.in_ok-answer-2.ensures.ok ∙ ap (appended b.producer b.epoch b.number b.task b.recs) c.new-slots.ensures) c.in_ok-push.ensures.items

@@ -1,4 +1,4 @@
-use Rattle.std.proofs.Common.{◌≡◌, sym}
+use Rattle.std.proofs.Common.{sym}
 use Rattle.ks_row.specs.Reading.{members_at}
 use Rattle.ks_row.proofs.Loop.{goes_on, ends, is_done}
 use Rattle.ks_row.proofs.reading.read_members.Goals as goal

@@ -8,5 +8,5 @@ use Rattle.ks_run.proofs.settling.end_by.Goals as goal
 
 pub returns-in-Whole : goal.returns-in-Whole
 returns-in-Whole g c =
-    subst (λ (e : JobEnd). IfOk c.end_settled.result (λ a. EndsBy g.W.Work.plan g.W.Work.good (rules_of g.H.Hash128.hash_of) c.args.shown (draft_of c.args.topology.now) c.args.cluster e a.status a.text.items a.journal))
+    subst (λ (e : JobEnd). IfOk c.end_settled.result (λ a. EndsBy g.W.Work.plan g.W.Work.good (rules_of g.H.Hash128.hash_of) c.args.shown (draft_of c.args.topology.now) c.args.ended.cluster e a.status a.text.items a.journal))
     (sym c.in-Whole.is) c.end_settled.ensures

@@ -3,7 +3,7 @@ use Rattle.std.proofs.lemmas.Result.{IfOk-weaker}
 use Rattle.ks_topo.specs.Topologies.{draft_of}
 use Rattle.ks_cluster.specs.View as kept
 use Rattle.ks_run.specs.Told.{with_lines}
-use Rattle.ks_run.proofs.Settles.{nodes_ready, alone_ready, drained_setup, is_of}
+use Rattle.ks_run.proofs.Settles.{nodes_ready, alone_ready, drained_setup, is_of, all_given}
 use Rattle.ks_run.proofs.settling.end_settled.Goals as goal
 
 pub drain-requires-clause-parts : goal.drain-requires-clause-parts
@@ -13,6 +13,9 @@ pub drain-requires-clause-alone : goal.drain-requires-clause-alone
 drain-requires-clause-alone g c κs within =
     let wanted = c.requires.placing in
     alone_ready (g.W.Work.good c.args.cluster.work) wanted.0 (draft_of c.args.topology.now) c.args.cluster.tasks wanted.2 (ap (λ s. s.tasks) c.requires.setup) c.nodes-nodes.ensures.well_formed wanted.1
+
+pub drain-requires-clause-replicas : goal.drain-requires-clause-replicas
+drain-requires-clause-replicas g c κs within = all_given (kept.setup_of g.W.Work.plan c.args.cluster) c.args.cluster.journal c.args.replicas.items c.requires.replicas
 
 pub judge-requires-clause-of : goal.judge-requires-clause-of
 judge-requires-clause-of g c κs within =

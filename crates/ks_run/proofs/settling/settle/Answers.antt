@@ -1,4 +1,4 @@
-use Rattle.std.proofs.Common.{◌∙◌, map, refl}
+use Rattle.std.proofs.Common.{map, refl}
 use Rattle.std.proofs.lemmas.Result.{IfOk-weaker}
 use Rattle.ks_plan.specs.declared.node.TopicInfo.{TopicInfo}
 use Rattle.ks_plan.specs.Infos.{topic_infos}
@@ -41,8 +41,8 @@ end_by-requires-clause-setup g c κs within =
     let hash = g.H.Hash128.hash_of in
     let placing = placing_of c.args.crew.settings in
     let begun = has_begun hash g.W.Work.plan g.W.Work.good placing d c.args.work c.in_ok-empty.empty c.in_ok-empty.ensures c.requires.work c.requires.placing in
-    filled_start hash g.W.Work.plan g.W.Work.good placing c.args.crew.settings.journal d c.in_ok-empty.empty c.in-Ok.cluster c.args.intake
-    (g.S.Source.left c.args.input.now) (g.S.Source.left c.run_workers.new.input) c.in-Ok.end begun.start begun.wanted c.requires.job c.in-Ok.ensures.worked
+    filled_start hash g.W.Work.plan g.W.Work.good placing c.args.crew.settings.journal d c.in_ok-empty.empty c.in_ok-ended.ended.cluster c.args.intake
+    (g.S.Source.left c.args.input.now) (g.S.Source.left c.run_workers.new.input) c.in_ok-ended.ended.end begun.start begun.wanted c.requires.job c.in_ok-ended.ensures.worked
 
 pub end_by-requires-clause-placing : goal.end_by-requires-clause-placing
 end_by-requires-clause-placing g c κs within =
@@ -52,8 +52,8 @@ end_by-requires-clause-placing g c κs within =
     let begun = has_begun hash g.W.Work.plan g.W.Work.good placing d c.args.work c.in_ok-empty.empty c.in_ok-empty.ensures c.requires.work c.requires.placing in (
       placing,
       c.requires.settings.threads.0,
-      filled_wanted hash g.W.Work.plan g.W.Work.good placing c.args.crew.settings.journal d c.in_ok-empty.empty c.in-Ok.cluster c.args.intake
-          (g.S.Source.left c.args.input.now) (g.S.Source.left c.run_workers.new.input) c.in-Ok.end begun.start begun.wanted c.requires.job c.in-Ok.ensures.worked,
+      filled_wanted hash g.W.Work.plan g.W.Work.good placing c.args.crew.settings.journal d c.in_ok-empty.empty c.in_ok-ended.ended.cluster c.args.intake
+          (g.S.Source.left c.args.input.now) (g.S.Source.left c.run_workers.new.input) c.in_ok-ended.ended.end begun.start begun.wanted c.requires.job c.in_ok-ended.ensures.worked,
     )
 
 pub returns : goal.returns
@@ -63,7 +63,7 @@ returns g c =
     let placing = placing_of c.args.crew.settings in
     let begun = has_begun hash g.W.Work.plan g.W.Work.good placing d c.args.work c.in_ok-empty.empty c.in_ok-empty.ensures c.requires.work c.requires.placing in
     IfOk-weaker c.end_by.result _ _
-    (λ a h. ran_so hash g.W.Work.plan g.W.Work.good placing c.args.crew.settings.journal d c.in_ok-empty.empty c.in-Ok.cluster c.args.intake
-    (g.S.Source.left c.args.input.now) (g.S.Source.left c.run_workers.new.input) c.in-Ok.end begun.start begun.wanted c.requires.job c.in-Ok.ensures.worked
-    c.nodes-nodes.ensures.well_formed c.topology_fits.ensures c.hashes_fit.ensures (g.S.Source.faults c.args.input.now) (g.S.Source.faults c.run_workers.new.input) a.status a.text.items a.journal c.in-Ok.ensures.faults h)
+    (λ a h. ran_so hash g.W.Work.plan g.W.Work.good placing c.args.crew.settings.journal d c.in_ok-empty.empty c.in_ok-ended.ended.cluster c.args.intake
+    (g.S.Source.left c.args.input.now) (g.S.Source.left c.run_workers.new.input) c.in_ok-ended.ended.end begun.start begun.wanted c.requires.job c.in_ok-ended.ensures.worked
+    c.nodes-nodes.ensures.well_formed c.topology_fits.ensures c.hashes_fit.ensures (g.S.Source.faults c.args.input.now) (g.S.Source.faults c.run_workers.new.input) a.status a.text.items a.journal c.in_ok-ended.ensures.faults h)
     c.end_by.ensures

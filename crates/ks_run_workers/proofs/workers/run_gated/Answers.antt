@@ -1,6 +1,7 @@
-use Rattle.std.proofs.Common.{refl, sym, subst, arith}
+use Rattle.std.proofs.Common.{refl, sym, ap, subst, ◌∙◌, arith}
 use Rattle.std.proofs.lemmas.Result.{IfOk-weaker}
 use Rattle.ks_topo.specs.Topologies.{draft_of}
+use Rattle.ks_cluster.specs.View.{setup_of}
 use Rattle.ks_shared.specs.Calls.{frame_of}
 use Rattle.ks_run_workers.proofs.Fresh.{first_fresh, fresh_seen, fresh_feeder}
 use Rattle.ks_run_workers.proofs.Produced.{none_parked}
@@ -57,10 +58,16 @@ work_and_close-requires-clause-all g c κs within =
     let many = members_long (λ m. m.worker.state.session.client.pass) c.in_ok-members.members.items others c.count_workers.result c.in_ok-members.ensures.passes long in
     omega (arith, many, c.in-Ok.ensures.passes)
 
+pub work_and_close-requires-clause-topology : goal.work_and_close-requires-clause-topology
+work_and_close-requires-clause-topology g c κs within = record {
+  parts = c.requires.ready.nodes;
+  setup_is = ap (setup_of g.W.Work.plan) c.in-Ok.ensures.first ∙ c.requires.ready.topology;
+}
+
 pub returns-clause-worked : goal.returns-clause-worked
 returns-clause-worked g c =
     let lock = c.in-Ok.shared.growing.id in
     let fresh = first_fresh lock c.args.cluster.journal (frame_of c.args.cluster) c.in-Ok.passes.items _ c.split_first-pass.result.0 c.split_first-pass.ensures c.in-Ok.ensures.fresh in
     IfOk-weaker c.work_and_close.result _ _
-    (λ r h. worked (draft_of c.args.topology.now) c.args.cluster c.in-Ok.shared.growing.first r.0 c.args.intake _ _ _ r.1 c.requires.ready.new c.in-Ok.ensures.first (fresh_seen g.W.Work.plan lock c.args.cluster 0 c.split_first-pass.result.0 fresh) refl refl h)
+    (λ r h. worked (draft_of c.args.topology.now) c.args.cluster c.in-Ok.shared.growing.first r.cluster c.args.intake _ _ _ r.end c.requires.ready.new c.in-Ok.ensures.first (fresh_seen g.W.Work.plan lock c.args.cluster 0 c.split_first-pass.result.0 fresh) refl refl h)
     c.work_and_close.ensures.fed

@@ -1,8 +1,5 @@
-use Rattle.ks_settle.proofs.Feeding.{new_replica, one_reached, own_changelog, own_replica}
+use Rattle.ks_settle.proofs.Feeding.{one_reached, own_changelog, own_replica}
 use Rattle.ks_settle.proofs.restoring.fed_replica.Goals as goal
-
-pub loop-i-init : goal.loop-i-init
-loop-i-init g c = new_replica g.W.Work.plan c.args.cluster.now c.requires.quiet c.journal-journal.ensures.history c.args.task c.args.changelogs.now c.in_ok-replica.replica c.requires.there c.requires.changelogs c.in_ok-replica.ensures.view c.in_ok-replica.ensures.changelogs
 
 pub feed_to_end-requires-clause-own : goal.feed_to_end-requires-clause-own
 feed_to_end-requires-clause-own g c =

@@ -1,4 +1,3 @@
-use Rattle.std.proofs.Common.{arith}
 use Rattle.ks_task.proofs.Holding.{held_empty}
 use Rattle.ks_task.proofs.changelogs.+hold_bytes.Goals as goal
 

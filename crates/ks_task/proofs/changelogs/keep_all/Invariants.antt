@@ -1,9 +1,7 @@
-use Rattle.std.proofs.Common.{◌≡◌, length}
+use Rattle.std.proofs.Common.{◌≡◌, drop}
 use Rattle.ks_def_tasks.specs.Bytes.{keep_all, records_at}
 use Rattle.ks_task.proofs.changelogs.keep_all.Given as goal
 
-abbrev pub invariant-loop-rest : goal.invariant-loop-rest
-invariant-loop-rest l = keep_all l.store (records_at l.part l.rest) ≡ keep_all l.initial.store (records_at l.part l.made)
-
-abbrev pub decreases-loop-rest : goal.decreases-loop-rest
-decreases-loop-rest l = length l.rest
+-- what is left to keep, from here, is what was to be kept
+abbrev pub invariant-loop-place : goal.invariant-loop-place
+invariant-loop-place l = keep_all l.store (records_at l.part (drop l.place l.made)) ≡ keep_all l.initial.store (records_at l.part (drop l.from l.made))

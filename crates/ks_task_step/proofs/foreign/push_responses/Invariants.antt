@@ -6,4 +6,4 @@ use Rattle.ks_task_step.specs.Steps.{sent_by}
 use Rattle.ks_task_step.proofs.foreign.push_responses.Given as goal
 
 abbrev pub invariant-loop-left : goal.invariant-loop-left
-invariant-loop-left l = l.out.items ++ flat_map (sent_by (node_view l.node) l.time) (send_responses l.node.topics.number (drop l.left-index l.responses)) ≡ l.initial.out.items ++ flat_map (sent_by (node_view l.node) l.time) (send_responses l.node.topics.number l.responses)
+invariant-loop-left l = l.out ++ flat_map (sent_by (node_view l.node) l.time) (send_responses l.node.topics.number (drop l.left-index l.responses)) ≡ l.initial.out ++ flat_map (sent_by (node_view l.node) l.time) (send_responses l.node.topics.number l.responses)

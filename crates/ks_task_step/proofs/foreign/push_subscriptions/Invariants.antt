@@ -4,4 +4,4 @@ use Rattle.ks_task_step.specs.Steps.{asked_by}
 use Rattle.ks_task_step.proofs.foreign.push_subscriptions.Given as goal
 
 abbrev pub invariant-loop-foreign : goal.invariant-loop-foreign
-invariant-loop-foreign l = l.out.items ++ map (asked_by (node_view l.node) l.time) (drop l.foreign-index l.asked) ≡ l.initial.out.items ++ map (asked_by (node_view l.node) l.time) l.asked
+invariant-loop-foreign l = l.out ++ map (asked_by (node_view l.node) l.time) (drop l.foreign-index l.asked) ≡ l.initial.out ++ map (asked_by (node_view l.node) l.time) l.asked

@@ -1,19 +1,37 @@
-use Rattle.std.proofs.Common.{◌≡◌, List, Option, map, subst, ap, ◌∙◌}
-use Rattle.std.specs.Prelude.{IfOk}
-use Rattle.ks_def_tasks.specs.Messages.{Stored}
-use Rattle.ks_def_tasks.specs.Step.{step_key}
-use Rattle.ks_def_lookups.specs.Lists.{item_in}
+use Rattle.std.proofs.Common.{◌≡◌, ◌++◌, List, map, subst, sym, ap, ap₂, ◌∙◌}
+use Rattle.std.specs.Prelude.{OnOk}
+use Rattle.ks_row.specs.Records.{Record as Rec}
+use Rattle.ks_row.specs.declared.record.PartId.{PartId}
 use Rattle.ks_def_tasks.specs.Rules.{rules_of}
-use Rattle.ks_task_nodes.specs.declared.values.StoredValue.{StoredValue}
+use Rattle.ks_def_tasks.specs.Step.{Values}
+use Rattle.ks_def_lookups.specs.Lists.{item_in}
 use Rattle.ks_task_nodes.specs.Nodes.{node_view}
-use Rattle.ks_task_nodes.specs.Records.{arrival_of, message_of}
-use Rattle.ks_task_nodes.specs.Stored.{views, stored_in, in_list}
-use Rattle.ks_task_step.specs.Steps.{made_at}
+use Rattle.ks_task_nodes.specs.Reach.{SameValues}
+use Rattle.ks_task_nodes.specs.Records.{arrival_of}
+use Rattle.ks_task_nodes.specs.Stored.{views}
 use Rattle.ks_store.specs.Changelogs.{stores_in}
+use Rattle.ks_task_step.specs.declared.live.LiveValue.{LiveValue}
+use Rattle.ks_task_step.specs.Steps.{olds_at, live_olds, live_news, made_with}
 use Rattle.ks_task_step.proofs.processing.process_items.Goals as goal
+
+pub push_output-requires-clause-quiet : goal.push_output-requires-clause-quiet
+push_output-requires-clause-quiet g c =
+    let step = c.args.step.now in
+    let olds = olds_at step in
+    record {
+      none = c.requires.items;
+      same = subst (λ (xs : List LiveValue). SameValues step.live.now (live_olds olds xs) (live_news olds xs)) (sym c.as_slice.ensures.value)
+          (subst (λ (o : Values). SameValues step.live.now o (live_news olds c.in_ok-live.live.items)) (sym c.in_ok-live.ensures.olds) c.in_ok-live.ensures.same);
+    }
 
 pub returns-clause-records : goal.returns-clause-records
 returns-clause-records g c =
     let step = c.args.step.now in
-    subst (λ (os : List (Option Stored)). IfOk c.process_stored.result (λ v. v.records.items ≡ made_at (rules_of g.H.Hash128.hash_of) (map node_view step.nodes.now) (stores_in step.changelogs.now) step.partition (arrival_of step.stamped.now) (item_in (views c.args.items.now)) (in_list os) (step_key (message_of step.stamped.now.payload))))
-    (ap (λ (os : List (Option StoredValue)). map stored_in os) c.as_slice.ensures.value ∙ c.in_ok-olds.ensures) c.process_stored.ensures.records
+    let olds = olds_at step in
+    let nodes = map node_view step.nodes.now in
+    let items = item_in (views c.args.items.now) in
+    subst (λ (xs : List (PartId × Rec)). OnOk c.push_output.result (c.push_output.new.out ≡ c.args.out.now ++ xs))
+    (ap₂ (λ (o n : Values). made_with (rules_of g.H.Hash128.hash_of) nodes (stores_in step.changelogs.now) step.partition (arrival_of step.stamped.now) items o n)
+    (ap (λ (xs : List LiveValue). live_olds olds xs) c.as_slice.ensures.value ∙ c.in_ok-live.ensures.olds)
+    (ap (λ (xs : List LiveValue). live_news olds xs) c.as_slice.ensures.value ∙ c.in_ok-live.ensures.news))
+    c.push_output.ensures.records

@@ -6,4 +6,4 @@ use Rattle.ks_task_step.specs.Steps.{sent_by}
 use Rattle.ks_task_step.proofs.sends.push_deltas.Given as goal
 
 abbrev pub invariant-loop-group : goal.invariant-loop-group
-invariant-loop-group l = l.out.items ++ flat_map (sent_by (node_view l.node) l.time) (send_deltas l.node.topics.number (drop l.group-index l.deltas)) ≡ l.initial.out.items ++ flat_map (sent_by (node_view l.node) l.time) (send_deltas l.node.topics.number l.deltas)
+invariant-loop-group l = l.out ++ flat_map (sent_by (node_view l.node) l.time) (send_deltas l.node.topics.number (drop l.group-index l.deltas)) ≡ l.initial.out ++ flat_map (sent_by (node_view l.node) l.time) (send_deltas l.node.topics.number l.deltas)

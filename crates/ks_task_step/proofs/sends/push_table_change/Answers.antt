@@ -7,8 +7,8 @@ use Rattle.ks_task_step.specs.Steps.{olds_in, news_in, sent_by}
 use Rattle.ks_task_step.proofs.Looking.{nothing_moved}
 use Rattle.ks_task_step.proofs.sends.push_table_change.Goals as goal
 
-pub returns-else-is_other : goal.returns-else-is_other
-returns-else-is_other c =
+pub returns-else-is_changed : goal.returns-else-is_changed
+returns-else-is_changed c =
     let values = c.args.values.now in
-    let none = nothing_moved c.args.by.now (option_copied c.args.field) c.args.node.now.topics.number (row_in (olds_in values) c.args.from) (row_in (news_in values) c.args.from) (sym c.in_ok-is_other.ensures ∙ c.if-is_other.false) in
-    sym (append-nil c.args.out.now.items) ∙ ap (λ xs. c.args.out.now.items ++ flat_map (sent_by (node_view c.args.node.now) c.args.time) xs) (sym none)
+    let none = nothing_moved c.args.by.now (option_copied c.args.field) c.args.node.now.topics.number (row_in (olds_in values) c.args.from) (row_in (news_in values) c.args.from) (sym c.is_changed.ensures ∙ c.if-is_changed.false) in
+    sym (append-nil c.args.out.now) ∙ ap (λ xs. c.args.out.now ++ flat_map (sent_by (node_view c.args.node.now) c.args.time) xs) (sym none)

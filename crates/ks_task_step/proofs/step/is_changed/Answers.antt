@@ -1,7 +1,13 @@
-use Rattle.std.proofs.Common.{arith}
-use Rattle.ks_task_step.specs.Steps.{olds_in}
-use Rattle.ks_task_step.proofs.Looking.{unchanged_row}
+use Rattle.ks_task_step.specs.Steps.{olds_at}
+use Rattle.ks_task_step.proofs.LiveValues.{change_there, change_stays}
 use Rattle.ks_task_step.proofs.step.is_changed.Goals as goal
 
+pub returns-in-Some : goal.returns-in-Some
+returns-in-Some c =
+    let values = c.args.values.now in
+    change_there (olds_at values.step.now) values.live.now c.args.number c.in-Some.live.now c.in-Some.ensures
+
 pub returns-in-None : goal.returns-in-None
-returns-in-None c = unchanged_row (olds_in c.args.values.now) c.args.values.now.news.now c.args.number (omega (arith, c.in-None.ensures.lookup))
+returns-in-None c =
+    let values = c.args.values.now in
+    change_stays (olds_at values.step.now) values.live.now c.args.number c.in-None.ensures

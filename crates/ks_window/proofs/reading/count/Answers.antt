@@ -1,5 +1,5 @@
 use Rattle.std.proofs.Common.{◌≡◌, ◌≤◌, ℕ, List, [], ◌∷◌, zero, suc, length, drop, fold, refl, sym, ap, ◌∙◌, arith}
-use Rattle.ks_row.specs.declared.record.Rec.{Rec}
+use Rattle.ks_row.specs.Records.{Record as Rec}
 use Rattle.ks_window.specs.Shape.{shape}
 use Rattle.ks_window.proofs.Once.{ReadCount, read_start, read_counted, read_same}
 use Rattle.ks_window.proofs.reading.count.Goals as goal
@@ -21,7 +21,7 @@ returns-clause-late g c =
     let w = shape c.args.window.now in
     let m = g.S.KvStore.contents c.args.store.now in
     let same = read_same w m c.args.key.now c.args.t c.requires.some c.as_str-text.ensures.key (omega (arith, c.ranges.t.fits)) in
-    let out = ended (read_start w m c.args.t c.later_of-now.result c.args.key.now) c.loop-start.late c.loop-start.recs.items c.deref-start-items.result.now c.loop-start.start-index (read_counted w m c.args.key.now c.args.t) c.loop-start-test.false c.loop-start.invariant.rest in
+    let out = ended (read_start w m c.args.t c.later_of-now.result c.args.key.now) c.loop-start.late c.loop-start.recs c.deref-start-items.result.now c.loop-start.start-index (read_counted w m c.args.key.now c.args.t) c.loop-start-test.false c.loop-start.invariant.rest in
     ap (λ (r : ReadCount). r.late) out ∙ sym same.late
 
 pub returns-clause-recs : goal.returns-clause-recs
@@ -29,5 +29,5 @@ returns-clause-recs g c =
     let w = shape c.args.window.now in
     let m = g.S.KvStore.contents c.args.store.now in
     let same = read_same w m c.args.key.now c.args.t c.requires.some c.as_str-text.ensures.key (omega (arith, c.ranges.t.fits)) in
-    let out = ended (read_start w m c.args.t c.later_of-now.result c.args.key.now) c.loop-start.late c.loop-start.recs.items c.deref-start-items.result.now c.loop-start.start-index (read_counted w m c.args.key.now c.args.t) c.loop-start-test.false c.loop-start.invariant.rest in
+    let out = ended (read_start w m c.args.t c.later_of-now.result c.args.key.now) c.loop-start.late c.loop-start.recs c.deref-start-items.result.now c.loop-start.start-index (read_counted w m c.args.key.now c.args.t) c.loop-start-test.false c.loop-start.invariant.rest in
     ap (λ (r : ReadCount). r.recs) out ∙ sym same.recs

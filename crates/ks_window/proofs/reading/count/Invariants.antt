@@ -1,5 +1,5 @@
 use Rattle.std.proofs.Common.{◌≡◌, ◌≤◌, ℕ, List, fold, drop}
-use Rattle.ks_row.specs.declared.record.Rec.{Rec}
+use Rattle.ks_row.specs.Records.{Record as Rec}
 use Rattle.ks_def_runs.specs.Bytes.{Store}
 use Rattle.ks_plan.specs.Plan.{Window}
 use Rattle.ks_query.specs.Streams.{Key}
@@ -12,4 +12,4 @@ pub record Reading (window : Window) (store : Store) (key : Key) (t now late ind
   pub rest : fold (read_start window store t now key) (record { late = late; recs = recs }) (drop index all) ≡ read_counted window store key t
 
 abbrev pub invariant-loop-start : goal.invariant-loop-start
-invariant-loop-start g l = Reading (shape l.window) (g.S.KvStore.contents l.store) l.key l.t l.now l.late l.start-index l.recs.items l.start-items
+invariant-loop-start g l = Reading (shape l.window) (g.S.KvStore.contents l.store) l.key l.t l.now l.late l.start-index l.recs l.start-items

@@ -12,7 +12,7 @@ pub invariant_of-self-2 : goal.invariant_of-self-2
 invariant_of-self-2 c =
     let b = c.args.batch in
     let parts = c.self.inside.parts.items in
-    let more : List Slot = sent_slots b.producer b.epoch b.number b.task b.recs.items in
+    let more : List Slot = sent_slots b.producer b.epoch b.number b.task b.recs in
     let taken : (b.number == count_sent b.producer b.epoch (slots_in c.args.part parts)) ≡ true =
     is_taken b.producer b.epoch b.number (slots_in c.args.part parts) c.in_ok-answer.answer c.in_ok-answer.ensures.answer (sym c.is_err.ensures.value ∙ c.if-is_err.false) in
     let all = ap total c.in_ok-answer.ensures.ok ∙ total-appended c.args.part b parts taken in
@@ -20,7 +20,7 @@ invariant_of-self-2 c =
     let at : c.in_ok-at.at ≡ place c.args.part parts = search rules in (
       record {
         empty_is = c.self.invariant.0.empty_is;
-        count_is = omega (arith, all, c.self.invariant.0.count_is, c.len-count.ensures, b.recs.ok.0);
+        count_is = omega (arith, all, c.self.invariant.0.count_is, c.len-count.ensures);
         few = omega (arith, same, c.self.invariant.0.count_is, c.in_ok-at.ensures.room);
       },
       seats-more c.self.inside.seats.items c.put_seat.new.seats.items c.args.part more parts c.grow.new.parts.items c.in_ok-at.at
@@ -36,4 +36,4 @@ returns-clause-few c =
     is_taken b.producer b.epoch b.number (slots_in c.args.part parts) c.in_ok-answer.answer c.in_ok-answer.ensures.answer (sym c.is_err.ensures.value ∙ c.if-is_err.false) in
     let all = ap total c.in_ok-answer.ensures.ok ∙ total-appended c.args.part b parts taken in
     let same = ap total c.self.view_is in
-    omega (arith, all, same, c.in_ok-at.ensures.room, c.len-count.ensures, b.recs.ok.0)
+    omega (arith, all, same, c.in_ok-at.ensures.room, c.len-count.ensures)

@@ -1,9 +1,8 @@
-use Rattle.std.proofs.Common.{refl, sym, ap, subst, ◌∙◌}
-use Rattle.ks_history.specs.Machine.{IsNetwork}
-use Rattle.ks_history.specs.State.{Setup}
+use Rattle.std.proofs.Common.{refl, sym, ◌∙◌}
 use Rattle.ks_topo.specs.Topologies.{draft_of}
+use Rattle.ks_settle.proofs.Given.{still_replicas}
 use Rattle.ks_settle.proofs.Members.{good_alone}
-use Rattle.ks_settle.proofs.Publishing.{drains_both, drains_by, drains_longer, same_setup}
+use Rattle.ks_settle.proofs.Publishing.{drains_both, drains_by, drains_longer}
 use Rattle.ks_settle.proofs.Starting.{resting_first, still_tasks, still_may}
 use Rattle.ks_settle.proofs.draining.TaskManager.start.Goals as goal
 
@@ -48,6 +47,14 @@ restore_tasks-requires-clause-of g c κs within =
     let one = still_tasks plan d 0 c.args.cluster.now c.remove_workers.new.cluster c.remove_workers.ensures.on c.requires.of in
     let two = still_tasks plan d 0 c.remove_workers.new.cluster c.write_all_markers.new.cluster c.write_all_markers.ensures.on one in
     still_tasks plan d 0 c.write_all_markers.new.cluster c.start.new.cluster (drains_by 16 0 c.write_all_markers.new.cluster c.start.new.cluster started.more refl started.is started.publishing) two
+
+pub restore_tasks-requires-clause-replicas : goal.restore_tasks-requires-clause-replicas
+restore_tasks-requires-clause-replicas g c κs within =
+    let started = c.in_ok-publisher.ensures.started in
+    let on = drains_both 0 0 c.args.cluster.now c.write_all_markers.new.cluster c.start.new.cluster
+    (drains_both 0 0 c.args.cluster.now c.remove_workers.new.cluster c.write_all_markers.new.cluster c.remove_workers.ensures.on c.write_all_markers.ensures.on)
+    (drains_by 16 0 c.write_all_markers.new.cluster c.start.new.cluster started.more refl started.is started.publishing) in
+    still_replicas g.W.Work.plan 0 c.args.cluster.now c.start.new.cluster on c.requires.may.network c.journal-journal.ensures.history c.args.replicas.items c.requires.replicas
 
 pub returns-clause-resting : goal.returns-clause-resting
 returns-clause-resting g c =

@@ -34,7 +34,7 @@ returns-clause-task c =
 
 pub returns-clause-view : goal.returns-clause-view
 returns-clause-view c =
-    ap₂ (λ o m. view_of c.into_parts-changelogs.result.0 c.in-Ok-inputs_at.inputs.items c.into_parts-changelogs.result.1.items o m 0) c.new.ensures.items c.new-2.ensures.items
+    ap₂ (λ o m. view_of c.into_parts-changelogs.result.0 c.in-Ok-inputs_at.inputs.items c.into_parts-changelogs.result.1.items o m 0) c.new.ensures.items c.new-2.ensures
     ∙ ap (λ (i : List Input). view_of c.into_parts-changelogs.result.0 i c.into_parts-changelogs.result.1.items [] [] 0) c.in-Ok-inputs_at.ensures
     ∙ ap₂ (λ (t : TaskId) (l : List Changelog). view_of t (map input_at c.args.offsets.now) l [] [] 0) c.into_parts-changelogs.ensures.id c.into_parts-changelogs.ensures.changelogs
     ∙ restored_is c.args.replica.id c.args.offsets.now c.args.replica.changelogs.items

@@ -1,0 +1,12 @@
+use Rattle.std.proofs.Common.{arith}
+use Rattle.ks_row.specs.Records.{record_seen}
+use Rattle.ks_task.proofs.Placing.{kept_more, kept_through}
+use Rattle.ks_task.proofs.changelogs.keep_all.Goals as goal
+
+pub loop-place-preserved : goal.loop-place-preserved
+loop-place-preserved c =
+    kept_more c.args.part c.args.made.now c.loop-place.place c.part.result (record_seen c.get.result) c.loop-place.store c.keep_own.new.store _ (omega arith) c.part.ensures c.get.ensures
+    c.in_ok-keep_own.ensures c.loop-place.invariant
+
+pub returns : goal.returns
+returns c = kept_through c.args.part c.args.made.now c.loop-place.place c.loop-place.store _ (omega arith) c.loop-place.invariant

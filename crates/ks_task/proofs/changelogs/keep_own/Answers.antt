@@ -1,0 +1,11 @@
+use Rattle.std.proofs.Common.{sym, ◌∙◌}
+use Rattle.ks_row.specs.Records.{record_seen}
+use Rattle.ks_store.proofs.Applied.{on_ok}
+use Rattle.ks_task.proofs.Placing.{kept_own, passed_own}
+use Rattle.ks_task.proofs.changelogs.keep_own.Goals as goal
+
+pub returns-then-is : goal.returns-then-is
+returns-then-is c = on_ok c.keep_rec.result (λ e. kept_own c.args.store.now c.keep_rec.new.store c.args.part (c.args.at, record_seen c.args.rec) (sym c.is.ensures ∙ c.if-is.true) e) c.keep_rec.ensures
+
+pub returns-else-is : goal.returns-else-is
+returns-else-is c = passed_own c.args.store.now c.args.part (c.args.at, record_seen c.args.rec) (sym c.is.ensures ∙ c.if-is.false)

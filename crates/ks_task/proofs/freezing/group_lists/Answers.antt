@@ -1,0 +1,12 @@
+use Rattle.std.proofs.Common.{arith}
+use Rattle.ks_row.specs.Records.{record_seen}
+use Rattle.ks_task.proofs.Placing.{grouped_more, grouped_through}
+use Rattle.ks_task.proofs.freezing.group_lists.Goals as goal
+
+pub loop-place-preserved : goal.loop-place-preserved
+loop-place-preserved c =
+    grouped_more c.args.made.now c.loop-place.place c.part.result (record_seen c.get.result) c.loop-place.outs.items c.add_output.new.outs.items _ (omega arith) c.part.ensures c.get.ensures
+    c.in_ok-add_output.ensures c.loop-place.invariant
+
+pub returns : goal.returns
+returns c = grouped_through c.args.made.now c.loop-place.place c.loop-place.outs.items _ (omega arith) c.loop-place.invariant
