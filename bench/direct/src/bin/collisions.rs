@@ -1,30 +1,51 @@
 //! Keys that fall into one place of the program's hash table of so many keys: `collisions COUNT` prints them, a line each. The table's hash
-//! is SipHash-1-3 with both keys 0 of the key's length and its bytes, whose halves are xored; its lowest bits name one of 2^n groups, of
-//! nine keys each when the table is full. All that it prints have the group 0 in a table of COUNT keys.
-use std::collections::hash_map::DefaultHasher;
-use std::hash::Hasher;
+//! is the one of the kit's standard library: a multiplication for the key's length and one for each of its bytes, each folded to 64 bits;
+//! then its halves are xored. Its lowest bits name one of 2^n groups, of nine keys each when the table is full. All that it prints have the
+//! group 0 in a table of COUNT keys.
 use std::sync::atomic::{AtomicU64, Ordering};
 use std::sync::Mutex;
 
 const DIGITS: &[u8; 64] = b"0123456789abcdefghijklmnopqrstuvwxyzABCDEFGHIJKLMNOPQRSTUVWXYZ_-";
-// How many candidates a thread takes at once.
-const BATCH: u64 = 1 << 20;
+const MULTIPLIER: u64 = 0x9e37_79b9_7f4a_7c15;
+const SEED: u64 = 0x243f_6a88_85a3_08d3;
+// How many digits a key begins with that stay while the last ones are tried, and how many these are.
+const FRONT: usize = 6;
+const BACK: usize = 3;
 
-/// The key of a number: eight digits.
-fn key_of(number: u64) -> [u8; 8] {
-    let mut key = [0; 8];
-    for (i, digit) in key.iter_mut().enumerate() {
-        *digit = DIGITS[(number >> (6 * i) & 63) as usize];
-    }
-    key
+/// What a hash is after so many more bytes, at most eight, whose number is `word`.
+fn write(state: u64, word: u64, length: u64) -> u64 {
+    let product = u128::from(state ^ word) * u128::from(MULTIPLIER ^ 2 * length);
+    product as u64 ^ (product >> 64) as u64
 }
 
-fn place_of(key: &[u8], groups: u64) -> u64 {
-    let mut hasher = DefaultHasher::new();
-    hasher.write_usize(key.len());
-    hasher.write(key);
-    let hash = hasher.finish();
-    (hash ^ hash >> 32) & (groups - 1)
+/// What it is after one more byte, of which the hash takes the first, the middle and the last.
+fn write_byte(state: u64, byte: u8) -> u64 {
+    write(state, 0x01_01_01 * u64::from(byte), 1)
+}
+
+fn digit(number: u64, i: usize) -> u8 {
+    DIGITS[(number >> (6 * i) & 63) as usize]
+}
+
+/// The keys with this front that fall into the group 0 of so many.
+fn keys_of(front: u64, groups: u64) -> Vec<String> {
+    let mut key = [0; FRONT + BACK];
+    let mut begun = write(SEED, key.len() as u64, 8);
+    for i in 0..FRONT {
+        key[i] = digit(front, i);
+        begun = write_byte(begun, key[i]);
+    }
+    let mut found = Vec::new();
+    for back in 0..1 << (6 * BACK) {
+        let hash = (0..BACK).fold(begun, |state, i| write_byte(state, digit(back, i)));
+        if (hash ^ hash >> 32) & (groups - 1) == 0 {
+            for i in 0..BACK {
+                key[FRONT + i] = digit(back, i);
+            }
+            found.push(String::from_utf8_lossy(&key).into_owned());
+        }
+    }
+    found
 }
 
 fn main() {
@@ -39,15 +60,13 @@ fn main() {
         for _ in 0..std::thread::available_parallelism().map_or(1, usize::from) {
             scope.spawn(|| {
                 while found.lock().unwrap().len() < count {
-                    let first = next.fetch_add(BATCH, Ordering::Relaxed);
-                    let keys = (first..first + BATCH).map(key_of);
-                    let own: Vec<_> = keys.filter(|key| place_of(key, groups) == 0).collect();
+                    let own = keys_of(next.fetch_add(1, Ordering::Relaxed), groups);
                     found.lock().unwrap().extend(own);
                 }
             });
         }
     });
     for key in &found.into_inner().unwrap()[..count] {
-        println!("{}", std::str::from_utf8(key).expect("digits"));
+        println!("{key}");
     }
 }
