@@ -41,6 +41,9 @@ use std::alloc::{AllocError, Global};
 use std::sync::Wait;
 use std::thread::Threads;
 
+// The stores of the drain's tasks hold no write back.
+const NO_CACHE: u32 = 0;
+
 // Appends the lines of a journal, where they are asked for.
 fn push_lines(text: &mut Vec<u8>, entries: &[Entry], shown: bool) -> Result<(), AllocError>
     ensures { OnOk result (text.new.items ≡ text.old.items ++ lines_of shown entries.now) }
@@ -111,7 +114,7 @@ fn end_settled<H: Hash128 + Send + Sync, R: Threads + Sync, W: Work + Send + Syn
         (draft_of topology.now) cluster a.status a.text.items a.journal) }
 {
     let _nodes = topology.nodes();
-    drain::<H, R, W>(rt, alloc, topology, &mut cluster, replicas)?;
+    drain::<H, R, W>(rt, alloc, topology, &mut cluster, replicas, NO_CACHE)?;
     let verdict = judge::<H, R, W>(rt, alloc, topology, &cluster)?;
     end_run(rt, alloc, cluster, verdict, shown)
 }

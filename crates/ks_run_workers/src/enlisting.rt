@@ -14,6 +14,9 @@ use ks_words::Settings;
 use ks_worker::Worker;
 use std::alloc::{AllocError, Global};
 
+// The stores of a run's tasks hold no write back.
+const NO_CACHE: u32 = 0;
+
 // The instance of a worker, of instances that have so many threads each.
 fn instance_of(number: u8, threads: u8) -> u8
     requires some { 1 ≤ threads }
@@ -41,7 +44,7 @@ fn enlist_one<W: Work, G: Gate>(
     gate.reset(number, settings.chaos, settings.interval);
     let instance = instance_of(number, settings.threads);
     let placing = placing_of(settings);
-    let worker = Worker::new(alloc, number, instance, placing, gate, pass);
+    let worker = Worker::new(alloc, number, instance, placing, gate, pass, NO_CACHE);
     WorkerThread {
         worker,
         is_starved: false,

@@ -57,6 +57,7 @@ reads_not draft setup journal topic t apart of d = record {
   told = d.clean;
   may = tt;
   later = tt;
+  cache = refl;
 }
 
 -- one that stood at its end already
@@ -68,6 +69,7 @@ reads_none draft setup journal topic old new d r = record {
   told = subst (λ (t : Task). IsClean setup.plan (task_view t)) (sym (r.stays refl)) d.clean;
   may = tt;
   later = tt;
+  cache = r.cache;
 }
 
 -- one that has read on
@@ -85,4 +87,5 @@ reads_some draft setup journal topic moved old new f may d r frozen =
         parts = frozen_is_inside setup journal (task_view new) f may.inside full.stands frozen full.known;
       };
       later = λ q h. unnamed_part q f.outputs frozen.once (frozen.outputs q ∙ full.made q h);
+      cache = r.cache;
     }

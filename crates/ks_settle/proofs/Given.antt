@@ -16,7 +16,7 @@ use Rattle.ks_history.specs.History.{at, IsHistory}
 use Rattle.ks_history.proofs.Names.{same_task-is}
 use Rattle.ks_law_restore.proofs.Lasting.{replica_stands}
 use Rattle.ks_law_commit.proofs.Bounds.{replica_is_within}
-use Rattle.ks_store.specs.declared.changelogs.Changelog.{Changelog}
+use Rattle.ks_cache.specs.declared.changelogs.Changelog.{Changelog}
 use Rattle.ks_cluster.specs.View.{ClusterView, setup_of}
 use Rattle.ks_standby.specs.declared.replica.Replica.{Replica}
 use Rattle.ks_standby.specs.Replicas.{replica_view, positions_in, numbers_of}
@@ -69,14 +69,21 @@ pub at_place : (slice rs : List Replica) (t : TaskId) (found : Option ℕ) (i : 
 at_place slice rs t found i h is same = subst (λ l. StandsAt l t i) same (subst (λ o. IfSome o (StandsAt slice t)) is h)
 
 pub takes_one : (old new : List Replica) (t : TaskId) (i : ℕ) (r : Replica) → StandsAt old t i → r ≡ get_or old i r → new ≡ remove old i → TakesOf t old (Some r) new
-takes_one old new t i r at is left setup journal all = (
-  subst (All (IsReplicaAt setup journal)) (sym left)
-      (All-append (IsReplicaAt setup journal) (take i old) (drop (suc i) old) (All-take (IsReplicaAt setup journal) i old all) (All-drop (IsReplicaAt setup journal) (suc i) old all)),
-  replica_of setup journal t r (ap (λ (x : Replica). x.id) is ∙ at.named r) (subst (IsReplicaAt setup journal) (sym is) (all i r at.within)),
-)
+takes_one old new t i r at is left = record { place = i; at = at; is = is; left = left }
 
 pub takes_none : (old new : List Replica) (t : TaskId) → new ≡ old → TakesOf t old None new
-takes_none old new t same setup journal all = (subst (All (IsReplicaAt setup journal)) (sym same) all, tt)
+takes_none old new t same = same
+
+-- of replicas that follow a journal: so do those that are left, and what was taken is one of the task's
+given_one : (setup : Setup) (journal : List Entry) (old new : List Replica) (t : TaskId) (taken : Option Replica) → TakesOf t old taken new → All (IsReplicaAt setup journal) old →
+    All (IsReplicaAt setup journal) new × IfSome taken (IsReplicaOf setup journal t)
+given_one setup journal old new t None same all = (subst (All (IsReplicaAt setup journal)) (sym same) all, tt)
+given_one setup journal old new t (Some r) out all =
+    let i = out.place in (
+      subst (All (IsReplicaAt setup journal)) (sym out.left)
+          (All-append (IsReplicaAt setup journal) (take i old) (drop (suc i) old) (All-take (IsReplicaAt setup journal) i old all) (All-drop (IsReplicaAt setup journal) (suc i) old all)),
+      replica_of setup journal t r (ap (λ (x : Replica). x.id) out.is ∙ out.at.named r) (subst (IsReplicaAt setup journal) (sym out.is) (all i r out.at.within)),
+    )
 
 -- ---- one more task has what was taken
 pub one_named : (names : List TaskId) (i : ℕ) (t : TaskId) (all grown : List Restoration) (x : Restoration) → i < length names → x.name ≡ get_or names i t → grown ≡ all ++ x ∷ [] →
@@ -89,7 +96,7 @@ pub one_given : (setup : Setup) (journal : List Entry) (left rest : List Replica
     TakesOf t left taken rest → x.name ≡ t → x.replica ≡ taken → grown ≡ all ++ x ∷ [] →
     All (IsReplicaAt setup journal) left × AreGiven setup journal all → All (IsReplicaAt setup journal) rest × AreGiven setup journal grown
 one_given setup journal left rest t taken all grown x takes name replica is was =
-    let got = takes setup journal was.0 in
+    let got = given_one setup journal left rest t taken takes was.0 in
     let own : IsGiven setup journal x.name x.replica = subst (λ (u : TaskId). IsGiven setup journal u x.replica) (sym name) (subst (IsGiven setup journal t) (sym replica) got.1) in
     let P : Restoration → Type 0 = λ y. IsGiven setup journal y.name y.replica in
     (got.0, subst (All P) (sym is) (All-append P all (x ∷ []) was.1 (All-cons P x [] own (All-nil P))))

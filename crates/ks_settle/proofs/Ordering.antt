@@ -28,7 +28,7 @@ use Rattle.ks_commit.specs.declared.publisher.Publisher.{Publisher}
 use Rattle.ks_def_tasks.specs.Rules.{rules_of}
 use Rattle.ks_task.specs.declared.task.Task.{Task}
 use Rattle.ks_task.specs.Tasks.{task_view}
-use Rattle.ks_settle.specs.Drained.{MayDrain, ids, IsDrainedTo, AreResting, IsDraining, DrainsOn}
+use Rattle.ks_settle.specs.Drained.{MayDrain, ids, caches_in, IsDrainedTo, AreResting, IsDraining, DrainsOn}
 use Rattle.ks_settle.proofs.Topics.{raised, settled}
 use Rattle.ks_settle.proofs.Publishing.{drains_none, drains_both, same_setup}
 
@@ -88,7 +88,7 @@ module _ {W : Type 0} (plan : W → TaskPlan) (rules : Rules) (d : DraftView) (f
   inputs_of : (n : ℕ) (c : ClusterView W) → DrainsOn n first c → (sub u : ℕ) → has_topic u ((setup_of plan c).plan.inputs sub) ≡ true → has_topic u (input_numbers (plan_of d) sub) ≡ true
   inputs_of n c on sub u h = subst (λ (s : Setup). has_topic u (s.plan.inputs sub) ≡ true) (same_setup plan n first c on ∙ is) h
 
-  pub draining_first : (publisher : Publisher) (order : List ℕ) (ts : List Task) → AreResting plan first publisher d 0 ts → IsDraining plan first first publisher d order 0 ts
+  pub draining_first : (publisher : Publisher) (order : List ℕ) (ts : List Task) → AreResting plan first publisher d 0 ts → IsDraining plan first first publisher d (caches_in ts) order 0 ts
   draining_first publisher order ts r = record {
     on = drains_none 0 first;
     within = omega arith;
@@ -96,11 +96,12 @@ module _ {W : Type 0} (plan : W → TaskPlan) (rules : Rules) (d : DraftView) (f
     below = λ k h. absurd (omega (arith, h));
     above = λ k low h. omega arith;
     rest = r;
+    caches = refl;
   }
 
-  pub resting_at : (c : ClusterView W) (publisher : Publisher) (i topic : ℕ) (order : List ℕ) (ts : List Task) → IsDraining plan first c publisher d order i ts → order ≡ drain_numbers (plan_of d) → i < length order → topic ≡ slice_index order i →
+  pub resting_at : (c : ClusterView W) (publisher : Publisher) (i topic : ℕ) (cs order : List ℕ) (ts : List Task) → IsDraining plan first c publisher d cs order i ts → order ≡ drain_numbers (plan_of d) → i < length order → topic ≡ slice_index order i →
       AreResting plan c publisher d topic ts
-  resting_at c publisher i topic order ts dr o lt at = record {
+  resting_at c publisher i topic cs order ts dr o lt at = record {
     worker = dr.rest.worker;
     ready = dr.rest.ready;
     names = dr.rest.names;
@@ -128,23 +129,24 @@ module _ {W : Type 0} (plan : W → TaskPlan) (rules : Rules) (d : DraftView) (f
                   let up : IsStrictlyIncreasing order = subst IsStrictlyIncreasing (sym o) (drain_rises (plan_of d)) in
                   omega (arith, later order i k up (omega (arith, low-k, g)) within, value, at, high)
 
-  pub draining_on : (c new : ClusterView W) (publisher now : Publisher) (i topic : ℕ) (order : List ℕ) (ts after : List Task) → IsDraining plan first c publisher d order i ts → order ≡ drain_numbers (plan_of d) → i < length order → topic ≡ slice_index order i →
-      AreResting plan new now d (topic + 1) after → DrainsOn 1 c new → IsDraining plan first new now d order (i + 1) after
-  draining_on c new publisher now i topic order ts after dr o lt at r more = record {
+  pub draining_on : (c new : ClusterView W) (publisher now : Publisher) (i topic : ℕ) (cs order : List ℕ) (ts after : List Task) → IsDraining plan first c publisher d cs order i ts → order ≡ drain_numbers (plan_of d) → i < length order → topic ≡ slice_index order i →
+      AreResting plan new now d (topic + 1) after → caches_in after ≡ caches_in ts → DrainsOn 1 c new → IsDraining plan first new now d cs order (i + 1) after
+  draining_on c new publisher now i topic cs order ts after dr o lt at r same more = record {
     on = drains_both i 1 first c new dr.on more;
     within = omega (arith, lt);
     bound = topic + 1;
     below = λ k h. by k h (k == i) refl;
     above = λ k low h. let g = later order i k (subst IsStrictlyIncreasing (sym o) (drain_rises (plan_of d))) (omega (arith, low)) h in omega (arith, g, at);
     rest = r;
+    caches = same ∙ dr.caches;
   }
     where
       by : (k : ℕ) → k < i + 1 → (b : Bool) → (k == i) ≡ b → slice_index order k < topic + 1
       by k h true e = let g : k ≡ i = eqb-true k i e in omega (arith, ap (slice_index order) g, at)
       by k h false e = let g : (k ≡ i → ⊥) = eqb-false k i e in omega (arith, dr.below k (omega (arith, h, g)), dr.above i (omega arith) lt, at)
 
-  pub settled_last : (c : ClusterView W) (publisher : Publisher) (i : ℕ) (order : List ℕ) (ts : List Task) → IsDraining plan first c publisher d order i ts → order ≡ drain_numbers (plan_of d) → length order ≤ i → IsSettled (setup_of plan c) (state_of plan c)
-  settled_last c publisher i order ts dr o done =
+  pub settled_last : (c : ClusterView W) (publisher : Publisher) (i : ℕ) (cs order : List ℕ) (ts : List Task) → IsDraining plan first c publisher d cs order i ts → order ≡ drain_numbers (plan_of d) → length order ≤ i → IsSettled (setup_of plan c) (state_of plan c)
+  settled_last c publisher i cs order ts dr o done =
       settled (setup_of plan c) c.journal dr.bound (map task_view ts) low names all dr.rest.ready.alone.idle
     where
       low : (t : TaskId) (topic : ℕ) → has_topic topic ((setup_of plan c).plan.inputs t.sub) ≡ true → topic < dr.bound

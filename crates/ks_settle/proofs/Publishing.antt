@@ -1,5 +1,5 @@
 -- What a commit leaves between two topics.
-use Rattle.std.proofs.Common.{◌≡◌, ℕ, ◌+◌, ◌<◌, ◌≤◌, Bool, true, false, cond, List, [], ◌∷◌, ◌++◌, length, get_or, refl, sym, ap, subst, ◌∙◌, arith, append-nil, Option, Some, None}
+use Rattle.std.proofs.Common.{◌≡◌, ℕ, zero, suc, ◌+◌, ◌<◌, ◌≤◌, Bool, true, false, cond, List, [], ◌∷◌, ◌++◌, length, get_or, refl, sym, ap, subst, ◌∙◌, arith, append-nil, Option, Some, None}
 use Rattle.std.specs.Prelude.{◌==◌}
 use Rattle.std.proofs.Math.ListN.{set}
 use Rattle.std.specs.List.{All}
@@ -27,7 +27,7 @@ use Rattle.ks_commit.specs.Sending.{produce_none, publishes, all_publish, writes
 use Rattle.ks_commit.proofs.Entries.{later_setup, longer_both, longer_nothing, count_commits-append, markers_publish}
 use Rattle.ks_task.specs.declared.task.Task.{Task}
 use Rattle.ks_task.specs.Tasks.{task_view}
-use Rattle.ks_settle.specs.Drained.{IsDrainedTo, Rests, IsFull, told_view, ends_for, AreWorks, ArePublished, AreToldBy, AreToldTo, IsToldTask, AreReading, AreResting, MayDrain, IsOfTopology, drain_worker, is_of_drain, all_of_drain, DrainsOn, Extends}
+use Rattle.ks_settle.specs.Drained.{IsDrainedTo, caches_in, Rests, IsFull, told_view, ends_for, AreWorks, ArePublished, AreToldBy, AreToldTo, IsToldTask, AreReading, AreResting, MayDrain, IsOfTopology, drain_worker, is_of_drain, all_of_drain, DrainsOn, Extends}
 use Rattle.ks_settle.proofs.Told.{one_told}
 use Rattle.ks_settle.proofs.Topics.{quiet_on}
 use Rattle.ks_settle.proofs.Works.{set_id, same_default}
@@ -249,6 +249,17 @@ one_more_told draft worked es i all ts o w t lt at told = record {
 
 pub none_told : (draft : DraftView) (worked : List TaskId) (es : List (List (ℕ × ℕ))) (ts : List Task) → AreToldTo draft worked es 0 ts ts
 none_told draft worked es ts = record { names = refl; count = refl; told = λ k d high. absurd (omega (arith, high)); rest = λ k d low. refl }
+
+-- their stores hold back what they did
+same_caches : (old new : List Task) → length new ≡ length old → ((k : ℕ) (t : Task) → k < length old → (get_or new k t).cache ≡ (get_or old k t).cache) → caches_in new ≡ caches_in old
+same_caches [] [] count each = refl
+same_caches [] (y ∷ ys) count each = absurd (omega (arith, count))
+same_caches (x ∷ xs) [] count each = absurd (omega (arith, count))
+same_caches (x ∷ xs) (y ∷ ys) count each =
+    ap (λ c. c ∷ caches_in ys) (each 0 x (omega arith)) ∙ ap (λ l. x.cache ∷ l) (same_caches xs ys (omega (arith, count)) (λ k t lt. each (suc k) t (omega (arith, lt))))
+
+pub told_cached : (draft : DraftView) (worked : List TaskId) (es : List (List (ℕ × ℕ))) (all ts : List Task) → AreToldBy draft worked es all ts → caches_in ts ≡ caches_in all
+told_cached draft worked es all ts t = same_caches all ts t.count (λ k x lt. (t.told k x lt).cache)
 
 pub all_told : (draft : DraftView) (worked : List TaskId) (es : List (List (ℕ × ℕ))) (all ts : List Task) → AreToldTo draft worked es (length ts) all ts → AreToldBy draft worked es all ts
 all_told draft worked es all ts t = record { names = t.names; count = t.count; told = λ k d high. t.told k d (omega (arith, high, t.count)) }

@@ -11,8 +11,8 @@ use Rattle.ks_settle.specs.Drained.{MayDrain, HasTasksOf, drain_worker, AreResto
 use Rattle.ks_settle.proofs.Publishing.{same_setup}
 
 -- ---- the whole
-pub resting_first : {W : Type 0} (plan : W → TaskPlan) (c : ClusterView W) (p : Publisher) (d : DraftView) (ts : List Task) → p.worker ≡ drain_worker → IsReady (setup_of plan c) (state_of plan c) p → AreRestored d (setup_of plan c) c.journal c.tasks ts → AreResting plan c p d 0 ts
-resting_first plan c p d ts worker ready restored = record { worker = worker; ready = ready; names = restored.names; rest = restored.rest }
+pub resting_first : {W : Type 0} (plan : W → TaskPlan) (c : ClusterView W) (p : Publisher) (d : DraftView) (most : ℕ) (ts : List Task) → p.worker ≡ drain_worker → IsReady (setup_of plan c) (state_of plan c) p → AreRestored d (setup_of plan c) c.journal c.tasks most ts → AreResting plan c p d 0 ts
+resting_first plan c p d most ts worker ready restored = record { worker = worker; ready = ready; names = restored.names; rest = restored.rest }
 
 pub still_tasks : {W : Type 0} (plan : W → TaskPlan) (d : DraftView) (n : ℕ) (old new : ClusterView W) → DrainsOn n old new → HasTasksOf plan d old → HasTasksOf plan d new
 still_tasks plan d n old new on of =

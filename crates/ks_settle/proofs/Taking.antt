@@ -71,8 +71,8 @@ pub fetched_on : (d : DraftView) (setup : Setup) (journal : List Entry) (topic l
     has_topic topic (setup.plan.inputs (task_view old).task.sub) ≡ true → 1 ≤ limit →
     stable ((at setup journal).partition (part_of topic (task_view old).task)) ≡ end_of (at setup journal) (part_of topic (task_view old).task) →
     recs ≡ (fetched (at setup journal) (part_of topic (task_view old).task) ((task_view old).inputs topic) limit).0 → next ≡ (fetched (at setup journal) (part_of topic (task_view old).task) ((task_view old).inputs topic) limit).1 →
-    (next ≡ (task_view old).inputs topic → ⊥) → IsTaskOf d new → task_view new ≡ skip_view (take_all setup.plan (task_view old) topic recs) topic next → IsFetched d setup journal topic true old new
-fetched_on d setup journal topic limit old new recs next net sends stands input some all records goes differs of view =
+    (next ≡ (task_view old).inputs topic → ⊥) → IsTaskOf d new → task_view new ≡ skip_view (take_all setup.plan (task_view old) topic recs) topic next → new.cache ≡ old.cache → IsFetched d setup journal topic true old new
+fetched_on d setup journal topic limit old new recs next net sends stands input some all records goes differs of view same_cache =
     let v = task_view old in
     let w = skip_view (take_all setup.plan v topic recs) topic next in
     let kin : IsKin topic v (take_all setup.plan v topic recs) = kin_all setup.plan sends topic v recs in
@@ -95,6 +95,7 @@ fetched_on d setup journal topic limit old new recs next net sends stands input 
       moves = λ e.
           let position : (task_view new).inputs topic ≡ next = ap (λ (x : TaskView). x.inputs topic) view ∙ here (take_all setup.plan v topic recs).inputs topic next in
           omega (arith, position, says.later, goes, differs);
+      cache = same_cache;
     }
 
 -- a task that stands at the end
@@ -108,6 +109,7 @@ stopped d setup journal topic limit t next of stands input some all goes same =
       read = record { stands = stands; task = refl; kept = λ u. refl; others = λ u e. refl; made = λ q h. refl };
       stays = λ e. refl;
       ends = λ e. says.stops (sym goes ∙ same);
+      cache = refl;
       moves = λ e. absurd (cc);
     }
 
@@ -129,18 +131,20 @@ pub record Reading (d : DraftView) (setup : Setup) (journal : List Entry) (topic
   pub of : IsTaskOf d now
   pub read : HasRead setup journal topic (task_view old) (task_view now)
   pub stays : moved ≡ false → now ≡ old
+  pub cache : now.cache ≡ old.cache
 
 pub reading_on : (d : DraftView) (setup : Setup) (journal : List Entry) (topic : ℕ) (moved : Bool) (old now new : Task) → Reading d setup journal topic moved old now → IsFetched d setup journal topic true now new → Reading d setup journal topic true old new
 reading_on d setup journal topic moved old now new r f = record {
   of = f.of;
   read = both_read setup journal topic (task_view old) (task_view now) (task_view new) r.read f.read;
   stays = λ e. absurd (cc);
+  cache = f.cache ∙ r.cache;
 }
 
 pub read_on : (d : DraftView) (setup : Setup) (journal : List Entry) (topic : ℕ) (moved : Bool) (old now new : Task) → Reading d setup journal topic moved old now → IsFetched d setup journal topic false now new → IsReadOn d setup journal topic moved old new
 read_on d setup journal topic moved old now new r f =
     let same : new ≡ now = f.stays refl in
-    subst (IsReadOn d setup journal topic moved old) (sym same) (record { of = r.of; read = record { read = r.read; all = f.ends refl }; stays = r.stays })
+    subst (IsReadOn d setup journal topic moved old) (sym same) (record { of = r.of; read = record { read = r.read; all = f.ends refl }; stays = r.stays; cache = r.cache })
 
 -- ---- records one after another
 taken_task : (plan : TaskPlan) (topic : ℕ) (v : TaskView) (recs : List (ℕ × Rec)) → (take_all plan v topic recs).task ≡ v.task
@@ -180,7 +184,7 @@ still_reader d setup journal topic moved old now r x = record {
 }
 
 pub not_yet : (d : DraftView) (setup : Setup) (journal : List Entry) (topic : ℕ) (t : Task) → IsReader d setup journal topic t → Reading d setup journal topic false t t
-not_yet d setup journal topic t r = record { of = r.of; read = not_moved setup journal topic (task_view t) r.stands; stays = λ e. refl }
+not_yet d setup journal topic t r = record { of = r.of; read = not_moved setup journal topic (task_view t) r.stands; stays = λ e. refl; cache = refl }
 
 -- ---- what a fetch makes of a task
 module _ (d : DraftView) (setup : Setup) (journal : List Entry) (topic : ℕ) (may : MayDrain setup) (hist : IsHistory setup journal) (idle : IsIdle (at setup journal)) where
@@ -195,13 +199,14 @@ module _ (d : DraftView) (setup : Setup) (journal : List Entry) (topic : ℕ) (m
 
   pub fetch_moves : (plan : TaskPlan) (old mid new : Task) (id : TaskId) (from next : ℕ) (recs slice : List (ℕ × Rec)) → IsReader d setup journal topic old → setup.plan ≡ plan → id ≡ (task_view old).task → from ≡ (task_view old).inputs topic →
       recs ≡ (fetched (at setup journal) (part_of topic id) from 32).0 → next ≡ (fetched (at setup journal) (part_of topic id) from 32).1 → (next ≡ from → ⊥) → slice ≡ recs →
-      task_view mid ≡ take_all plan (task_view old) topic slice → IsTaskOf d new → task_view new ≡ skip_view (task_view mid) topic next → IsFetched d setup journal topic true old new
-  fetch_moves plan old mid new id from next recs slice r work is there records goes differs same took of skipped =
+      task_view mid ≡ take_all plan (task_view old) topic slice → IsTaskOf d new → task_view new ≡ skip_view (task_view mid) topic next → new.cache ≡ old.cache → IsFetched d setup journal topic true old new
+  fetch_moves plan old mid new id from next recs slice r work is there records goes differs same took of skipped same_cache =
       fetched_on d setup journal topic 32 old new recs next may.network may.sends r.stands r.input (omega arith) (all_stable (part_of topic (task_view old).task))
       (records ∙ ap (λ u. (fetched (at setup journal) (part_of topic u) from 32).0) is ∙ ap (λ f. (fetched (at setup journal) (part_of topic (task_view old).task) f 32).0) there)
       (goes ∙ ap (λ u. (fetched (at setup journal) (part_of topic u) from 32).1) is ∙ ap (λ f. (fetched (at setup journal) (part_of topic (task_view old).task) f 32).1) there)
       (λ e. differs (e ∙ sym there)) of
       (skipped ∙ ap (λ w. skip_view w topic next) (took ∙ ap (λ q. take_all q (task_view old) topic slice) (sym work) ∙ ap (take_all setup.plan (task_view old) topic) same))
+      same_cache
 
 pub comes_nearer : (d : DraftView) (setup : Setup) (journal : List Entry) (topic : ℕ) (moved : Bool) (old now new : Task) → IsReader d setup journal topic old → Reading d setup journal topic moved old now → IsFetched d setup journal topic true now new →
     end_of (at setup journal) (part_of topic (task_view new).task) - (task_view new).inputs topic < end_of (at setup journal) (part_of topic (task_view now).task) - (task_view now).inputs topic

@@ -123,12 +123,14 @@ pub record IsFetched (d : DraftView) (setup : Setup) (journal : List Entry) (top
   pub stays : moved ≡ false → new ≡ old
   pub ends : moved ≡ false → (task_view old).inputs topic ≡ end_of (at setup journal) (part_of topic (task_view old).task)
   pub moves : moved ≡ true → (task_view old).inputs topic + 1 ≤ (task_view new).inputs topic
+  pub cache : new.cache ≡ old.cache
 
 -- all fetches of the topic
 pub record IsReadOn (d : DraftView) (setup : Setup) (journal : List Entry) (topic : ℕ) (moved : Bool) (old new : Task) : Type 0 where
   pub of : IsTaskOf d new
   pub read : HasReadAll setup journal topic (task_view old) (task_view new)
   pub stays : moved ≡ false → new ≡ old
+  pub cache : new.cache ≡ old.cache
 
 -- the task has read the topic to its end, and this is the work that it then has, if it has one
 pub record IsRead (d : DraftView) (setup : Setup) (journal : List Entry) (topic : ℕ) (old new : Task) (f : Option WorkView) : Type 0 where
@@ -138,10 +140,15 @@ pub record IsRead (d : DraftView) (setup : Setup) (journal : List Entry) (topic 
   pub told : IsToldBy setup.plan (task_view new) f
   pub may : IfSome f (MayCommit setup (at setup journal))
   pub later : IfSome f (λ f. (q : PartId) → q.topic ≤ topic → names_part q f.outputs ≡ false)
+  pub cache : new.cache ≡ old.cache
 
 -- ---- all tasks
 abbrev pub ids : List Task → List TaskId
 ids ts = map (λ t. (task_view t).task) ts
+
+-- how many pairs the stores of each hold back
+abbrev pub caches_in : List Task → List ℕ
+caches_in ts = map (λ t. t.cache) ts
 
 abbrev pub Rests : DraftView → Setup → List Entry → ℕ → Task → Type 0
 Rests d setup journal topic t = IsTaskOf d t × IsDrainedTo setup journal topic (task_view t)
@@ -162,6 +169,10 @@ pub record AreReading (d : DraftView) (setup : Setup) (journal : List Entry) (to
   pub rest : AllWithin (λ t. Rests d setup journal topic t × (work_for (task_view t).task fs ≡ None)) ts i (length ts)
   pub works : AreWorks setup journal topic fs
 
+-- the stores of each hold back so many pairs
+abbrev pub HaveCache : ℕ → List Task → Type 0
+HaveCache most ts = All (λ t. t.cache ≡ most) ts
+
 -- ---- tasks that read a topic side by side
 abbrev pub tasks_in : List Attempt → List Task
 tasks_in xs = map (λ x. x.task) xs
@@ -171,10 +182,11 @@ pub record AreTried (d : DraftView) (setup : Setup) (journal : List Entry) (topi
   pub count : length new ≡ length old
   pub each : (k : ℕ) (x : Attempt) → k < length old → IfOk (slice_index_or new k x).work (λ o. IsRead d setup journal topic (slice_index_or old k x).task (slice_index_or new k x).task (option_map work_view o))
 
--- these tasks were put back, and these are their works; what came of the others is left
-pub record ArePutBack (d : DraftView) (setup : Setup) (journal : List Entry) (topic : ℕ) (ts : List Task) (left : List Attempt) (fs : List WorkView) : Type 0 where
+-- these tasks were put back, and these are their works; what came of the others is left. All of them have these caches
+pub record ArePutBack (d : DraftView) (setup : Setup) (journal : List Entry) (topic : ℕ) (cs : List ℕ) (ts : List Task) (left : List Attempt) (fs : List WorkView) : Type 0 where
   pub old : List Attempt
   pub reading : AreReading d setup journal topic (length ts) (ts ++ tasks_in old) fs
+  pub caches : caches_in (ts ++ tasks_in old) ≡ cs
   pub tried : AreTried d setup journal topic old left
 
 -- the works were committed, and these ends answered
@@ -191,6 +203,7 @@ pub record ArePublished (setup : Setup) (journal new : List Entry) (topic : ℕ)
 pub record IsToldTask (d : DraftView) (worked : List TaskId) (ends : List (List (ℕ × ℕ))) (old new : Task) : Type 0 where
   pub of : IsTaskOf d new
   pub view : task_view new ≡ told_view d (task_view old) (ends_for (task_view old).task worked ends)
+  pub cache : new.cache ≡ old.cache
 
 pub record AreToldBy (d : DraftView) (worked : List TaskId) (ends : List (List (ℕ × ℕ))) (old new : List Task) : Type 0 where
   pub names : ids new ≡ ids old
@@ -234,10 +247,11 @@ pub record AreResting {W : Type 0} (plan : W → TaskPlan) (c : ClusterView W) (
   pub names : ids ts ≡ c.tasks
   pub rest : All (Rests d (setup_of plan c) c.journal topic) ts
 
--- tasks of the topology with these names, which have taken nothing since their last commits
-pub record AreRestored (d : DraftView) (setup : Setup) (journal : List Entry) (all : List TaskId) (ts : List Task) : Type 0 where
+-- tasks of the topology with these names, which have taken nothing since their last commits, and whose stores hold back so many pairs
+pub record AreRestored (d : DraftView) (setup : Setup) (journal : List Entry) (all : List TaskId) (most : ℕ) (ts : List Task) : Type 0 where
   pub names : ids ts ≡ all
   pub rest : All (Rests d setup journal 0) ts
+  pub caches : HaveCache most ts
 
 -- the cluster's journal is longer, with no further input; all else is the same
 pub record Extends {W : Type 0} (old new : ClusterView W) : Type 0 where
@@ -245,11 +259,12 @@ pub record Extends {W : Type 0} (old new : ClusterView W) : Type 0 where
   pub prefix : IsPrefix old.journal new.journal
   pub produces : produces new.journal ≡ produces old.journal
 
--- the first topics of an order were drained
-pub record IsDraining {W : Type 0} (plan : W → TaskPlan) (first c : ClusterView W) (publisher : Publisher) (d : DraftView) (order : List ℕ) (i : ℕ) (ts : List Task) : Type 0 where
+-- the first topics of an order were drained, by tasks that have these caches
+pub record IsDraining {W : Type 0} (plan : W → TaskPlan) (first c : ClusterView W) (publisher : Publisher) (d : DraftView) (cs order : List ℕ) (i : ℕ) (ts : List Task) : Type 0 where
   pub on : DrainsOn i first c
   pub within : i ≤ length order
   pub bound : ℕ
   pub below : (k : ℕ) → k < i → slice_index order k < bound
   pub above : (k : ℕ) → i ≤ k → k < length order → bound ≤ slice_index order k
   pub rest : AreResting plan c publisher d bound ts
+  pub caches : caches_in ts ≡ cs

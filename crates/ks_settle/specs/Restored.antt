@@ -15,7 +15,7 @@ use Rattle.ks_standby.specs.declared.replica.Replica.{Replica}
 use Rattle.ks_task.specs.declared.task.Task.{Task}
 use Rattle.ks_task.specs.Tasks.{task_view}
 use Rattle.ks_settle.specs.declared.restoring.Restoration.{Restoration}
-use Rattle.ks_settle.specs.Drained.{MayDrain, HasTasksOf, ids, Rests}
+use Rattle.ks_settle.specs.Drained.{MayDrain, HasTasksOf, ids, Rests, HaveCache}
 use Rattle.ks_settle.specs.Restoring.{IsReplicaOf}
 
 -- the tasks of a cluster may be restored by the worker that has them all
@@ -39,18 +39,20 @@ MayBegin plan c x = (has_task x.name c.tasks ≡ true) × IsGiven (setup_of plan
 abbrev pub names_in : List Restoration → List TaskId
 names_in xs = map (λ x. x.name) xs
 
--- where memory sufficed it is the task of this name, which has taken nothing since its last commit
-abbrev pub IsRestoredAs : DraftView → Setup → List Entry → TaskId → Restoration → Type 0
-IsRestoredAs d setup journal name x = IfOk x.task (λ t. Rests d setup journal 0 t × ((task_view t).task ≡ name))
+-- where memory sufficed it is the task of this name, which has taken nothing since its last commit, and whose stores hold back so many
+-- pairs
+abbrev pub IsRestoredAs : DraftView → Setup → List Entry → ℕ → TaskId → Restoration → Type 0
+IsRestoredAs d setup journal most name x = IfOk x.task (λ t. Rests d setup journal 0 t × ((task_view t).task ≡ name) × (t.cache ≡ most))
 
 -- so each of these
-pub record AreTried (d : DraftView) (setup : Setup) (journal : List Entry) (old new : List Restoration) : Type 0 where
+pub record AreTried (d : DraftView) (setup : Setup) (journal : List Entry) (most : ℕ) (old new : List Restoration) : Type 0 where
   pub count : length new ≡ length old
-  pub each : (k : ℕ) (x : Restoration) → k < length old → IsRestoredAs d setup journal (slice_index_or old k x).name (slice_index_or new k x)
+  pub each : (k : ℕ) (x : Restoration) → k < length old → IsRestoredAs d setup journal most (slice_index_or old k x).name (slice_index_or new k x)
 
 -- these tasks of a list of names stand in their order, and what came of the others is left
-pub record ArePutBack (d : DraftView) (setup : Setup) (journal : List Entry) (all : List TaskId) (ts : List Task) (left : List Restoration) : Type 0 where
+pub record ArePutBack (d : DraftView) (setup : Setup) (journal : List Entry) (all : List TaskId) (most : ℕ) (ts : List Task) (left : List Restoration) : Type 0 where
   pub old : List Restoration
   pub names : ids ts ++ names_in old ≡ all
   pub rest : All (Rests d setup journal 0) ts
-  pub tried : AreTried d setup journal old left
+  pub caches : HaveCache most ts
+  pub tried : AreTried d setup journal most old left

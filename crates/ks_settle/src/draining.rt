@@ -10,7 +10,7 @@ ghost use Rattle.ks_commit.specs.Committed.{works_of, tasks_in as worked_in, IsR
 ghost use Rattle.ks_commit.specs.Everything.{everything, IsGoodForAll};
 ghost use Rattle.ks_commit.specs.Work.{work_view};
 ghost use Rattle.ks_def_tasks.specs.Rules.{HaveParts, rules_of};
-ghost use Rattle.ks_settle.specs.Drained.{MayDrain, IsOfTopology, MayRead, with_work, IsRead, Rests, tasks_in, AreTried, AreReading, AreResting, HasTasksOf, drain_worker, DrainsOn, Extends};
+ghost use Rattle.ks_settle.specs.Drained.{MayDrain, IsOfTopology, MayRead, with_work, IsRead, Rests, tasks_in, HaveCache, caches_in, AreTried, AreReading, AreResting, HasTasksOf, drain_worker, DrainsOn, Extends};
 ghost use Rattle.ks_settle.specs.Restoring.{IsReplicaAt};
 
 use crate::committed::tell;
@@ -129,8 +129,10 @@ fn read_tasks<H: Hash128 + Sync, R: Threads + Sync, W: Work + Sync>(
     requires may { MayRead W.plan (rules_of H.hash_of) (draft_of topology.now) cluster.now }
     requires reading { AreReading (draft_of topology.now) (setup_of W.plan cluster.now)
         cluster.now.journal topic 0 tasks.old.items [] }
-    ensures { IfOk result (λ works. AreReading (draft_of topology.now) (setup_of W.plan cluster.now)
+    ensures reading { IfOk result (λ works. AreReading (draft_of topology.now)
+        (setup_of W.plan cluster.now)
         cluster.now.journal topic (length tasks.new.items) tasks.new.items (works_of works.items)) }
+    ensures caches { OnOk result (caches_in tasks.new.items ≡ caches_in tasks.old.items) }
 {
     let all = mem::replace(tasks, Vec::new(alloc));
     let mut attempts = attempts_of(alloc, all)?;
@@ -170,6 +172,7 @@ impl TaskManager {
         topology: &Topology,
         cluster: &mut Cluster<W>,
         replicas: Vec<Replica>,
+        cache: u32,
     ) -> Result<TaskManager, AllocError>
         requires may { MayDrain (setup_of W.plan cluster.old) }
         requires of { HasTasksOf W.plan (draft_of topology.now) cluster.old }
@@ -180,6 +183,7 @@ impl TaskManager {
             replicas.items }
         ensures resting { IfOk result (λ m. AreResting W.plan cluster.new m.publisher
             (draft_of topology.now) 0 m.tasks.items) }
+        ensures caches { IfOk result (λ m. HaveCache cache m.tasks.items) }
         ensures on { DrainsOn 0 cluster.old cluster.new }
     {
         remove_workers(alloc, cluster)?;
@@ -187,7 +191,7 @@ impl TaskManager {
         let publisher = Publisher::start(alloc, cluster, WORKER, topology.tasks())?;
         // The journal is a history: the replicas follow it.
         let _journal = cluster.journal();
-        let tasks = restore_tasks(rt, alloc, topology, cluster, &publisher, replicas)?;
+        let tasks = restore_tasks(rt, alloc, topology, cluster, &publisher, replicas, cache)?;
         Ok(TaskManager { tasks, publisher })
     }
 
@@ -213,6 +217,8 @@ impl TaskManager {
         ensures rest { OnOk result (
             AreResting W.plan cluster.new self.new.publisher (draft_of topology.now) (topic + 1)
             self.new.tasks.items) }
+        ensures caches { OnOk result (caches_in self.new.tasks.items
+            ≡ caches_in self.old.tasks.items) }
         ensures on { DrainsOn 1 cluster.old cluster.new }
     {
         if works.is_empty() {
@@ -226,7 +232,7 @@ impl TaskManager {
             &mut self.tasks,
             worked.as_slice(),
             ends.as_slice(),
-        );
+        )?;
         Ok(())
     }
 
@@ -246,6 +252,8 @@ impl TaskManager {
         ensures rest { OnOk result (
             AreResting W.plan cluster.new self.new.publisher (draft_of topology.now) (topic + 1)
             self.new.tasks.items) }
+        ensures caches { OnOk result (caches_in self.new.tasks.items
+            ≡ caches_in self.old.tasks.items) }
         ensures on { DrainsOn 1 cluster.old cluster.new }
     {
         let works = read_tasks::<H, R, W>(rt, alloc, topology, cluster, &mut self.tasks, topic)?;
@@ -268,6 +276,8 @@ impl TaskManager {
             self.old.tasks.items }
         ensures settled { OnOk result (IsSettled (setup_of W.plan cluster.new)
             (state_of W.plan cluster.new)) }
+        ensures caches { OnOk result (caches_in self.new.tasks.items
+            ≡ caches_in self.old.tasks.items) }
         ensures on { DrainsOn (length (drain_numbers (plan_in topology.now)))
             cluster.old cluster.new }
     {
@@ -282,14 +292,15 @@ impl TaskManager {
 /// Brings to rest a cluster of a topology, whatever stands in its journal. Every worker is removed, all waiting markers are written, and
 /// a worker of its own, 16, has every task, which is good where it is the one member, and restores it: of each task it goes on from the
 /// furthest of these replicas, where there is one. Then topic by topic, in the drain
-/// order, the tasks that read it read it to its end, and one transaction commits what they made. Want of memory is the one error, after
-/// which the journal has what was done before, and no further input.
+/// order, the tasks that read it read it to its end, and one transaction commits what they made. Its tasks' stores hold back at most
+/// `cache` pairs each. Want of memory is the one error, after which the journal has what was done before, and no further input.
 pub fn drain<H: Hash128 + Sync, R: Threads + Sync, W: Work + Sync>(
     rt: &R,
     alloc: Global,
     topology: &Topology,
     cluster: &mut Cluster<W>,
     replicas: Vec<Replica>,
+    cache: u32,
 ) -> Result<(), AllocError>
     requires setup { setup_of W.plan cluster.old
         ≡ topology_setup (rules_of H.hash_of) (plan_in topology.now) }
@@ -305,7 +316,7 @@ pub fn drain<H: Hash128 + Sync, R: Threads + Sync, W: Work + Sync>(
         cluster.old cluster.new }
 {
     let _nodes = topology.nodes();
-    let mut manager = TaskManager::start(rt, alloc, topology, cluster, replicas)?;
+    let mut manager = TaskManager::start(rt, alloc, topology, cluster, replicas, cache)?;
     manager.drain_all::<H, R, W>(rt, alloc, topology, cluster)?;
     let_go(rt, manager.tasks);
     Ok(())

@@ -9,3 +9,4 @@ mod removing;
 mod restoring;
 
 pub use draining::drain;
+pub use restoring::replica_at_ends;

@@ -136,6 +136,22 @@ fn fed_replica<W: Work>(
     Ok(replica)
 }
 
+/// A new replica of a task with these changelogs, fed each of them up to its end. Want of memory is the one error.
+pub fn replica_at_ends<W: Work>(
+    alloc: Global,
+    cluster: &Cluster<W>,
+    task: TaskId,
+    changelogs: &[u16],
+) -> Result<Replica, AllocError>
+    requires quiet { IsQuiet W.plan cluster.now }
+    requires there { has_task task cluster.now.tasks ≡ true }
+    requires changelogs { changelogs.now ≡ (W.plan cluster.now.work).changelogs task.sub }
+    ensures { IfOk result (λ r. HasReachedFirst (setup_of W.plan cluster.now) cluster.now.journal
+        task changelogs.now (length changelogs.now) r) }
+{
+    fed_replica(alloc, cluster, task, changelogs, None)
+}
+
 // A task of the worker that has every task: its committed offsets are read, and then a replica is fed up to the ends.
 fn restore<W: Work>(
     alloc: Global,
@@ -144,6 +160,7 @@ fn restore<W: Work>(
     publisher: &Publisher,
     task: TaskId,
     given: Option<Replica>,
+    cache: u32,
 ) -> Result<Task, AllocError>
     requires given { IsGiven (setup_of W.plan cluster.now) cluster.now.journal task given }
     requires may { MayDrain (setup_of W.plan cluster.now) }
@@ -155,12 +172,13 @@ fn restore<W: Work>(
     ensures rests { IfOk result (λ t. Rests (draft_of topology.now) (setup_of W.plan cluster.now)
         cluster.now.journal 0 t) }
     ensures id { IfOk result (λ t. t.id ≡ task) }
+    ensures cache { IfOk result (λ t. t.cache ≡ cache) }
 {
     let _journal = cluster.journal();
     let offsets = publisher.committed(alloc, cluster, task)?;
     let changelogs = topology.changelogs(task.sub);
     let replica = fed_replica(alloc, cluster, task, changelogs, given)?;
-    match Task::of(alloc, topology, replica, offsets.as_slice()) {
+    match Task::of(alloc, topology, replica, offsets.as_slice(), cache) {
         Ok(task) => Ok(task),
         Err(_) => Err(AllocError),
     }
@@ -196,15 +214,16 @@ fn restore_own<W: Work>(
     topology: &Topology,
     cluster: &Cluster<W>,
     publisher: &Publisher,
+    cache: u32,
     one: &mut Restoration,
 )
     requires may { MayRestore W.plan (draft_of topology.now) cluster.now publisher.now }
     requires there { MayBegin W.plan cluster.now one.old }
     ensures { IsRestoredAs (draft_of topology.now) (setup_of W.plan cluster.now)
-        cluster.now.journal one.old.name one.new }
+        cluster.now.journal cache one.old.name one.new }
 {
     let given = one.replica.take();
-    one.task = restore(alloc, topology, cluster, publisher, one.name, given);
+    one.task = restore(alloc, topology, cluster, publisher, one.name, given, cache);
 }
 
 // Restores all of the tasks, side by side.
@@ -214,27 +233,28 @@ fn restore_each<R: Threads + Sync, W: Work + Sync>(
     topology: &Topology,
     cluster: &Cluster<W>,
     publisher: &Publisher,
+    cache: u32,
     all: &mut [Restoration],
 )
     requires may { MayRestore W.plan (draft_of topology.now) cluster.now publisher.now }
     requires there { All (MayBegin W.plan cluster.now) all.old }
     ensures { AreTried (draft_of topology.now) (setup_of W.plan cluster.now)
-        cluster.now.journal all.old all.new }
+        cluster.now.journal cache all.old all.new }
 {
     share_topology();
     let one = |_: usize, it: &mut Restoration|
         requires { MayRestore W.plan (draft_of topology.now) cluster.now publisher.now
             × MayBegin W.plan cluster.now it.now }
         ensures { IsRestoredAs (draft_of topology.entry.now) (setup_of W.plan cluster.entry.now)
-            cluster.entry.now.journal it.entry.now.name it.exit.now }
-    { restore_own(alloc, topology, cluster, publisher, it) };
+            cluster.entry.now.journal cache it.entry.now.name it.exit.now }
+    { restore_own(alloc, topology, cluster, publisher, cache, it) };
     thread::for_each_mut(rt, all, THREADS, &one);
 }
 
 /// Every task of the topology, restored by the worker that has them all, side by side in at most 64 threads, each on from the furthest of
-/// these replicas that is its own: its stores are what the
-/// committed records of its changelogs leave, its positions the committed offsets. Kafka Streams: what a `StoreChangelogReader` does
-/// before a task runs. `AllocError`: memory ran out; the cluster is as it was.
+/// these replicas that is its own: its stores are what the committed records of its changelogs leave, its positions the committed
+/// offsets, and each store holds back at most `cache` pairs from then on. Kafka Streams: what a `StoreChangelogReader` does before a task
+/// runs. `AllocError`: memory ran out; the cluster is as it was.
 pub fn restore_tasks<R: Threads + Sync, W: Work + Sync>(
     rt: &R,
     alloc: Global,
@@ -242,6 +262,7 @@ pub fn restore_tasks<R: Threads + Sync, W: Work + Sync>(
     cluster: &Cluster<W>,
     publisher: &Publisher,
     replicas: Vec<Replica>,
+    cache: u32,
 ) -> Result<Vec<Task>, AllocError>
     requires replicas { All (IsReplicaAt (setup_of W.plan cluster.now) cluster.now.journal)
         replicas.items }
@@ -251,11 +272,11 @@ pub fn restore_tasks<R: Threads + Sync, W: Work + Sync>(
     requires ready { IsReady (setup_of W.plan cluster.now) (state_of W.plan cluster.now)
         publisher.now }
     ensures { IfOk result (λ v. AreRestored (draft_of topology.now) (setup_of W.plan cluster.now)
-        cluster.now.journal cluster.now.tasks v.items) }
+        cluster.now.journal cluster.now.tasks cache v.items) }
 {
     let mut all = restorations_of(alloc, topology.tasks(), replicas)?;
     let each = all.as_mut_slice();
-    restore_each(rt, alloc, topology, cluster, publisher, each);
+    restore_each(rt, alloc, topology, cluster, publisher, cache, each);
     let mut tasks = Vec::new(alloc);
     for one in all {
         tasks.push(one.task?)?;

@@ -1,6 +1,11 @@
 -- A printed name: its node, where the node's rows are kept, and how they are read.
 use Rattle.std.proofs.Common.{◌≡◌, ℕ, zero, suc, ◌+◌, ◌<◌, Bool, true, false, not, cond, ◌||◌, List, [], ◌∷◌, ◌++◌, length, map, get_or, slice_get, fold, Option, Some, None, refl, sym, ap, subst, ◌∙◌, arith, length-append, ◌⊎◌, inl, inr}
-use Rattle.std.specs.Prelude.{option_map, ◌==◌}
+use Rattle.std.specs.Prelude.{option_map, ◌==◌, nat_eq}
+use Rattle.std.specs.List.{filter}
+use Rattle.std.proofs.Common.{eq-eqb}
+use Rattle.ks_history.specs.Machine.{has_topic}
+use Rattle.ks_plan.specs.Infos.{changelog_numbers}
+use Rattle.ks_plan.specs.Layout.{reads as topic_reads, sub_of}
 use Rattle.std.specs.Cmp.Lexicographic.{pointwise, texts_ties, same_text}
 use Rattle.std.proofs.lemmas.Bool.{true≢false}
 use Rattle.std.proofs.lemmas.List.{length-map, get_or_append_left, get_or_push}
@@ -127,7 +132,7 @@ kind_reads d i x bytes h =
     let place : i ≡ length {A = Known} [] + i = omega arith in
     ap (λ k. folded.row_from k bytes) (kind_in (known_nodes d) i ∙ ap (λ j. (get_or (known_nodes d) j nothing_known).kind) place ∙ there.1) ∙ reads d.topics there.0 (get_or d.nodes i x).op bytes
 
-kind_counts : (d : DraftView) (i : ℕ) (x : NodeView) → i < length d.nodes → is_windowed (kind_at (plan_of d) i) ≡ counts_windows (get_or d.nodes i x).op
+pub kind_counts : (d : DraftView) (i : ℕ) (x : NodeView) → i < length d.nodes → is_windowed (kind_at (plan_of d) i) ≡ counts_windows (get_or d.nodes i x).op
 kind_counts d i x h =
     let there = kind_there d.topics [] d.nodes i x h in
     let place : i ≡ length {A = Known} [] + i = omega arith in
@@ -138,9 +143,9 @@ abbrev names_in : List Node → List Name
 names_in ns = map (λ n. n.name) ns
 
 record NodeAt (nodes : List Node) (name : Name) (node : Node) : Type 0 where
-  within : name_place (names_in nodes) name < length nodes
+  pub within : name_place (names_in nodes) name < length nodes
   is : (d : Node) → get_or nodes (name_place (names_in nodes) name) d ≡ node
-  named : node.name ≡ name
+  pub named : node.name ≡ name
 
 node_at : (nodes : List Node) (name : Name) (node : Node) → node_named nodes name ≡ Some node → NodeAt nodes name node
 node_at [] name node e = cc
@@ -165,6 +170,16 @@ node_at (n ∷ ns) name node e = by (pointwise ◌==◌ n.name name) refl e (λ 
           is = λ d. ap (λ k. get_or (n ∷ ns) k d) place ∙ m.is d;
           named = m.named;
         }
+
+pub node_nowhere : (nodes : List Node) (name : Name) → node_named nodes name ≡ None → name_place (names_in nodes) name ≡ length nodes
+node_nowhere [] name e = refl
+node_nowhere (n ∷ ns) name e = by (pointwise ◌==◌ n.name name) refl e (λ f. node_nowhere ns name f)
+  where
+    by : (b : Bool) → pointwise ◌==◌ n.name name ≡ b → cond b (Some n) (node_named ns name) ≡ None → (node_named ns name ≡ None → name_place (names_in ns) name ≡ length ns) → name_place (names_in (n ∷ ns)) name ≡ length (n ∷ ns)
+    by true t e more = absurd (cc)
+    by false t e more =
+        let other : same_bytes n.name name ≡ false = sym (texts_ties n.name name) ∙ t in
+        ap (λ b. cond b 0 (suc (name_place (names_in ns) name))) other ∙ ap suc (more e)
 
 node_there : (nodes : List Node) (name : Name) → has_name (names_in nodes) name ≡ true → node_named nodes name ≡ None → ⊥
 node_there [] name h e = true≢false (sym h)
@@ -228,6 +243,31 @@ log_found p n lt h =
     let e : 0 + n ≡ n = omega arith in
     found (Changelog n) (topics_of p) (in_right (Changelog n) (input_topics p ++ by_node through_topics 0 p.kinds) (by_node changelogs_of 0 p.kinds) (subst (λ j. In (Changelog j) (by_node changelogs_of 0 p.kinds)) e (log_in 0 n p.kinds no_kind lt h)))
 
+-- a topic of a list that passes is among the numbers of those that pass
+numbered_in : (f : Topic → ℕ) (g : Topic → Bool) (t : Topic) (us : List Topic) → g t ≡ true → In t us → has_topic (f t) (map f (filter g us)) ≡ true
+unfolding In
+numbered_in f g t [] e h = absurd h
+numbered_in f g t (u ∷ us) e (inl h) =
+    let same : u ≡ t = topic-is u t h in
+    ap (λ b. has_topic (f t) (map f (cond b (u ∷ filter g us) (filter g us)))) (ap g same ∙ e)
+    ∙ ap (λ b. b || has_topic (f t) (map f (filter g us))) (eq-eqb (f t) (f u) (ap f (sym same)))
+numbered_in f g t (u ∷ us) e (inr h) = by (g u) (numbered_in f g t us e h)
+  where
+    by : (b : Bool) → has_topic (f t) (map f (filter g us)) ≡ true → has_topic (f t) (map f (cond b (u ∷ filter g us) (filter g us))) ≡ true
+    by true m = or (f t == f u) m
+      where
+        or : (c : Bool) → has_topic (f t) (map f (filter g us)) ≡ true → c || has_topic (f t) (map f (filter g us)) ≡ true
+        or true n = refl
+        or false n = n
+    by false m = m
+
+-- the changelog of a node is among those of its subtopology
+pub own_number : (p : Plan) (n : ℕ) → n < length p.kinds → is_stream (kind_at p n) ≡ false → has_topic (number_of p (Changelog n)) (changelog_numbers p (sub_of p n)) ≡ true
+own_number p n lt h =
+    let e : 0 + n ≡ n = omega arith in
+    numbered_in (number_of p) (λ t. nat_eq (topic_reads p t) (sub_of p n)) (Changelog n) (by_node changelogs_of 0 p.kinds) (eq-eqb (sub_of p n) (sub_of p n) refl)
+    (subst (λ j. In (Changelog j) (by_node changelogs_of 0 p.kinds)) e (log_in 0 n p.kinds no_kind lt h))
+
 pub get_over : {A B : Type 0} (f : A → B) (xs : List A) (n : ℕ) (x : A) → slice_get xs n ≡ Some x → slice_get (map f xs) n ≡ Some (f x)
 get_over f [] n x e = absurd (cc)
 get_over f (y ∷ xs) zero x e = let same : y ≡ x = cc in ap (λ z. Some (f z)) same
@@ -254,14 +294,14 @@ pub record Shows (d : DraftView) (nodes : List Node) : Type 0 where
   pub drafts : map built_view nodes ≡ d.nodes
   pub well_formed : fault_of d ≡ None
 
-record IsThere (d : DraftView) (nodes : List Node) (name : Name) (node : Node) : Type 0 where
-  number : node_number (known_nodes d) name ≡ name_place (names_in nodes) name
-  within : name_place (names_in nodes) name < length d.nodes
-  place : node_place node ≡ place_in (plan_of d) (name_place (names_in nodes) name)
-  draft : get_or d.nodes (name_place (names_in nodes) name) (built_view node) ≡ built_view node
-  named : node.name ≡ name
+pub record IsThere (d : DraftView) (nodes : List Node) (name : Name) (node : Node) : Type 0 where
+  pub number : node_number (known_nodes d) name ≡ name_place (names_in nodes) name
+  pub within : name_place (names_in nodes) name < length d.nodes
+  pub place : node_place node ≡ place_in (plan_of d) (name_place (names_in nodes) name)
+  pub draft : get_or d.nodes (name_place (names_in nodes) name) (built_view node) ≡ built_view node
+  pub named : node.name ≡ name
 
-there : (d : DraftView) (nodes : List Node) (name : Name) (node : Node) → Shows d nodes → node_named nodes name ≡ Some node → IsThere d nodes name node
+pub there : (d : DraftView) (nodes : List Node) (name : Name) (node : Node) → Shows d nodes → node_named nodes name ≡ Some node → IsThere d nodes name node
 there d nodes name node shows e =
     let a : NodeAt nodes name node = node_at nodes name node e in
     let n = name_place (names_in nodes) name in
@@ -277,6 +317,12 @@ there d nodes name node shows e =
       draft = ap (λ l. get_or l n (built_view node)) (sym shows.drafts) ∙ get_mapped built_view nodes n node ∙ ap built_view (a.is node);
       named = a.named;
     }
+
+pub number_nowhere : (d : DraftView) (nodes : List Node) (name : Name) → Shows d nodes → node_named nodes name ≡ None → node_number (known_nodes d) name ≡ length d.nodes
+number_nowhere d nodes name shows e =
+    let many : length nodes ≡ length d.nodes = sym (length-map nodes built_view) ∙ ap length shows.drafts in
+    let same_names : known_names (known_nodes d) ≡ names_in nodes = known_names_from d.topics d.nodes ∙ ap names_of (sym shows.drafts) ∙ names_of_built nodes in
+    ap (λ l. name_place l name) same_names ∙ node_nowhere nodes name e ∙ many
 
 -- a kind for each node
 pub kinds_all : (d : DraftView) → length (plan_of d).kinds ≡ length d.nodes

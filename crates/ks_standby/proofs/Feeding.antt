@@ -13,9 +13,10 @@ use Rattle.ks_history.specs.Follows.{ReplicaView, ReplicaFollows}
 use Rattle.ks_law_restore.specs.Replicas.{fresh_replica, fed_replica}
 use Rattle.ks_law_restore.proofs.Replicas.{feeding_follows}
 use Rattle.ks_store.specs.Restored.{records_of}
-use Rattle.ks_store.specs.declared.changelogs.Changelog.{Changelog}
+use Rattle.ks_cache.specs.Kept.{empty_kept, kept_after}
+use Rattle.ks_cache.specs.declared.changelogs.Changelog.{Changelog}
 use Rattle.ks_standby.specs.declared.replica.Replica.{Replica}
-use Rattle.ks_store.specs.Changelogs.{stores_in}
+use Rattle.ks_cache.specs.Changelogs.{stores_in}
 use Rattle.ks_standby.specs.Replicas.{positions_in, numbers_of, fed, view_in, replica_view, IsReplicaIn, GivesFetched, FollowsOn}
 
 -- ---- a loop that changes each element
@@ -35,18 +36,18 @@ both true x = refl
 both false x = refl
 
 -- ---- new changelogs
-pub new_numbers : (numbers : List ℕ) → numbers_of (map (λ number. record { topic = number; position = 0; store = empty_store }) numbers) ≡ numbers
+pub new_numbers : (numbers : List ℕ) → numbers_of (map (λ number. record { topic = number; position = 0; store = empty_kept }) numbers) ≡ numbers
 new_numbers [] = refl
 new_numbers (n ∷ ns) = ap (λ l. n ∷ l) (new_numbers ns)
 
-pub new_view : (t : TaskId) (numbers : List ℕ) → view_in t (map (λ number. record { topic = number; position = 0; store = empty_store }) numbers) ≡ fresh_replica t
+pub new_view : (t : TaskId) (numbers : List ℕ) → view_in t (map (λ number. record { topic = number; position = 0; store = empty_kept }) numbers) ≡ fresh_replica t
 new_view t numbers = ap₂ (λ (s : ℕ → Store) (p : ℕ → ℕ). record { task = t; stores = s; position = p }) (fun_ext (λ q. none_stored numbers q)) (fun_ext (λ q. none_moved numbers q))
   where
-    none_moved : (ns : List ℕ) (q : ℕ) → positions_in (map (λ number. record { topic = number; position = 0; store = empty_store }) ns) q ≡ 0
+    none_moved : (ns : List ℕ) (q : ℕ) → positions_in (map (λ number. record { topic = number; position = 0; store = empty_kept }) ns) q ≡ 0
     none_moved [] q = refl
     none_moved (n ∷ ns) q = ap (λ (r : ℕ). if q == n then 0 else r) (none_moved ns q) ∙ both (q == n) 0
 
-    none_stored : (ns : List ℕ) (q : ℕ) → stores_in (map (λ number. record { topic = number; position = 0; store = empty_store }) ns) q ≡ empty_store
+    none_stored : (ns : List ℕ) (q : ℕ) → stores_in (map (λ number. record { topic = number; position = 0; store = empty_kept }) ns) q ≡ empty_store
     none_stored [] q = refl
     none_stored (n ∷ ns) q = ap (λ (r : Store). if q == n then empty_store else r) (none_stored ns q) ∙ both (q == n) empty_store
 
@@ -56,19 +57,19 @@ module _ (topic : ℕ) (recs : List (ℕ × Rec)) (next : ℕ) where
   numbers_fed [] = refl
   numbers_fed (l ∷ ls) = ap₂ (λ n ns. n ∷ ns) (by (topic == l.topic)) (numbers_fed ls)
     where
-      by : (b : Bool) → (cond b (record { topic = l.topic; position = next; store = latest_from l.store (records_of recs) }) l).topic ≡ l.topic
+      by : (b : Bool) → (cond b (record { topic = l.topic; position = next; store = kept_after l.store (records_of recs) }) l).topic ≡ l.topic
       by true = refl
       by false = refl
 
   abbrev fed_one : Changelog → Changelog
-  fed_one l = record { topic = l.topic; position = next; store = latest_from l.store (records_of recs) }
+  fed_one l = record { topic = l.topic; position = next; store = kept_after l.store (records_of recs) }
 
   store_here : (ls : List Changelog) → has_topic topic (numbers_of ls) ≡ true → stores_in (map (fed topic recs next) ls) topic ≡ latest_from (stores_in ls topic) (records_of recs)
   store_here [] there = absurd (true≢false (sym there))
   store_here (l ∷ ls) there = elim (topic == l.topic) as (λ b. (topic == l.topic) ≡ b → b || has_topic topic (numbers_of ls) ≡ true →
-      cond (topic == (cond b (fed_one l) l).topic) (cond b (fed_one l) l).store (stores_in (map (fed topic recs next) ls) topic) ≡ latest_from (cond b l.store (stores_in ls topic)) (records_of recs)) [
-        | true ↦ λ e h. ap (λ c. cond c (latest_from l.store (records_of recs)) (stores_in (map (fed topic recs next) ls) topic)) e
-        | false ↦ λ e h. ap (λ c. cond c l.store (stores_in (map (fed topic recs next) ls) topic)) e ∙ store_here ls h
+      cond (topic == (cond b (fed_one l) l).topic) (cond b (fed_one l) l).store.whole (stores_in (map (fed topic recs next) ls) topic) ≡ latest_from (cond b l.store.whole (stores_in ls topic)) (records_of recs)) [
+        | true ↦ λ e h. ap (λ c. cond c (latest_from l.store.whole (records_of recs)) (stores_in (map (fed topic recs next) ls) topic)) e
+        | false ↦ λ e h. ap (λ c. cond c l.store.whole (stores_in (map (fed topic recs next) ls) topic)) e ∙ store_here ls h
       ] refl there
 
   position_here : (ls : List Changelog) → has_topic topic (numbers_of ls) ≡ true → positions_in (map (fed topic recs next) ls) topic ≡ next
@@ -82,11 +83,11 @@ module _ (topic : ℕ) (recs : List (ℕ × Rec)) (next : ℕ) where
   store_other : (ls : List Changelog) (q : ℕ) → (q == topic) ≡ false → stores_in (map (fed topic recs next) ls) q ≡ stores_in ls q
   store_other [] q ne = refl
   store_other (l ∷ ls) q ne = elim (topic == l.topic) as (λ b. (topic == l.topic) ≡ b →
-      cond (q == (cond b (fed_one l) l).topic) (cond b (fed_one l) l).store (stores_in (map (fed topic recs next) ls) q) ≡ cond (q == l.topic) l.store (stores_in ls q)) [
+      cond (q == (cond b (fed_one l) l).topic) (cond b (fed_one l) l).store.whole (stores_in (map (fed topic recs next) ls) q) ≡ cond (q == l.topic) l.store.whole (stores_in ls q)) [
         | true ↦ λ e.
             let no : (q == l.topic) ≡ false = subst (λ n. (q == n) ≡ false) (eqb-true topic l.topic e) ne in
-            ap (λ c. cond c (latest_from l.store (records_of recs)) (stores_in (map (fed topic recs next) ls) q)) no ∙ store_other ls q ne ∙ sym (ap (λ c. cond c l.store (stores_in ls q)) no)
-        | false ↦ λ e. ap (λ s. cond (q == l.topic) l.store s) (store_other ls q ne)
+            ap (λ c. cond c (latest_from l.store.whole (records_of recs)) (stores_in (map (fed topic recs next) ls) q)) no ∙ store_other ls q ne ∙ sym (ap (λ c. cond c l.store.whole (stores_in ls q)) no)
+        | false ↦ λ e. ap (λ s. cond (q == l.topic) l.store.whole s) (store_other ls q ne)
       ] refl
 
   position_other : (ls : List Changelog) (q : ℕ) → (q == topic) ≡ false → positions_in (map (fed topic recs next) ls) q ≡ positions_in ls q
@@ -118,7 +119,7 @@ feeds setup journal old new topic recs next is got follows =
 
 absent : (topic : ℕ) (ls : List Changelog) → has_topic topic (numbers_of ls) ≡ false → stores_in ls topic ≡ empty_store
 absent topic [] none = refl
-absent topic (l ∷ ls) none = elim (topic == l.topic) as (λ b. b || has_topic topic (numbers_of ls) ≡ false → cond b l.store (stores_in ls topic) ≡ empty_store) [
+absent topic (l ∷ ls) none = elim (topic == l.topic) as (λ b. b || has_topic topic (numbers_of ls) ≡ false → cond b l.store.whole (stores_in ls topic) ≡ empty_store) [
   | true ↦ λ e. absurd (true≢false e)
   | false ↦ λ e. absent topic ls e
 ] none

@@ -3,14 +3,15 @@ use Rattle.std.specs.Prelude.{◌≡◌, ◌≤◌, ◌+◌, ◌-◌, ◌^◌, �
 use Rattle.ks_row.specs.Records.{Record as Rec}
 use Rattle.ks_row.specs.declared.record.TaskId.{TaskId}
 use Rattle.ks_history.specs.declared.journal.Entry.{Entry}
-use Rattle.ks_history.specs.Machine.{TaskPlan, latest_from, part_of, has_topic}
+use Rattle.ks_history.specs.Machine.{TaskPlan, part_of, has_topic}
 use Rattle.ks_history.specs.State.{Setup}
 use Rattle.ks_history.specs.Reads.{fetched}
 use Rattle.ks_history.specs.Follows.{ReplicaView, ReplicaFollows}
 use Rattle.ks_history.specs.History.{at}
 use Rattle.ks_store.specs.Restored.{records_of}
-use Rattle.ks_store.specs.Changelogs.{stores_in}
-use Rattle.ks_store.specs.declared.changelogs.Changelog.{Changelog}
+use Rattle.ks_cache.specs.Kept.{kept_after}
+use Rattle.ks_cache.specs.Changelogs.{stores_in}
+use Rattle.ks_cache.specs.declared.changelogs.Changelog.{Changelog}
 use Rattle.ks_standby.specs.declared.replica.Replica.{Replica}
 
 abbrev pub positions_in : List Changelog → ℕ → ℕ
@@ -23,7 +24,7 @@ numbers_of ls = map (λ (l : Changelog). l.topic) ls
 -- after it was fed records of this changelog
 abbrev pub fed : ℕ → List (ℕ × Rec) → ℕ → Changelog → Changelog
 fed topic recs next l =
-    if topic == l.topic then record { topic = l.topic; position = next; store = latest_from l.store (records_of recs) } else l
+    if topic == l.topic then record { topic = l.topic; position = next; store = kept_after l.store (records_of recs) } else l
 
 abbrev pub sum_of : List Changelog → ℕ
 sum_of [] = 0

@@ -1,23 +1,23 @@
 //! The changelogs of a task, and feeding them.
 ghost use Rattle.std.specs.Prelude.{◌≡◌, IfOk, OnOk, map};
-ghost use Rattle.ks_def_runs.specs.Bytes.{empty_store};
+ghost use Rattle.ks_cache.specs.Kept.{empty_kept};
 ghost use Rattle.ks_standby.specs.Replicas.{positions_in, fed};
 
+use ks_cache::{Changelog, TaskStore};
 use ks_row::Rec;
-use ks_store::{Changelog, OrderedStore, restore};
 use std::alloc::{AllocError, Global};
 
 /// New changelogs, with empty stores.
 pub fn new_changelogs(alloc: Global, numbers: &[u16]) -> Result<Vec<Changelog>, AllocError>
     ensures { IfOk result (λ v. v.items ≡ map
-        (λ number. record { topic = number; position = 0; store = empty_store }) numbers.now) }
+        (λ number. record { topic = number; position = 0; store = empty_kept }) numbers.now) }
 {
     let mut changelogs = Vec::new(alloc);
     for number in numbers {
         changelogs.push(Changelog {
             topic: *number,
             position: 0,
-            store: OrderedStore::new(alloc),
+            store: TaskStore::new(alloc),
         })?;
     }
     Ok(changelogs)
@@ -47,7 +47,7 @@ fn feed_changelog(
     ensures topic { changelog.new.topic ≡ changelog.old.topic }
 {
     if topic == changelog.topic {
-        restore(&mut changelog.store, recs)?;
+        changelog.store.restore(recs)?;
         changelog.position = next;
     }
     Ok(())

@@ -1,5 +1,6 @@
 //! A replica.
-ghost use Rattle.std.specs.Prelude.{◌≡◌, ◌≤◌, ℕ, List, true, IfOk, OnOk};
+ghost use Rattle.std.specs.Prelude.{◌≡◌, ◌≤◌, ℕ, List, true, IfOk, OnOk, option_map};
+ghost use Rattle.ks_def_runs.specs.FinMap as fin;
 ghost use Rattle.ks_history.specs.declared.journal.Entry.{Entry};
 ghost use Rattle.ks_history.specs.State.{Setup};
 ghost use Rattle.ks_history.specs.Machine.{has_topic};
@@ -7,8 +8,8 @@ ghost use Rattle.ks_law_restore.specs.Replicas.{fresh_replica, fed_replica};
 ghost use Rattle.ks_standby.specs.Replicas.{replica_view, changelogs_of, position_sum, GivesFetched, FollowsOn};
 
 use crate::changelogs::{feed_changelogs, new_changelogs, position_in_changelog};
+use ks_cache::{Changelog, find_bytes};
 use ks_row::{Rec, TaskId};
-use ks_store::Changelog;
 use std::alloc::{AllocError, Global};
 
 /// The stores of a task, and a position in each of its changelogs. Kafka Streams: a `StandbyTask`.
@@ -59,6 +60,14 @@ impl Replica {
         ensures { result ≡ (replica_view self.now).position topic }
     {
         position_in_changelog(&self.changelogs, topic)
+    }
+
+    /// The bytes at a key of a changelog's store; none where it has no such key, or no such changelog. Takes no memory.
+    pub fn value(&self, log: u16, key: &[u8]) -> Option<&[u8]>
+        ensures { option_map (λ v. v.now) result
+            ≡ fin.get ((replica_view self.now).stores log) key.now }
+    {
+        find_bytes(&self.changelogs, log, key)
     }
 
     /// The sum of the positions in all its changelogs, or 2^64 - 1 where that would be more: with the sum of the ends it tells the lag

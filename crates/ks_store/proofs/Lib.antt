@@ -4,4 +4,3 @@ pub mod Fronted
 pub mod Fronts
 pub mod Applied
 pub mod Called
-pub mod NoChangelog

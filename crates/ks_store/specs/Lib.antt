@@ -3,4 +3,3 @@ pub mod Pairs
 pub mod Groups
 pub mod Rows
 pub mod Calls
-pub mod Changelogs

@@ -2,7 +2,6 @@
 #![tactic(auto)]
 
 mod calls;
-mod changelogs;
 mod groups;
 mod ordered;
 mod pairs;
@@ -14,7 +13,6 @@ mod table;
 mod tree;
 
 pub use calls::{StoreCall, StoreReply, run_calls};
-pub use changelogs::{Changelog, find_bytes};
 pub use ordered::OrderedStore;
 pub use plain::PlainStore;
 pub use restoring::restore;

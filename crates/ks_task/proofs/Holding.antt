@@ -4,11 +4,11 @@ use Rattle.std.specs.Prelude.{if◌then◌else◌}
 use Rattle.ks_def_runs.specs.FinMap as fin
 use Rattle.ks_def_runs.specs.Pairs.{ArePairs}
 use Rattle.ks_law_step.specs.Whole.{AreStores}
-use Rattle.ks_store.specs.declared.changelogs.Changelog.{Changelog}
-use Rattle.ks_store.specs.Changelogs.{stores_in}
+use Rattle.ks_cache.specs.declared.changelogs.Changelog.{Changelog}
+use Rattle.ks_cache.specs.Changelogs.{stores_in}
 
-pub held_more : (l : Changelog) (ls : List Changelog) → ArePairs (fin.entries l.store) → AreStores (stores_in ls) → AreStores (stores_in (l ∷ ls))
-held_more l ls h more n = elim (n == l.topic) as (λ b. ArePairs (fin.entries (if b then l.store else stores_in ls n))) [
+pub held_more : (l : Changelog) (ls : List Changelog) → ArePairs (fin.entries l.store.whole) → AreStores (stores_in ls) → AreStores (stores_in (l ∷ ls))
+held_more l ls h more n = elim (n == l.topic) as (λ b. ArePairs (fin.entries (if b then l.store.whole else stores_in ls n))) [
   | true ↦ h
   | false ↦ more n
 ]

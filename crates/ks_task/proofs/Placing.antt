@@ -1,5 +1,5 @@
 -- Records at their places, one after another.
-use Rattle.std.proofs.Common.{◌≡◌, ℕ, suc, ◌+◌, ◌<◌, ◌≤◌, true, false, cond, List, [], ◌∷◌, ◌++◌, length, drop, refl, sym, ap, ap₂, ◌∙◌, arith, zero}
+use Rattle.std.proofs.Common.{◌≡◌, ℕ, suc, ◌+◌, ◌<◌, ◌≤◌, true, false, cond, List, [], ◌∷◌, ◌++◌, length, drop, refl, sym, ap, ap₂, ◌∙◌, arith, zero, Option, Some, None}
 use Rattle.std.proofs.Math.Seq.{drop-append_seam}
 use Rattle.std.proofs.lemmas.List.{drop_more}
 use Rattle.ks_row.specs.Records.{Record as Rec, no_part, no_rec, part_of_list, placed_of_list}
@@ -7,7 +7,10 @@ use Rattle.ks_row.specs.declared.record.PartId.{PartId}
 use Rattle.ks_row.specs.Parts.{same_part}
 use Rattle.ks_def_runs.specs.Bytes.{Store}
 use Rattle.ks_def_tasks.specs.Bytes.{keep_bytes, keep_all, records_at}
-use Rattle.ks_task.specs.Views.{grouped, with_output}
+use Rattle.ks_history.specs.Machine.{applied}
+use Rattle.ks_cache.specs.Kept.{Kept, kept_with}
+use Rattle.ks_cache.specs.Lists.{cached_with, cached_after}
+use Rattle.ks_task.specs.Views.{with_records, grouped, with_output}
 
 abbrev pub placed_at : List (PartId × Rec) → ℕ → PartId × Rec
 placed_at made place = (part_of_list made place, placed_of_list made place)
@@ -23,28 +26,34 @@ none_left (x ∷ xs) zero le = absurd (omega (arith, le))
 none_left (x ∷ xs) (suc i) le = none_left xs i (omega (arith, le))
 
 -- ---- into a store
-pub kept_own : (old new : Store) (part : PartId) (x : PartId × Rec) → same_part part x.0 ≡ true → new ≡ keep_bytes old x.1.key x.1.value →
-    (rest : List (PartId × Rec)) → keep_all new (records_at part rest) ≡ keep_all old (records_at part (x ∷ rest))
-kept_own old new part x own kept rest =
-    ap (λ (m : Store). keep_all m (records_at part rest)) kept
-    ∙ sym (ap (λ b. keep_all old (cond b (x.1 ∷ records_at part rest) (records_at part rest))) own)
+applied_bytes : (m : Store) (key value : Option (List ℕ)) → applied m key value ≡ keep_bytes m key value
+applied_bytes m None value = refl
+applied_bytes m (Some key) value = refl
 
-pub passed_own : (old : Store) (part : PartId) (x : PartId × Rec) → same_part part x.0 ≡ false →
-    (rest : List (PartId × Rec)) → keep_all old (records_at part rest) ≡ keep_all old (records_at part (x ∷ rest))
-passed_own old part x other rest = sym (ap (λ b. keep_all old (cond b (x.1 ∷ records_at part rest) (records_at part rest))) other)
+pub kept_own : (old new : Kept) (part : PartId) (x : PartId × Rec) → same_part part x.0 ≡ true → new ≡ kept_with old x.1.key x.1.value →
+    (rest : List (PartId × Rec)) → with_records new (records_at part rest) ≡ with_records old (records_at part (x ∷ rest))
+kept_own old new part x own kept rest =
+    let held = cached_after old.capacity (cached_with old.capacity x.1.key x.1.value old.cached) (records_at part rest) in
+    ap (λ (s : Kept). with_records s (records_at part rest)) kept
+    ∙ (ap (λ (m : Store). record { whole = keep_all m (records_at part rest); cached = held; capacity = old.capacity }) (applied_bytes old.whole x.1.key x.1.value)
+    ∙ sym (ap (λ b. with_records old (cond b (x.1 ∷ records_at part rest) (records_at part rest))) own))
+
+pub passed_own : (old : Kept) (part : PartId) (x : PartId × Rec) → same_part part x.0 ≡ false →
+    (rest : List (PartId × Rec)) → with_records old (records_at part rest) ≡ with_records old (records_at part (x ∷ rest))
+passed_own old part x other rest = sym (ap (λ b. with_records old (cond b (x.1 ∷ records_at part rest) (records_at part rest))) other)
 
 -- one more from a place on, and none once they are through
-pub kept_more : (part : PartId) (made : List (PartId × Rec)) (i : ℕ) (q : PartId) (r : Rec) (old new all : Store) → i < length made → q ≡ part_of_list made i → r ≡ placed_of_list made i →
-    ((rest : List (PartId × Rec)) → keep_all new (records_at part rest) ≡ keep_all old (records_at part ((q, r) ∷ rest))) →
-    keep_all old (records_at part (drop i made)) ≡ all → keep_all new (records_at part (drop (i + 1) made)) ≡ all
+pub kept_more : (part : PartId) (made : List (PartId × Rec)) (i : ℕ) (q : PartId) (r : Rec) (old new all : Kept) → i < length made → q ≡ part_of_list made i → r ≡ placed_of_list made i →
+    ((rest : List (PartId × Rec)) → with_records new (records_at part rest) ≡ with_records old (records_at part ((q, r) ∷ rest))) →
+    with_records old (records_at part (drop i made)) ≡ all → with_records new (records_at part (drop (i + 1) made)) ≡ all
 kept_more part made i q r old new all lt at is one so_far =
     one (drop (i + 1) made)
-    ∙ (ap₂ (λ (p : PartId) (x : Rec). keep_all old (records_at part ((p, x) ∷ drop (i + 1) made))) at is
-    ∙ (ap (λ (xs : List (PartId × Rec)). keep_all old (records_at part xs)) (sym (placed_more made i lt)) ∙ so_far))
+    ∙ (ap₂ (λ (p : PartId) (x : Rec). with_records old (records_at part ((p, x) ∷ drop (i + 1) made))) at is
+    ∙ (ap (λ (xs : List (PartId × Rec)). with_records old (records_at part xs)) (sym (placed_more made i lt)) ∙ so_far))
 
-pub kept_through : (part : PartId) (made : List (PartId × Rec)) (i : ℕ) (new all : Store) → length made ≤ i →
-    keep_all new (records_at part (drop i made)) ≡ all → new ≡ all
-kept_through part made i new all le so_far = sym (ap (λ (xs : List (PartId × Rec)). keep_all new (records_at part xs)) (none_left made i le)) ∙ so_far
+pub kept_through : (part : PartId) (made : List (PartId × Rec)) (i : ℕ) (new all : Kept) → length made ≤ i →
+    with_records new (records_at part (drop i made)) ≡ all → new ≡ all
+kept_through part made i new all le so_far = sym (ap (λ (xs : List (PartId × Rec)). with_records new (records_at part xs)) (none_left made i le)) ∙ so_far
 
 -- ---- by partition
 pub grouped_more : (made : List (PartId × Rec)) (i : ℕ) (q : PartId) (r : Rec) (old new all : List (PartId × List Rec)) → i < length made → q ≡ part_of_list made i → r ≡ placed_of_list made i →

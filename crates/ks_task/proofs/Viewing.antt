@@ -22,16 +22,20 @@ use Rattle.ks_law_topology.specs.Work.{work_of}
 use Rattle.ks_law_restore.specs.Replicas.{restored_view}
 use Rattle.ks_law_restore.specs.Views.{with_taken, take_view, skip_view, committed_view, WorkView, IsFrozen, recs_at, are_outputs}
 use Rattle.ks_task.specs.declared.inputs.Input.{Input}
-use Rattle.ks_store.specs.declared.changelogs.Changelog.{Changelog}
+use Rattle.ks_cache.specs.declared.changelogs.Changelog.{Changelog}
 use Rattle.ks_task_nodes.specs.declared.topics.NodeTopics.{NodeTopics}
 use Rattle.ks_def_tasks.specs.Rules.{rules_of}
 use Rattle.ks_law_step.specs.Whole.{IsRecord, AreStores}
 use Rattle.ks_task_nodes.specs.Nodes.{nodes_of}
 use Rattle.ks_task_nodes.specs.Records.{arrival_at}
 use Rattle.ks_task_step.specs.Steps.{made_or_none, late_or_none}
-use Rattle.ks_store.specs.Changelogs.{stores_in}
+use Rattle.ks_cache.specs.Changelogs.{stores_in}
+use Rattle.ks_cache.specs.Lists.{cached_after}
+use Rattle.ks_cache.proofs.Taking.{cached_after-append}
+use Rattle.std.specs.List.{All}
+use Rattle.std.proofs.lemmas.List.Elements.{All-nil, All-cons, All-head, All-tail}
 use Rattle.ks_standby.specs.Replicas.{positions_in, numbers_of, view_in}
-use Rattle.ks_task.specs.Views.{position_in, committed_in, topics_in, moved_to, with_committed, input_at, log_after, ended, own_ends, view_of, IsTask, are_committed, grouped}
+use Rattle.ks_task.specs.Views.{position_in, committed_in, topics_in, moved_to, with_committed, input_at, log_after, ended, own_ends, view_of, IsTask, are_committed, grouped, holding, cached_in, IsCached}
 use Rattle.ks_task.proofs.Stepping.{step_is}
 use Rattle.ks_task.proofs.Outputs.{grouped_once, grouped_recs}
 
@@ -132,7 +136,7 @@ numbers_ended ends (l ∷ ls) = ap (λ ns. l.topic ∷ ns) (numbers_ended ends l
 
 stores_ended : (ends : List (ℕ × ℕ)) (ls : List Changelog) (n : ℕ) → stores_in (map (ended ends) ls) n ≡ stores_in ls n
 stores_ended ends [] n = refl
-stores_ended ends (l ∷ ls) n = ap (λ (s : Store). if n == l.topic then l.store else s) (stores_ended ends ls n)
+stores_ended ends (l ∷ ls) n = ap (λ (s : Store). if n == l.topic then l.store.whole else s) (stores_ended ends ls n)
 
 pub own_offset : (ns : List ℕ) (topic old : ℕ) (ends : List (ℕ × ℕ)) → offset_in old topic (own_ends ns ends) ≡ cond (has_topic topic ns) (offset_in old topic ends) old
 own_offset ns topic old [] = sym (both (has_topic topic ns) old)
@@ -167,9 +171,9 @@ store_after : (part : ℕ) (made : List (PartId × Rec)) (ls : List Changelog) (
 store_after part made [] n = refl
 store_after part made (l ∷ ls) n =
     elim (n == l.topic) as (λ b. (n == l.topic) ≡ b →
-    (if b then keep_all l.store (records_at (record { topic = l.topic; part = part }) made) else stores_in (map (log_after part made) ls) n)
-    ≡ cond (b || has_number n (numbers_of ls)) (keep_all (if b then l.store else stores_in ls n) (records_at (record { topic = n; part = part }) made)) (if b then l.store else stores_in ls n)) [
-      | true ↦ λ e. ap (λ m. keep_all l.store (records_at (record { topic = m; part = part }) made)) (sym (eq_is n l.topic e))
+    (if b then keep_all l.store.whole (records_at (record { topic = l.topic; part = part }) made) else stores_in (map (log_after part made) ls) n)
+    ≡ cond (b || has_number n (numbers_of ls)) (keep_all (if b then l.store.whole else stores_in ls n) (records_at (record { topic = n; part = part }) made)) (if b then l.store.whole else stores_in ls n)) [
+      | true ↦ λ e. ap (λ m. keep_all l.store.whole (records_at (record { topic = m; part = part }) made)) (sym (eq_is n l.topic e))
       | false ↦ λ e. store_after part made ls n
     ] refl
 
@@ -213,15 +217,74 @@ restored_is t offsets logs =
     ap₂ (λ (k i : ℕ → ℕ). record { task = t; kept = k; inputs = i; order = []; position = positions_in logs; stores = stores_in logs; made = λ (q : PartId). []; late = 0 })
     (fun_ext (λ q. committed_at offsets q)) (fun_ext (λ q. position_at offsets q))
 
-module _ (d : DraftView) (id : TaskId) (nodes : List NodeTopics) (inputs : List Input) (logs : List Changelog) (h : IsTask d id nodes inputs logs) where
-  pub still : (inputs' : List Input) (logs' : List Changelog) → topics_in inputs' ≡ topics_in inputs → numbers_of logs' ≡ numbers_of logs → IsTask d id nodes inputs' logs'
-  still inputs' logs' i l = record { well_formed = h.well_formed; have = h.have; fits = h.fits; there = h.there; nodes_are = h.nodes_are; inputs_are = i ∙ h.inputs_are; logs_are = l ∙ h.logs_are }
+-- ---- what the stores hold back
+-- after more records, of what was made before and of these
+cached_more : (part cache : ℕ) (made more : List (PartId × Rec)) (ls : List Changelog) → All (IsCached part cache made) ls → All (IsCached part cache (made ++ more)) (map (log_after part more) ls)
+cached_more part cache made more [] h = All-nil (IsCached part cache (made ++ more))
+cached_more part cache made more (l ∷ ls) h =
+    let q : PartId = record { topic = l.topic; part = part } in
+    let own : IsCached part cache made l = All-head (IsCached part cache made) l ls h in
+    All-cons (IsCached part cache (made ++ more)) (log_after part more l) (map (log_after part more) ls)
+    (record {
+      capacity = own.capacity;
+      cached = ap₂ (λ c es. cached_after c es (records_at q more)) own.capacity own.cached
+          ∙ sym (ap (cached_after cache []) (records-append q made more) ∙ cached_after-append cache [] (records_at q made) (records_at q more));
+    })
+    (cached_more part cache made more ls (All-tail (IsCached part cache made) l ls h))
 
-  pub still_moved : (topic to : ℕ) (inputs' : List Input) (logs' : List Changelog) → inputs' ≡ map (moved_to topic to) inputs → numbers_of logs' ≡ numbers_of logs → IsTask d id nodes inputs' logs'
-  still_moved topic to inputs' logs' i l = still inputs' logs' (ap topics_in i ∙ topics_moved topic to inputs) l
+-- nothing, after a commit
+cached_ended : (part cache : ℕ) (made : List (PartId × Rec)) (ends : List (ℕ × ℕ)) (ls : List Changelog) → All (IsCached part cache made) ls → All (IsCached part cache []) (map (ended ends) ls)
+cached_ended part cache made ends [] h = All-nil (IsCached part cache [])
+cached_ended part cache made ends (l ∷ ls) h =
+    let own : IsCached part cache made l = All-head (IsCached part cache made) l ls h in
+    All-cons (IsCached part cache []) (ended ends l) (map (ended ends) ls) (record { capacity = own.capacity; cached = refl }) (cached_ended part cache made ends ls (All-tail (IsCached part cache made) l ls h))
 
-  pub still_kept : (ends : List (ℕ × ℕ)) (inputs' : List Input) (logs' : List Changelog) → inputs' ≡ map with_committed inputs → logs' ≡ map (ended ends) logs → IsTask d id nodes inputs' logs'
-  still_kept ends inputs' logs' i l = still inputs' logs' (ap topics_in i ∙ topics_kept inputs) (ap numbers_of l ∙ numbers_ended ends logs)
+-- nothing, where a task begins
+pub cached_first : (part cache : ℕ) (ls : List Changelog) → All (IsCached part cache []) (map (holding cache) ls)
+cached_first part cache [] = All-nil (IsCached part cache [])
+cached_first part cache (l ∷ ls) = All-cons (IsCached part cache []) (holding cache l) (map (holding cache) ls) (record { capacity = refl; cached = refl }) (cached_first part cache ls)
+
+pub cached_there : (t : TaskId) (cache : ℕ) (made : List (PartId × Rec)) (ls : List Changelog) (topic : ℕ) → All (IsCached t.part cache made) ls → has_topic topic (numbers_of ls) ≡ true →
+    cached_in ls topic ≡ cached_after cache [] (records_at (part_of topic t) made)
+cached_there t cache made [] topic h there = absurd (true≢false (sym there))
+cached_there t cache made (l ∷ ls) topic h there =
+    let own : IsCached t.part cache made l = All-head (IsCached t.part cache made) l ls h in
+    elim (topic == l.topic) as (λ b. (topic == l.topic) ≡ b → b || has_topic topic (numbers_of ls) ≡ true → (if b then l.store.cached else cached_in ls topic) ≡ cached_after cache [] (records_at (part_of topic t) made)) [
+      | true ↦ λ e x. own.cached ∙ ap (λ n. cached_after cache [] (records_at (part_of n t) made)) (sym (eq_is topic l.topic e))
+      | false ↦ λ e x. cached_there t cache made ls topic (All-tail (IsCached t.part cache made) l ls h) x
+    ] refl there
+
+pub cached_nowhere : (ls : List Changelog) (topic : ℕ) → has_topic topic (numbers_of ls) ≡ false → cached_in ls topic ≡ []
+cached_nowhere [] topic none = refl
+cached_nowhere (l ∷ ls) topic none = elim (topic == l.topic) as (λ b. b || has_topic topic (numbers_of ls) ≡ false → (if b then l.store.cached else cached_in ls topic) ≡ []) [
+  | true ↦ λ x. absurd (true≢false x)
+  | false ↦ λ x. cached_nowhere ls topic x
+] none
+
+numbers_after : (part : ℕ) (made : List (PartId × Rec)) (ls : List Changelog) → numbers_of (map (log_after part made) ls) ≡ numbers_of ls
+numbers_after part made [] = refl
+numbers_after part made (l ∷ ls) = ap (λ ns. l.topic ∷ ns) (numbers_after part made ls)
+
+pub numbers_held : (cache : ℕ) (ls : List Changelog) → numbers_of (map (holding cache) ls) ≡ numbers_of ls
+numbers_held cache [] = refl
+numbers_held cache (l ∷ ls) = ap (λ ns. l.topic ∷ ns) (numbers_held cache ls)
+
+module _ (d : DraftView) (id : TaskId) (nodes : List NodeTopics) (inputs : List Input) (logs : List Changelog) (was : List (PartId × Rec)) (cache : ℕ) (h : IsTask d id nodes inputs logs was cache) where
+  pub still : (inputs' : List Input) (logs' : List Changelog) (made' : List (PartId × Rec)) → topics_in inputs' ≡ topics_in inputs → numbers_of logs' ≡ numbers_of logs → All (IsCached id.part cache made') logs' → IsTask d id nodes inputs' logs' made' cache
+  still inputs' logs' made' i l c = record { well_formed = h.well_formed; have = h.have; fits = h.fits; there = h.there; nodes_are = h.nodes_are; inputs_are = i ∙ h.inputs_are; logs_are = l ∙ h.logs_are; caches_are = c }
+
+  pub still_skipped : (topic to : ℕ) (inputs' : List Input) → inputs' ≡ map (moved_to topic to) inputs → IsTask d id nodes inputs' logs was cache
+  still_skipped topic to inputs' i = still inputs' logs was (ap topics_in i ∙ topics_moved topic to inputs) refl h.caches_are
+
+  pub still_moved : (topic to : ℕ) (inputs' : List Input) (logs' : List Changelog) (more made' : List (PartId × Rec)) → inputs' ≡ map (moved_to topic to) inputs → logs' ≡ map (log_after id.part more) logs → made' ≡ was ++ more → IsTask d id nodes inputs' logs' made' cache
+  still_moved topic to inputs' logs' more made' i l o =
+      still inputs' logs' made' (ap topics_in i ∙ topics_moved topic to inputs) (ap numbers_of l ∙ numbers_after id.part more logs)
+      (subst (λ m. All (IsCached id.part cache m) logs') (sym o) (subst (All (IsCached id.part cache (was ++ more))) (sym l) (cached_more id.part cache was more logs h.caches_are)))
+
+  pub still_kept : (ends : List (ℕ × ℕ)) (inputs' : List Input) (logs' : List Changelog) (made' : List (PartId × Rec)) → inputs' ≡ map with_committed inputs → logs' ≡ map (ended ends) logs → made' ≡ [] → IsTask d id nodes inputs' logs' made' cache
+  still_kept ends inputs' logs' made' i l o =
+      still inputs' logs' made' (ap topics_in i ∙ topics_kept inputs) (ap numbers_of l ∙ numbers_ended ends logs)
+      (subst (λ m. All (IsCached id.part cache m) logs') (sym o) (subst (All (IsCached id.part cache [])) (sym l) (cached_ended id.part cache was ends logs h.caches_are)))
 
   named : (topic : ℕ) → has_topic topic (input_numbers (plan_of d) id.sub) ≡ true → has_topic topic (topics_in inputs) ≡ true
   named topic there = ap (has_topic topic) h.inputs_are ∙ there

@@ -1,6 +1,6 @@
 -- A task's inputs and changelogs as lists, and the view that they are.
 use Rattle.std.specs.Prelude.{◌≡◌, ℕ, ◌+◌, ◌-◌, ◌==◌, Bool, true, false, List, [], ◌∷◌, ◌++◌, map, None, Option, Some, if◌then◌else◌}
-use Rattle.std.specs.List.{filter}
+use Rattle.std.specs.List.{filter, All}
 use Rattle.ks_row.specs.Records.{Record as Rec}
 use Rattle.ks_row.specs.declared.record.PartId.{PartId}
 use Rattle.ks_row.specs.declared.record.TaskId.{TaskId}
@@ -12,6 +12,7 @@ use Rattle.ks_plan.specs.Infos.{input_numbers, changelog_numbers}
 use Rattle.ks_plan.specs.Faults.{fault_of}
 use Rattle.ks_plan.specs.declared.node.Topic.{Topic}
 use Rattle.ks_plan.specs.Plan.{Kind}
+use Rattle.ks_def_runs.specs.Bytes.{Store}
 use Rattle.ks_def_tasks.specs.Bytes.{keep_all, records_at}
 use Rattle.ks_history.specs.Machine.{has_topic}
 use Rattle.ks_history.specs.State.{has_task, offset_in}
@@ -22,8 +23,10 @@ use Rattle.ks_def_tasks.specs.Rules.{HaveParts}
 use Rattle.ks_task_nodes.specs.declared.processor.ProcessorNode.{ProcessorNode}
 use Rattle.ks_task_nodes.specs.Nodes.{topics_from, node_view}
 use Rattle.ks_task_nodes.specs.Reach.{live_in}
-use Rattle.ks_store.specs.declared.changelogs.Changelog.{Changelog}
-use Rattle.ks_store.specs.Changelogs.{stores_in}
+use Rattle.ks_cache.specs.declared.changelogs.Changelog.{Changelog}
+use Rattle.ks_cache.specs.Changelogs.{stores_in}
+use Rattle.ks_cache.specs.Kept.{Kept, held_back}
+use Rattle.ks_cache.specs.Lists.{Pairs, cached_after}
 use Rattle.ks_standby.specs.Replicas.{positions_in, numbers_of}
 use Rattle.ks_law_kinds.specs.Fitting.{FitsPlan}
 
@@ -55,12 +58,34 @@ abbrev pub input_at : ℕ × ℕ → Input
 input_at o = record { topic = o.0; committed = o.1; position = o.1 }
 
 -- ---- changelogs
+-- a store after records of its changelog
+abbrev pub with_records : Kept → List Rec → Kept
+with_records s recs = record { whole = keep_all s.whole recs; cached = cached_after s.capacity s.cached recs; capacity = s.capacity }
+
 -- after the records for it among these
 abbrev pub log_after : ℕ → List (PartId × Rec) → Changelog → Changelog
-log_after part made l = record { topic = l.topic; position = l.position; store = keep_all l.store (records_at (record { topic = l.topic; part = part }) made) }
+log_after part made l = record { topic = l.topic; position = l.position; store = with_records l.store (records_at (record { topic = l.topic; part = part }) made) }
 
+-- its position is the named end, and nothing is held back
 abbrev pub ended : List (ℕ × ℕ) → Changelog → Changelog
-ended ends l = record { topic = l.topic; position = offset_in l.position l.topic ends; store = l.store }
+ended ends l = record { topic = l.topic; position = offset_in l.position l.topic ends; store = held_back l.store.capacity l.store }
+
+-- its store holds back so much from now on, and nothing yet
+abbrev pub holding : ℕ → Changelog → Changelog
+holding cache l = record { topic = l.topic; position = l.position; store = held_back cache l.store }
+
+-- all but what is held back
+abbrev pub plain_log : Changelog → ℕ × (ℕ × Store)
+plain_log l = (l.topic, (l.position, l.store.whole))
+
+abbrev pub cached_in : List Changelog → ℕ → Pairs
+cached_in [] number = []
+cached_in (l ∷ ls) number = if number == l.topic then l.store.cached else cached_in ls number
+
+-- a changelog whose store holds back at most so much, and that of what was made for it since the last commit
+pub record IsCached (part cache : ℕ) (made : List (PartId × Rec)) (l : Changelog) : Type 0 where
+  pub capacity : l.store.capacity ≡ cache
+  pub cached : l.store.cached ≡ cached_after cache [] (records_at (record { topic = l.topic; part = part }) made)
 
 -- those of the ends that are of these changelogs
 abbrev pub own_ends : List ℕ → List (ℕ × ℕ) → List (ℕ × ℕ)
@@ -79,8 +104,8 @@ view_of id inputs logs order made late = record {
   late = late;
 }
 
--- a task of a topology that has its nodes, its inputs and its changelogs
-pub record IsTask (d : DraftView) (id : TaskId) (nodes : List NodeTopics) (inputs : List Input) (logs : List Changelog) : Type 0 where
+-- a task of a topology that has its nodes, its inputs and its changelogs, whose stores hold back what was made since the last commit
+pub record IsTask (d : DraftView) (id : TaskId) (nodes : List NodeTopics) (inputs : List Input) (logs : List Changelog) (made : List (PartId × Rec)) (cache : ℕ) : Type 0 where
   pub well_formed : fault_of d ≡ None
   pub have : HaveParts (plan_of d)
   pub fits : FitsPlan (plan_of d)
@@ -88,6 +113,7 @@ pub record IsTask (d : DraftView) (id : TaskId) (nodes : List NodeTopics) (input
   pub nodes_are : nodes ≡ topics_from (plan_of d) id.sub 0 (plan_of d).kinds
   pub inputs_are : topics_in inputs ≡ input_numbers (plan_of d) id.sub
   pub logs_are : numbers_of logs ≡ changelog_numbers (plan_of d) id.sub
+  pub caches_are : All (IsCached id.part cache made) logs
 
 -- in each topic of these inputs, the position among all is the committed offset among all
 abbrev pub are_committed : List Input → List Input → Bool

@@ -1,58 +1,41 @@
 //! What a task keeps in its changelogs, with their stores.
-ghost use Rattle.std.specs.Prelude.{◌≡◌, ◌∷◌, List, OnOk, map, drop};
-ghost use Rattle.ks_def_tasks.specs.Bytes.{keep_bytes, keep_all as kept_all, records_at};
+ghost use Rattle.std.specs.Prelude.{◌≡◌, ◌∷◌, List, OnOk, length, map, drop};
+ghost use Rattle.ks_def_tasks.specs.Bytes.{records_at};
 ghost use Rattle.ks_history.specs.State.{offset_in};
 ghost use Rattle.ks_row.specs.Spelling.{IsBytes};
 ghost use Rattle.ks_row.specs.Records.{Record, record_seen};
 ghost use Rattle.ks_row.specs.declared.record.PartId.{PartId as Part};
 ghost use Rattle.ks_law_step.specs.Whole.{IsRecord, AreStores};
-ghost use Rattle.ks_store.specs.Changelogs.{stores_in};
+ghost use Rattle.ks_cache.specs.Changelogs.{stores_in};
 ghost use Rattle.ks_standby.specs.Replicas.{numbers_of};
-ghost use Rattle.ks_task.specs.Views.{log_after, ended};
+ghost use Rattle.ks_task.specs.Views.{with_records, log_after, ended, holding, plain_log, cached_in};
 
+use ks_cache::{Changelog, TaskStore};
 use ks_row::{PartId, PlacedRecords, RecordRef};
-use ks_store::{Changelog, KvStore, OrderedStore};
 use std::alloc::{AllocError, Global};
-
-fn keep_rec(store: &mut OrderedStore, rec: RecordRef<'_>) -> Result<(), AllocError>
-    ensures { OnOk result (store.new ≡ keep_bytes store.old (record_seen rec.entry).key
-        (record_seen rec.entry).value) }
-{
-    match (rec.key, rec.value) {
-        (Some(key), Some(value)) => store.put(key, value),
-        (Some(key), None) => {
-            store.delete(key);
-            Ok(())
-        }
-        (None, _) => Ok(()),
-    }
-}
 
 // A record, where it is for this partition: whatever comes behind it is kept after it.
 fn keep_own(
-    store: &mut OrderedStore,
+    store: &mut TaskStore,
     part: PartId,
     at: PartId,
     rec: RecordRef<'_>,
 ) -> Result<(), AllocError>
     ensures { OnOk result ((rest : List (Part × Record))
-        → kept_all store.new (records_at part rest)
-        ≡ kept_all store.old (records_at part ((at, record_seen rec.entry) ∷ rest))) }
+        → with_records store.new (records_at part rest)
+        ≡ with_records store.old (records_at part ((at, record_seen rec.entry) ∷ rest))) }
 {
-    if part.is(at) {
-        keep_rec(store, rec)
-    } else {
-        Ok(())
-    }
+    if part.is(at) { store.keep(rec) } else { Ok(()) }
 }
 
 fn keep_all(
-    store: &mut OrderedStore,
+    store: &mut TaskStore,
     part: PartId,
     made: &PlacedRecords,
     from: usize,
 ) -> Result<(), AllocError>
-    ensures { OnOk result (store.new ≡ kept_all store.old (records_at part (drop from made.now))) }
+    ensures { OnOk result (store.new
+        ≡ with_records store.old (records_at part (drop from made.now))) }
 {
     for place in from..made.len() {
         keep_own(store, part, made.part(place), made.get(place))?;
@@ -106,19 +89,64 @@ fn named_end(ends: &[(u16, u64)], number: u16, old: u64) -> u64
     old
 }
 
-fn end_one(changelog: &mut Changelog, ends: &[(u16, u64)])
-    ensures { changelog.new ≡ ended ends.now changelog.old }
+fn end_one(changelog: &mut Changelog, ends: &[(u16, u64)]) -> Result<(), AllocError>
+    ensures ok { OnOk result (changelog.new ≡ ended ends.now changelog.old) }
+    ensures number { changelog.new.topic ≡ changelog.old.topic }
 {
+    changelog.store.flush()?;
     changelog.position = named_end(ends, changelog.topic, changelog.position);
+    Ok(())
 }
 
-/// The named ends are the positions in their changelogs.
-pub fn end_changelogs(changelogs: &mut Vec<Changelog>, ends: &[(u16, u64)])
-    ensures { changelogs.new.items ≡ map (ended ends.now) changelogs.old.items }
+/// The named ends are the positions in their changelogs, and what the stores held back is written; after want of memory the stores are to
+/// be dropped.
+pub fn end_changelogs(
+    changelogs: &mut Vec<Changelog>,
+    ends: &[(u16, u64)],
+) -> Result<(), AllocError>
+    ensures { OnOk result (changelogs.new.items ≡ map (ended ends.now) changelogs.old.items) }
 {
     for i in 0..changelogs.len() {
-        end_one(&mut changelogs[i], ends);
+        end_one(&mut changelogs[i], ends)?;
     }
+    Ok(())
+}
+
+fn hold_one(alloc: Global, changelog: &mut Changelog, cache: u32) -> Result<(), AllocError>
+    ensures ok { OnOk result (changelog.new ≡ holding cache changelog.old) }
+    ensures plain { plain_log changelog.new ≡ plain_log changelog.old }
+{
+    changelog.store.hold_back(alloc, cache)
+}
+
+/// Each store holds back at most so many pairs from now on, and nothing yet. Whatever comes of it, the positions and the stores' maps are
+/// as before.
+pub fn hold_changelogs(
+    alloc: Global,
+    changelogs: &mut Vec<Changelog>,
+    cache: u32,
+) -> Result<(), AllocError>
+    ensures ok { OnOk result (changelogs.new.items ≡ map (holding cache) changelogs.old.items) }
+    ensures plain { map plain_log changelogs.new.items ≡ map plain_log changelogs.old.items }
+{
+    for i in 0..changelogs.len() {
+        hold_one(alloc, &mut changelogs[i], cache)?;
+    }
+    Ok(())
+}
+
+/// How many pairs the store of a changelog holds back; 0 where there is no such changelog. Takes no memory.
+pub fn cached_of(changelogs: &[Changelog], number: u16) -> usize
+    ensures { result ≡ length (cached_in changelogs.now number) }
+{
+    let mut rest = changelogs;
+    while let [changelog, more @ ..] = rest {
+        if number == changelog.topic {
+            return changelog.store.cached();
+        }
+        rest = more;
+    }
+    0
 }
 
 fn slice_is_bytes(bytes: &[u8])

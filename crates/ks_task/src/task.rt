@@ -1,12 +1,13 @@
 //! A task at work.
-ghost use Rattle.std.specs.Prelude.{◌≡◌, ◌≤◌, ◌-◌, ◌^◌, ◌++◌, ℕ, List, IfOk, IfErr, OnOk, map, min, true, slice_get, option_map};
+ghost use Rattle.std.specs.Prelude.{◌≡◌, ◌≤◌, ◌-◌, ◌^◌, ◌++◌, ℕ, List, [], IfOk, IfErr, OnOk, false, length, map, min, true, slice_get, option_map};
 ghost use Rattle.ks_row.specs.Records.{record_seen};
 ghost use Rattle.ks_plan.specs.Drafts.{DraftView};
 ghost use Rattle.ks_plan.specs.Plan.{plan_of};
 ghost use Rattle.ks_topo.specs.Topologies.{draft_of, plan_in};
 ghost use Rattle.ks_plan.specs.Layout.{tasks, topic_at};
 ghost use Rattle.ks_plan.specs.Infos.{input_numbers, changelog_numbers};
-ghost use Rattle.ks_history.specs.Machine.{has_topic};
+ghost use Rattle.ks_def_runs.specs.FinMap as fin;
+ghost use Rattle.ks_history.specs.Machine.{has_topic, part_of};
 ghost use Rattle.ks_history.specs.State.{has_task, offset_in};
 ghost use Rattle.ks_history.specs.Faithful.{capped};
 ghost use Rattle.ks_law_topology.specs.Work.{work_of};
@@ -18,23 +19,27 @@ ghost use Rattle.ks_task_nodes.specs.Nodes.{node_view, kinds_in, nodes_of};
 ghost use Rattle.ks_task_nodes.specs.Reach.{are_numbered};
 ghost use Rattle.ks_task_nodes.specs.Records.{arrival_of, arrival_at};
 ghost use Rattle.ks_task_step.specs.Steps.{made_or_none, late_or_none};
-ghost use Rattle.ks_store.specs.Changelogs.{stores_in};
+ghost use Rattle.ks_cache.specs.Changelogs.{stores_in};
+ghost use Rattle.ks_cache.specs.Lists.{cached_after};
+ghost use Rattle.ks_def_tasks.specs.Bytes.{records_at};
 ghost use Rattle.ks_standby.specs.Replicas.{replica_view, changelogs_of};
 ghost use Rattle.ks_task.specs.Views.{own_ends, AreLiveAt};
 ghost use Rattle.ks_task.specs.Tasks.{task_view, with_made, uncommitted, IsClean, IsTaskOf};
 
-use crate::changelogs::{end_changelogs, hold_bytes, keep_records, record_is_bytes};
+use crate::changelogs::{
+    cached_of, end_changelogs, hold_bytes, hold_changelogs, keep_records, record_is_bytes,
+};
 use crate::fitting::topology_fits;
 use crate::freezing::group;
 use crate::inputs::{
     Input, are_all_committed, commit_inputs, inputs_at, move_input, offsets_of, position_of,
     take_in_order, uncommitted_of,
 };
+use ks_cache::{Changelog, find_bytes};
 use ks_commit::Frozen;
 use ks_hash::Hash128;
 use ks_row::{PartId, PlacedRecords, Rec, RecordRef, Seq, TaskId};
 use ks_standby::{Replica, position_in_changelog};
-use ks_store::Changelog;
 use ks_task_nodes::{
     NodeTopics, ProcessorNode, StampedRecord, live_nodes, node_topics, processor_nodes, read_record,
 };
@@ -59,6 +64,8 @@ pub struct Task {
     order: Vec<(u16, u64)>,
     made: PlacedRecords,
     late: u64,
+    // how many pairs each store holds back
+    cache: u32,
 }
 
 // What a record of a topic says.
@@ -147,7 +154,8 @@ fn process_record<H: Hash128>(
 }
 
 impl Task {
-    /// A task made of a replica, with the committed offset of each of its inputs. On want of memory the replica comes back.
+    /// A task made of a replica, with the committed offset of each of its inputs, each of whose stores holds back at most so many pairs.
+    /// On want of memory the replica comes back, with the same stores.
     ///
     /// It follows every journal that the replica follows, in which these are the committed offsets and the replica has reached the
     /// ends of its changelogs.
@@ -156,6 +164,7 @@ impl Task {
         topology: &Topology,
         replica: Replica,
         offsets: &[(u16, u64)],
+        cache: u32,
     ) -> Result<Task, AllocFailed<Replica>>
         requires parts { HaveParts (plan_in topology.now) }
         requires there { has_task replica.id (tasks (plan_in topology.now)) ≡ true }
@@ -166,7 +175,9 @@ impl Task {
         ensures task { IfOk result (λ t. IsTaskOf (draft_of topology.now) t) }
         ensures view { IfOk result (λ t. task_view t
             ≡ restored_view (replica_view replica) (λ topic. offset_in 0 topic offsets.now)) }
-        ensures err { IfErr result (λ e. e.value ≡ replica) }
+        ensures cache { IfOk result (λ t. t.cache ≡ cache) }
+        ensures err { IfErr result (λ e. replica_view e.value ≡ replica_view replica) }
+        ensures same { IfErr result (λ e. changelogs_of e.value ≡ changelogs_of replica) }
     {
         // What a topology is built of can be written: the machine's law asks for it.
         topology_fits(topology);
@@ -177,7 +188,11 @@ impl Task {
         let Ok(inputs) = inputs_at(alloc, offsets) else {
             return Err(AllocFailed { value: replica });
         };
-        let (id, changelogs) = replica.into_parts();
+        let (id, mut changelogs) = replica.into_parts();
+        let Ok(()) = hold_changelogs(alloc, &mut changelogs, cache) else {
+            let value = Replica::of_parts(id, changelogs);
+            return Err(AllocFailed { value });
+        };
         Ok(Task {
             id,
             nodes,
@@ -186,6 +201,7 @@ impl Task {
             order: Vec::new(alloc),
             made: PlacedRecords::new(alloc),
             late: 0,
+            cache,
         })
     }
 
@@ -232,6 +248,7 @@ impl Task {
         requires nodes { map node_view nodes.now ≡ nodes_of (plan_in topology.now) self.old.id.sub }
         requires live { AreLiveAt nodes.now (topic_at (plan_in topology.now) topic) live.now }
         ensures same { OnOk result (self.new ≡ with_made self.new.made self.old) }
+        ensures cache { self.new.cache ≡ self.old.cache }
         ensures late { IfOk result (λ n. n
             ≡ capped (late_or_none (nodes_of (plan_in topology.now) self.old.id.sub)
             (stores_in self.old.changelogs.items)
@@ -277,6 +294,7 @@ impl Task {
         requires input { has_topic topic (input_numbers (plan_in topology.now)
             (task_view self.old).task.sub) ≡ true }
         ensures task { OnOk result (IsTaskOf (draft_of topology.now) self.new) }
+        ensures cache { self.new.cache ≡ self.old.cache }
         ensures view { OnOk result (task_view self.new
             ≡ take_view (work_of (rules_of H.hash_of) (plan_in topology.now)) (task_view self.old)
             topic offset (record_seen rec.entry)) }
@@ -309,6 +327,7 @@ impl Task {
         requires input { has_topic topic (input_numbers (plan_in topology.now)
             (task_view self.old).task.sub) ≡ true }
         ensures task { OnOk result (IsTaskOf (draft_of topology.now) self.new) }
+        ensures cache { self.new.cache ≡ self.old.cache }
         ensures view { OnOk result (task_view self.new
             ≡ take_view (work_of (rules_of H.hash_of) (plan_in topology.now)) (task_view self.old)
             topic offset rec.now) }
@@ -332,6 +351,7 @@ impl Task {
         requires input { has_topic topic (input_numbers (plan_in topology.now)
             (task_view self.old).task.sub) ≡ true }
         ensures task { OnOk result (IsTaskOf (draft_of topology.now) self.new) }
+        ensures cache { self.new.cache ≡ self.old.cache }
         ensures view { OnOk result (task_view self.new
             ≡ take_all (work_of (rules_of H.hash_of) (plan_in topology.now)) (task_view self.old)
             topic recs.now) }
@@ -350,6 +370,7 @@ impl Task {
     /// Passes over what is not readable of an input, up to `next`. Takes no memory.
     pub fn skip(&mut self, topic: u16, next: u64)
         ensures task { (d : DraftView) → IsTaskOf d self.old → IsTaskOf d self.new }
+        ensures cache { self.new.cache ≡ self.old.cache }
         ensures view { (d : DraftView) → IsTaskOf d self.old
             → has_topic topic (input_numbers (plan_of d) (task_view self.old).task.sub) ≡ true
             → task_view self.new ≡ skip_view (task_view self.old) topic next }
@@ -377,18 +398,20 @@ impl Task {
     }
 
     /// Its frozen work was committed: its positions are the committed offsets now, and the named ends, where they are those of its
-    /// own changelogs, are its positions there. Takes no memory.
-    pub fn committed(&mut self, ends: &[(u16, u64)])
-        ensures task { (d : DraftView) → IsTaskOf d self.old → IsTaskOf d self.new }
-        ensures view { (d : DraftView) → IsTaskOf d self.old → task_view self.new
+    /// own changelogs, are its positions there. What its stores held back is written. After want of memory the task is to be dropped.
+    pub fn committed(&mut self, ends: &[(u16, u64)]) -> Result<(), AllocError>
+        ensures task { (d : DraftView) → IsTaskOf d self.old → OnOk result (IsTaskOf d self.new) }
+        ensures view { (d : DraftView) → IsTaskOf d self.old → OnOk result (task_view self.new
             ≡ committed_view (task_view self.old)
-            (own_ends (changelog_numbers (plan_of d) (task_view self.old).task.sub) ends.now) }
+            (own_ends (changelog_numbers (plan_of d) (task_view self.old).task.sub) ends.now)) }
+        ensures cache { self.new.cache ≡ self.old.cache }
     {
         commit_inputs(&mut self.inputs);
-        end_changelogs(&mut self.changelogs, ends);
+        end_changelogs(&mut self.changelogs, ends)?;
         self.order.clear();
         self.made.clear();
         self.late = 0;
+        Ok(())
     }
 
     /// Its subtopology and partition.
@@ -403,6 +426,28 @@ impl Task {
         ensures { result ≡ (task_view self.now).position changelog }
     {
         position_in_changelog(&self.changelogs, changelog)
+    }
+
+    /// The bytes at a key of a changelog's store; none where it has no such key, or the changelog is none of the task's. Takes no memory.
+    pub fn value(&self, log: u16, key: &[u8]) -> Option<&[u8]>
+        ensures { option_map (λ v. v.now) result
+            ≡ fin.get ((task_view self.now).stores log) key.now }
+    {
+        find_bytes(&self.changelogs, log, key)
+    }
+
+    /// How many pairs the store of a changelog holds back: as many as stand in the cached list after the changelog's records since the
+    /// last commit; 0 where the changelog is none of the task's. Takes no memory.
+    pub fn cached(&self, log: u16) -> usize
+        ensures list { (d : DraftView) → IsTaskOf d self.now
+            → has_topic log (changelog_numbers (plan_of d) self.now.id.sub) ≡ true
+            → result ≡ length (cached_after self.now.cache []
+            (records_at (part_of log self.now.id) self.now.made)) }
+        ensures none { (d : DraftView) → IsTaskOf d self.now
+            → has_topic log (changelog_numbers (plan_of d) self.now.id.sub) ≡ false
+            → result ≡ 0 }
+    {
+        cached_of(&self.changelogs, log)
     }
 
     /// The position in an input; 0 in a topic that is none of the task's. Takes no memory.

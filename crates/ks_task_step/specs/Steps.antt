@@ -34,7 +34,7 @@ use Rattle.ks_task_nodes.specs.Nodes.{TaskNode, kinds_in, node_view}
 use Rattle.ks_task_nodes.specs.Reach.{NoItems, SameValues}
 use Rattle.ks_task_nodes.specs.Records.{message_of}
 use Rattle.ks_task_nodes.specs.Stored.{views, in_list, stored_in, value_view}
-use Rattle.ks_store.specs.Changelogs.{stores_in}
+use Rattle.ks_cache.specs.Changelogs.{stores_in}
 use Rattle.ks_task_step.specs.declared.taken.Step.{Step}
 use Rattle.ks_task_step.specs.declared.live.LiveValue.{LiveValue}
 use Rattle.ks_task_step.specs.declared.step.NodeValues.{NodeValues}

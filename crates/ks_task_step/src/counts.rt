@@ -4,12 +4,12 @@ ghost use Rattle.ks_def_lookups.specs.Windows.{counted};
 ghost use Rattle.ks_task_nodes.specs.Nodes.{node_view};
 ghost use Rattle.ks_task_nodes.specs.Records.{arrival_of};
 ghost use Rattle.ks_task_step.specs.Steps.{items_in, counts_at, at_part};
-ghost use Rattle.ks_store.specs.Changelogs.{stores_in};
+ghost use Rattle.ks_cache.specs.Changelogs.{stores_in};
 
 use crate::step::NodeValues;
 use crate::taken::Step;
+use ks_cache::{Changelog, TaskStore};
 use ks_row::{Key, PartId, PlacedRecords, RecordList};
-use ks_store::{Changelog, OrderedStore};
 use ks_task_nodes::{HoppingWindow, Processor, ProcessorNode, item_into};
 use ks_window::count;
 use std::alloc::{AllocError, Global};
@@ -34,7 +34,7 @@ fn count_in(
         }
         rest = more;
     }
-    let none = OrderedStore::new(alloc);
+    let none = TaskStore::new(alloc);
     count(alloc, &none, key, time, window.window())
 }
 

@@ -16,20 +16,20 @@ ghost use Rattle.ks_task_nodes.specs.Nodes.{node_view};
 ghost use Rattle.ks_task_nodes.specs.Records.{arrival_of, message_of};
 ghost use Rattle.ks_task_nodes.specs.Stored.{stored_in, value_view, in_list};
 ghost use Rattle.ks_task_step.specs.Steps.{olds_in, news_in, old_list, named_by, asked_at, answered_part, answered_at, sent_at, sent_by, asked_by, kept_at, subscriber_found, hash_here, hash_told, hashed_by, left_sends, right_sends, join_here, answer_here, foreign_value as foreign_stored};
-ghost use Rattle.ks_store.specs.Changelogs.{stores_in};
+ghost use Rattle.ks_cache.specs.Changelogs.{stores_in};
 
 use crate::hashes::new_hash;
 use crate::sends::{part_for, push_send, push_told};
 use crate::step::{NodeValues, change_at, is_changed, new_row, old_row, stored_value};
 use crate::taken::Step;
 use crate::values::value_of_row;
+use ks_cache::{Changelog, TaskStore, find_bytes};
 use ks_expr::{Fk, fk_of};
 use ks_fk_left::{is_answer_to, subscriptions_by};
 use ks_fk_right::{answer, kept_of, on_right};
 use ks_hash::Hash128;
 use ks_plan::Topic;
 use ks_row::{Blob, Change, Key, PartId, PlacedRecords, Row};
-use ks_store::{Changelog, OrderedStore, find_bytes};
 use ks_table_ops::join_rows;
 use ks_task_nodes::{
     ForeignKeyJoin, NewValue, Payload, ProcessorNode, StampedRecord, StoredValue, is_same_topic,
@@ -302,7 +302,7 @@ fn responses_in(
         }
         rest = more;
     }
-    let none = OrderedStore::new(alloc);
+    let none = TaskStore::new(alloc);
     on_right(alloc, &none, change)
 }
 

@@ -14,4 +14,5 @@ mod taken;
 mod values;
 
 pub use processing::process;
+pub use sends::part_for;
 pub use taken::Step;

@@ -9,7 +9,7 @@ ghost use Rattle.ks_task_nodes.specs.Reach.{NoItems, of_node, at_numbers};
 ghost use Rattle.ks_task_nodes.specs.Records.{arrival_of, message_of};
 ghost use Rattle.ks_task_nodes.specs.Stored.{views, changed_bytes};
 ghost use Rattle.ks_task_step.specs.Steps.{items_in, olds_in, news_in, olds_at, change_by, counts_at, at_part, recs_by, all_recs, late_of, late_by, late_at_numbers, late_in, made_with, made_at, made_of, IsQuiet};
-ghost use Rattle.ks_store.specs.Changelogs.{stores_in};
+ghost use Rattle.ks_cache.specs.Changelogs.{stores_in};
 
 use crate::counts::{count_of, push_recs};
 use crate::foreign::push_subscriber;

@@ -10,7 +10,7 @@ ghost use Rattle.ks_task_nodes.specs.Reach.{of_node, at_numbers};
 ghost use Rattle.ks_task_nodes.specs.Records.{arrival_of};
 ghost use Rattle.ks_task_nodes.specs.Stored.{item_view};
 ghost use Rattle.ks_task_step.specs.Steps.{items_in, olds_in, news_in, part_in, grouped_at, sent_by, sends_by, all_sends, IsQuiet};
-ghost use Rattle.ks_store.specs.Changelogs.{stores_in};
+ghost use Rattle.ks_cache.specs.Changelogs.{stores_in};
 
 use crate::foreign::{push_answer, push_join};
 use crate::step::{NodeValues, change_at, is_changed, node_at};

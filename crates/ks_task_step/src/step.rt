@@ -6,12 +6,12 @@ ghost use Rattle.ks_task_nodes.specs.Nodes.{node_view};
 ghost use Rattle.ks_task_nodes.specs.Records.{message_of};
 ghost use Rattle.ks_task_nodes.specs.Stored.{stored_in};
 ghost use Rattle.ks_task_step.specs.Steps.{stored_at, olds_at, live_at, olds_in, news_in};
-ghost use Rattle.ks_store.specs.Changelogs.{stores_in};
+ghost use Rattle.ks_cache.specs.Changelogs.{stores_in};
 
 use crate::live::LiveValue;
 use crate::taken::Step;
+use ks_cache::{Changelog, find_bytes};
 use ks_row::{Change, Key, Row};
-use ks_store::{Changelog, find_bytes};
 use ks_task_nodes::{Item, ProcessorNode, StoredValue, read_value, row_after, stored_row};
 use std::alloc::{AllocError, Global};
 

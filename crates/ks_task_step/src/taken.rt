@@ -3,7 +3,7 @@ ghost use Rattle.std.specs.Prelude.{◌≡◌, [], map, true};
 ghost use Rattle.ks_task_nodes.specs.Nodes.{node_view};
 ghost use Rattle.ks_task_nodes.specs.Reach.{are_numbered, live_in};
 
-use ks_store::Changelog;
+use ks_cache::Changelog;
 use ks_task_nodes::{ProcessorNode, StampedRecord};
 
 /// What a task takes a record with: its nodes, each at its number; the numbers of those that the record's topic can reach; its changelogs,

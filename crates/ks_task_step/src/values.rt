@@ -11,13 +11,14 @@ ghost use Rattle.ks_task_nodes.specs.Reach.{NoItems, SameValues, valued_by, valu
 ghost use Rattle.ks_task_nodes.specs.Records.{arrival_of, message_of};
 ghost use Rattle.ks_task_nodes.specs.Stored.{item_view, views, stored_in, value_view};
 ghost use Rattle.ks_task_step.specs.Steps.{items_in, olds_in, news_in, stored_at, olds_at, live_olds, live_news, new_list, filter_value as filter_stored, map_value as map_stored, join_value as join_stored};
-ghost use Rattle.ks_store.specs.Changelogs.{stores_in};
+ghost use Rattle.ks_cache.specs.Changelogs.{stores_in};
 
 use crate::foreign::foreign_value;
 use crate::live::LiveValue;
 use crate::step::{NodeValues, is_changed, new_row, node_at, stored_value};
 use crate::taken::Step;
 use ks_agg::{stream_add, table_apply};
+use ks_cache::Changelog;
 use ks_expr::{Pred, Proj};
 use ks_hash::Hash128;
 use ks_plan::Topic;

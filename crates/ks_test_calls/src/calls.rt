@@ -2,7 +2,9 @@
 //! there are no bytes.
 ghost use Rattle.std.specs.Prelude.{◌≡◌, ◌≤◌, false, IfSome};
 
+use crate::caches::new_cached;
 use crate::tables::{COUNTED, FORMS, LEFT, NAMED, RIGHT, STORED};
+use ks_cache::CachedStore;
 use ks_expr::{Expr, Fk, JoinKind, Proj};
 use ks_fk_left::{Answer, respond, subscriptions};
 use ks_fk_right::{on_right, on_subscription};
@@ -397,10 +399,13 @@ fn calls_and_answers(rt: HostRuntime) -> Result<(), Fail> {
     for calls in [LEFT, FORMS, RIGHT, NAMED, COUNTED, STORED] {
         let mut plain = PlainStore::new(alloc);
         let mut ordered = OrderedStore::new(alloc);
+        let mut cached = new_cached(alloc, 1)?;
         for (call, expected) in calls {
             let told = answer::<Murmur3, PlainStore>(alloc, &mut plain, call)?;
             assert_eq!(rt; told.as_slice(), *expected);
             let told = answer::<Murmur3, OrderedStore>(alloc, &mut ordered, call)?;
+            assert_eq!(rt; told.as_slice(), *expected);
+            let told = answer::<Murmur3, CachedStore<OrderedStore>>(alloc, &mut cached, call)?;
             assert_eq!(rt; told.as_slice(), *expected);
         }
     }

@@ -40,7 +40,7 @@ pub fn new_actor<W: Work, G: Gate>(
     ensures left { result.left ≡ 1000 }
 {
     gate.reset(number, None, 100);
-    let worker = Worker::new(alloc, number, instance, placing, gate, pass);
+    let worker = Worker::new(alloc, number, instance, placing, gate, pass, 0);
     Actor { worker, left: 1000 }
 }
 

@@ -75,7 +75,7 @@ fn end_play<H: Hash128 + Sync, R: Threads + Wait + Sync, W: Work + Sync>(
         (topics_of (plan_in topology.now)) }
 {
     let lines = lines(alloc, cluster.journal())?;
-    drain::<H, R, W>(rt, alloc, topology, &mut cluster, Vec::new(alloc))?;
+    drain::<H, R, W>(rt, alloc, topology, &mut cluster, Vec::new(alloc), 0)?;
     let appends = count_appends(cluster.journal());
     let tables = tables(rt, alloc, topology, &cluster)?;
     let text = print_settled(rt, alloc, tables)?;

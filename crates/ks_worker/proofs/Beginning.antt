@@ -17,7 +17,7 @@ use Rattle.ks_worker.specs.Beginning.{IsNew}
 module _ {W G : Type 0} (plan : W → TaskPlan) (d : DraftView) (number instance : ℕ) (s : WorkerState W G) (few : number ≤ 15) (small : instance ≤ 3) (new : IsNew number instance s) where
   new_is_worker : IsHistory (setup_in plan s.session.client.pass.frame) s.session.client.pass.seen → IsWorkerState plan d s
   new_is_worker history =
-      let m : Member = record { number = number; instance = instance; epoch = 0; generation = 0; is_member = false } in
+      let m : Member = record { number = number; instance = instance; epoch = 0; generation = 0; is_member = false; cache = s.member.cache } in
       let here : IsWorker plan d s.session.client.pass m 0 [] [] [] = crashed plan d s.session.client.pass m few small history in
       subst (λ (x : Member). IsWorker plan d s.session.client.pass x s.session.last s.session.numbers.items s.tasks.items s.replicas.items) (sym new.member)
       (subst (λ n. IsWorker plan d s.session.client.pass m n s.session.numbers.items s.tasks.items s.replicas.items) (sym new.last)

@@ -58,6 +58,7 @@ module _ {W G : Type 0} (plan : W → TaskPlan) where
     later = subst (Later plan old.session.client.pass) (sym (ap (λ (c : ClusterClient W G). c.pass) k.client)) l.later;
     number = ap (λ (m : Member). m.number) k.member ∙ l.number;
     instance = ap (λ (m : Member). m.instance) k.member ∙ l.instance;
+    cache = ap (λ (m : Member). m.cache) k.member ∙ l.cache;
   }
 
   -- ---- one that made no call
@@ -66,4 +67,5 @@ module _ {W G : Type 0} (plan : W → TaskPlan) where
     later = subst (Later plan old.session.client.pass) (sym (ap (λ (s : Session W G). s.client.pass) session)) (not_later plan old.session.client.pass may.history);
     number = ap (λ (m : Member). m.number) member;
     instance = ap (λ (m : Member). m.instance) member;
+    cache = ap (λ (m : Member). m.cache) member;
   }

@@ -15,7 +15,7 @@ use Rattle.ks_worker_turn.specs.Placing.{PlacesBy}
 
 -- it knows nothing and has nothing
 pub record IsNew {W G : Type 0} (number instance : ℕ) (s : WorkerState W G) : Type 0 where
-  pub member : s.member ≡ record { number = number; instance = instance; epoch = 0; generation = 0; is_member = false }
+  pub member : s.member ≡ record { number = number; instance = instance; epoch = 0; generation = 0; is_member = false; cache = s.member.cache }
   pub last : s.session.last ≡ 0
   pub numbers : s.session.numbers.items ≡ []
   pub tasks : s.tasks.items ≡ []

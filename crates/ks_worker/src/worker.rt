@@ -29,7 +29,8 @@ pub struct Worker<W: Work, G: Gate> {
 }
 
 impl<W: Work, G: Gate> Worker<W, G> {
-    /// The worker of this number, 0 to 15, at an instance, 0 to 3, which has done nothing yet, and places tasks so. Takes no memory.
+    /// The worker of this number, 0 to 15, at an instance, 0 to 3, which has done nothing yet, and places tasks so; each store of its
+    /// tasks holds back at most `cache` pairs. Takes no memory.
     pub fn new(
         alloc: Global,
         number: u8,
@@ -37,6 +38,7 @@ impl<W: Work, G: Gate> Worker<W, G> {
         placing: Placing,
         gate: G,
         pass: Pass<SharedState<W>>,
+        cache: u32,
     ) -> Worker<W, G>
         requires number { number ≤ 15 }
         requires instance { instance ≤ 3 }
@@ -49,6 +51,7 @@ impl<W: Work, G: Gate> Worker<W, G> {
               cuts = G.cuts gate;
             } }
         ensures new { IsNew number instance result.state }
+        ensures cache { result.state.member.cache ≡ cache }
         ensures placing { result.placing ≡ placing }
     {
         Worker {
@@ -59,6 +62,7 @@ impl<W: Work, G: Gate> Worker<W, G> {
                     epoch: 0,
                     generation: 0,
                     is_member: false,
+                    cache,
                 },
                 tasks: Vec::new(alloc),
                 replicas: Vec::new(alloc),

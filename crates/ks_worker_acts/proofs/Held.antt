@@ -31,7 +31,7 @@ module _ (setup : Setup) (journal now : List Entry) (d : DraftView) (m : Member)
   clean_held : (k : ℕ) (t : Task) → k < length ts → IsCleanTask (get_or ts k t) → IsHeldTask d setup now m next (get_or ts k t)
   clean_held k t lt clean =
       let own = held k t lt in
-      record { of = own.of; held = rests (task_view (get_or ts k t)) (clean_rests setup.plan ts fs k t names are lt clean) own.held; inside = own.inside }
+      record { of = own.of; held = rests (task_view (get_or ts k t)) (clean_rests setup.plan ts fs k t names are lt clean) own.held; inside = own.inside; cache = own.cache }
 
   pub kept_held : (xs : List Task) → AreCleanOf ts xs → All (IsHeldTask d setup now m next) xs
   kept_held xs kept = kept_all (IsHeldTask d setup now m next) ts xs kept clean_held
@@ -52,6 +52,7 @@ module _ (setup : Setup) (journal now : List Entry) (d : DraftView) (m : Member)
               (worked (task_view old) has.work (own_ends (changelog_numbers (plan_of d) (task_view old).task.sub) (ends_for (task_view old).task ends)) has.one has.frozen
               (own_tell (task_view old).task (ends_for (task_view old).task ends)) (held k t lt).held);
           inside = λ sends q some. absurd (some (ap (λ (v : TaskView). v.made q) c.view));
+          cache = c.cache ∙ (held k t lt).cache;
         }
 
     pub told_held : (xs : List Task) → AreTold d ends ts xs → All (IsHeldTask d setup now m next) xs

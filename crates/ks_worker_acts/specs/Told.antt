@@ -17,6 +17,7 @@ use Rattle.ks_worker_acts.specs.Works.{IsCleanTask, IsDirtyTask}
 pub record IsCommittedTask (d : DraftView) (ends : List (TaskId × PartId × ℕ)) (old new : Task) : Type 0 where
   pub of : IsTaskOf d new
   pub view : task_view new ≡ committed_view (task_view old) (own_ends (changelog_numbers (plan_of d) (task_view old).task.sub) (ends_for (task_view old).task ends))
+  pub cache : new.cache ≡ old.cache
 
 abbrev pub IsToldTask : DraftView → List (TaskId × PartId × ℕ) → Task → Task → Type 0
 IsToldTask d ends old new = (IsCleanTask old × (new ≡ old)) ⊎ (IsDirtyTask old × IsCommittedTask d ends old new)

@@ -13,4 +13,6 @@ pub struct Member {
     pub generation: u64,
     /// Whether it is a member of the group, as far as it knows.
     pub is_member: bool,
+    /// How many pairs each store of its tasks holds back.
+    pub cache: u32,
 }

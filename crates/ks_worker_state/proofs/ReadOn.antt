@@ -86,6 +86,7 @@ module _ {W : Type 0} (plan : W → TaskPlan) (old new : PassView Entry (Frame W
           of = held.of;
           held = held_stays (setup_in plan old.frame) old.seen l.more m.number m.generation last (task_view task) net l.history past held.held;
           inside = held.inside;
+          cache = held.cache;
         })
 
     module _ (part from next : ℕ) (recs : List (ℕ × Rec)) (input : has_topic topic ((setup_in plan old.frame).plan.inputs (task_view task).task.sub) ≡ true) (is : part ≡ (task_view task).task.part) (at_it : from ≡ (task_view task).inputs topic)
@@ -110,7 +111,7 @@ module _ {W : Type 0} (plan : W → TaskPlan) (old new : PassView Entry (Frame W
             omega (arith, left, subst (λ j. stable_of (at (setup_in plan old.frame) old.seen) (part_of topic (task_view task).task) ≤ stable_of (at (setup_in plan old.frame) j) (part_of topic (task_view task).task)) (sym l.seen) rise);
       }
 
-      module _ (after : Task) (of : IsTaskOf d after) (differs : next ≡ from → ⊥) (view : task_view after ≡ skip_view (take_all (setup_in plan old.frame).plan (task_view task) topic recs) topic next) where
+      module _ (after : Task) (of : IsTaskOf d after) (same_cache : after.cache ≡ task.cache) (differs : next ≡ from → ⊥) (view : task_view after ≡ skip_view (take_all (setup_in plan old.frame).plan (task_view task) topic recs) topic next) where
         more : (task_view task).inputs topic < (fetched (at (setup_in plan old.frame) new.seen) (part_of topic (task_view task).task) ((task_view task).inputs topic) 32).1
         more = subst (λ n. (task_view task).inputs topic < n) (ap (λ (g : List (ℕ × Rec) × ℕ). g.1) gave) (omega (arith, goes_on.later, at_it, differs))
 
@@ -124,6 +125,7 @@ module _ {W : Type 0} (plan : W → TaskPlan) (old new : PassView Entry (Frame W
               (fetching_holds (setup_in plan old.frame) new.seen m.number m.generation last (task_view task) topic 32 net input (omega arith) held_later.held more);
           inside = λ sends. subst (MakesInside (setup_in plan old.frame)) (sym seen_view)
               (takes_inside (setup_in plan old.frame) topic (fetched (at (setup_in plan old.frame) new.seen) (part_of topic (task_view task).task) ((task_view task).inputs topic) 32).0 (task_view task) sends held.held.known input (held.inside sends));
+          cache = same_cache ∙ held.cache;
         }
 
         pub read_moves : IsReadOnce (setup_in plan old.frame) old.seen topic true task after

@@ -96,8 +96,8 @@ module _ {W : Type 0} (plan : W → TaskPlan) (old asked told new : PassView Ent
 module _ {W : Type 0} (plan : W → TaskPlan) (old asked new : PassView Entry (Frame W)) (one : Later plan old asked) where
   pub made_held : (d : DraftView) (m : Member) (last : ℕ) (t : TaskId) (offsets : List (ℕ × ℕ)) (made : Task) → IsNetwork (setup_in plan old.frame).plan → MemberHasSeen (setup_in plan old.frame) old.seen m last →
       committed_refusal (state_seen plan asked) m.number m.generation t ≡ None → offsets ≡ committed_offsets (setup_in plan old.frame) (state_seen plan asked) t →
-      IsMadeAtTheEnds plan d asked new t offsets made → IsHeldTask d (setup_in plan old.frame) new.seen m last made
-  made_held d m last t offsets made net past free listing k = record {
+      IsMadeAtTheEnds plan d asked new t offsets made → made.cache ≡ m.cache → IsHeldTask d (setup_in plan old.frame) new.seen m last made
+  made_held d m last t offsets made net past free listing k cached = record {
     of = k.of;
     held = subst (IsHeld (setup_in plan old.frame) new.seen m.number m.generation last) (sym k.view)
         (held_restored plan old asked k.told new one k.since k.before m.number m.generation last t k.replica offsets ((setup_in plan asked.frame).plan.changelogs t.sub)
@@ -105,13 +105,14 @@ module _ {W : Type 0} (plan : W → TaskPlan) (old asked new : PassView Entry (F
         net past (subst (λ f. IsStandby (setup_in plan f) new.seen k.replica) (same_frame plan old asked one) k.standby) k.named free listing
         (ap (λ f. (setup_in plan f).plan.changelogs t.sub) (same_frame plan old asked one)) refl refl k.reached);
     inside = λ sends q some. absurd (some (ap (λ (v : TaskView). v.made q) k.view));
+    cache = cached;
   }
 
 -- of an answer within an answer
-pub both_ok : {A B E : Type 0} (r : Result (Result A B) E) (P Q : A → Type 0) → ((x : A) → P x → Q x) → IfOk r (λ x. IfOk x P) → IfOk r (λ x. IfOk x Q)
-both_ok (Ok (Ok x)) P Q f h = f x h
-both_ok (Ok (Err y)) P Q f h = tt
-both_ok (Err z) P Q f h = tt
+pub both_ok_with : {A B E : Type 0} (r : Result (Result A B) E) (P Q R : A → Type 0) → ((x : A) → P x → Q x → R x) → IfOk r (λ x. IfOk x P) → IfOk r (λ x. IfOk x Q) → IfOk r (λ x. IfOk x R)
+both_ok_with (Ok (Ok x)) P Q R f h i = f x h i
+both_ok_with (Ok (Err y)) P Q R f h i = tt
+both_ok_with (Err z) P Q R f h i = tt
 
 pub both_err : {A B E : Type 0} (r : Result (Result A B) E) (P Q : B → Type 0) → ((x : B) → P x → Q x) → IfOk r (λ x. IfErr x P) → IfOk r (λ x. IfErr x Q)
 both_err (Ok (Ok x)) P Q f h = tt

@@ -28,7 +28,8 @@ module _ {W G : Type 0} (plan : W → TaskPlan) where
     later = later_twice plan old.session.client.pass mid.session.client.pass new.session.client.pass l.later k.later;
     number = k.number ∙ l.number;
     instance = k.instance ∙ l.instance;
+    cache = k.cache ∙ l.cache;
   }
 
   pub same_state : (lock : TableId) (s : WorkerState W G) → MayCall plan lock s.session.client.pass s.session.client.gate → LaterState plan s s
-  same_state lock s may = record { later = not_later plan s.session.client.pass may.history; number = refl; instance = refl }
+  same_state lock s may = record { later = not_later plan s.session.client.pass may.history; number = refl; instance = refl; cache = refl }

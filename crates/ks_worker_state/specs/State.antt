@@ -20,11 +20,12 @@ pub record MayAct {W G : Type 0} (plan : W → TaskPlan) (hash : List ℕ → �
   pub topology : RunsTopology hash d (setup_in plan s.session.client.pass.frame)
   pub worker : IsWorkerState plan d s
 
--- whatever came of a part of a turn: a later moment of the worker's pass, and the same number and instance
+-- whatever came of a part of a turn: a later moment of the worker's pass, and the same number, instance and cache
 pub record LaterState {W G : Type 0} (plan : W → TaskPlan) (old new : WorkerState W G) : Type 0 where
   pub later : Later plan old.session.client.pass new.session.client.pass
   pub number : new.member.number ≡ old.member.number
   pub instance : new.member.instance ≡ old.member.instance
+  pub cache : new.member.cache ≡ old.member.cache
 
 -- it knows of itself and its producer what it knew
 pub record KnowsTheSame {W G : Type 0} (old new : WorkerState W G) : Type 0 where

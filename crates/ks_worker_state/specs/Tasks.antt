@@ -29,6 +29,8 @@ pub record IsHeldTask (d : DraftView) (setup : Setup) (journal : List Entry) (m 
   pub of : IsTaskOf d t
   pub held : IsHeld setup journal m.number m.generation last (task_view t)
   pub inside : SendsInside setup → MakesInside setup (task_view t)
+  -- its stores hold back what the member's option says
+  pub cache : t.cache ≡ m.cache
 
 -- one fetch of an input since the journal was `h`: it moved the task there and in no other input, or did nothing and nothing stable was
 -- left there

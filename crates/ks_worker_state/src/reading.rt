@@ -37,6 +37,7 @@ fn take_fetched<H: Hash128>(
     requires input { has_topic topic (input_numbers (plan_in topology.now)
         (task_view task.old).task.sub) ≡ true }
     ensures task { OnOk result (IsTaskOf (draft_of topology.now) task.new) }
+    ensures cache { task.new.cache ≡ task.old.cache }
     ensures view { OnOk result (task_view task.new
         ≡ take_all (work_of (rules_of H.hash_of) (plan_in topology.now)) (task_view task.old) topic
         recs.now) }

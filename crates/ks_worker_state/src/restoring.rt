@@ -96,6 +96,7 @@ fn task_of(
     topology: &Topology,
     replica: Replica,
     offsets: &[(u16, u64)],
+    cache: u32,
 ) -> Result<Task, Halt>
     requires parts { HaveParts (plan_in topology.now) }
     requires there { has_task replica.id (tasks (plan_in topology.now)) ≡ true }
@@ -106,9 +107,10 @@ fn task_of(
     ensures task { IfOk result (λ t. IsTaskOf (draft_of topology.now) t) }
     ensures view { IfOk result (λ t. task_view t
         ≡ restored_view (replica_view replica) (λ topic. offset_in 0 topic offsets.now)) }
+    ensures cache { IfOk result (λ t. t.cache ≡ cache) }
     ensures memory { IfErr result (λ halt. halt ≡ OutOfMemory) }
 {
-    match Task::of(alloc, topology, replica, offsets) {
+    match Task::of(alloc, topology, replica, offsets, cache) {
         Ok(task) => Ok(task),
         Err(_failed) => Err(Halt::OutOfMemory),
     }
@@ -124,6 +126,7 @@ fn restore_with<H: Hash128, R: Wait, W: Work, G: Gate>(
     client: &mut ClusterClient<W, G>,
     mut replica: Replica,
     offsets: &[(u16, u64)],
+    cache: u32,
 ) -> Result<Result<Task, Replica>, Halt>
     requires may { MayCall W.plan shared.now.growing.id client.old.pass client.old.gate }
     requires topology { RunsTopology H.hash_of (draft_of topology.now)
@@ -137,6 +140,7 @@ fn restore_with<H: Hash128, R: Wait, W: Work, G: Gate>(
     ensures made { client.new.pass.made ≡ client.old.pass.made }
     ensures task { IfOk result (λ r. IfOk r (IsMadeAtTheEnds W.plan (draft_of topology.now)
         client.old.pass client.new.pass replica.id offsets.now)) }
+    ensures cache { IfOk result (λ r. IfOk r (λ t. t.cache ≡ cache)) }
     ensures standby { IfOk result (λ r. IfErr r (λ b. IsStandby
         (setup_in W.plan client.old.pass.frame) client.new.pass.seen b)) }
     ensures same { IfOk result (λ r. IfErr r (λ b. b.id ≡ replica.id)) }
@@ -150,7 +154,7 @@ fn restore_with<H: Hash128, R: Wait, W: Work, G: Gate>(
     if !has_reached(&replica, changelogs, ends.as_slice()) {
         return Ok(Err(replica));
     }
-    Ok(Ok(task_of(alloc, topology, replica, offsets)?))
+    Ok(Ok(task_of(alloc, topology, replica, offsets, cache)?))
 }
 
 /// Makes a task of a replica, where the group answers its committed offsets and the replica, fed until no fetch moves it, has reached the
@@ -207,5 +211,6 @@ pub fn restore<H: Hash128, R: Wait, W: Work, G: Gate>(
         &mut session.client,
         replica,
         offsets.as_slice(),
+        member.cache,
     )
 }

@@ -81,6 +81,6 @@ now_listed plan d pass m b last numbers ts rs alone w = record {
   alone = alone;
   names = w.names;
   once = w.once;
-  tasks_are = λ k x lt. let h = w.tasks_are k x lt in record { of = h.of; held = h.held; inside = h.inside };
+  tasks_are = λ k x lt. let h = w.tasks_are k x lt in record { of = h.of; held = h.held; inside = h.inside; cache = h.cache };
   replicas_are = w.replicas_are;
 }

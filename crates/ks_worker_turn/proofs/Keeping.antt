@@ -41,7 +41,7 @@ module _ {W G : Type 0} (plan : W → TaskPlan) where
   pub acts_on : (hash : List ℕ → ℕ) (lock : TableId) (d : DraftView) (s : WorkerState W G) (client : ClusterClient W G) → MayAct plan hash lock d s → Later plan s.session.client.pass client.pass →
       client.gate ≡ s.session.client.gate → MayAct plan hash lock d (record s { session = record s.session { client = client } })
   acts_on hash lock d s client may l gate =
-      may_act_on plan hash lock d s (record s { session = record s.session { client = client } }) may (record { later = l; number = refl; instance = refl }) gate
+      may_act_on plan hash lock d s (record s { session = record s.session { client = client } }) may (record { later = l; number = refl; instance = refl; cache = refl }) gate
       (worker_later plan s.session.client.pass client.pass l may.call.network d s.member s.session.last s.session.numbers.items s.tasks.items s.replicas.items may.worker)
 
 -- its own generation is the same

@@ -23,7 +23,7 @@ fn tell_task(
         return Ok(());
     }
     let own = ends_of_task(alloc, ends, task.id())?;
-    task.committed(own.as_slice());
+    task.committed(own.as_slice())?;
     Ok(())
 }
 

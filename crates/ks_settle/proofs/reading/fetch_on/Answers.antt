@@ -2,7 +2,7 @@ use Rattle.ks_topo.specs.Topologies.{draft_of, plan_in}
 use Rattle.ks_plan.specs.Infos.{input_numbers}
 use Rattle.ks_law_topology.specs.Work.{work_of}
 use Rattle.ks_history.specs.Machine.{has_topic}
-use Rattle.std.proofs.Common.{◌≡◌, true, subst}
+use Rattle.std.proofs.Common.{◌≡◌, true, subst, ◌∙◌}
 use Rattle.ks_cluster.specs.View.{setup_of}
 use Rattle.ks_def_tasks.specs.Rules.{rules_of}
 use Rattle.ks_task.specs.Tasks.{task_view}
@@ -32,4 +32,4 @@ returns g c =
     fetch_moves d (setup_of g.W.Work.plan c.args.cluster.now) c.args.cluster.now.journal c.args.topic c.requires.may.of.may c.journal-journal.ensures.history c.requires.may.idle
     plan c.args.task.now c.take_fetched.new.task c.skip.new.self c.id.result c.input_position-from.result c.in_ok-recs.next c.in_ok-recs.recs.items c.as_slice.result.now
     c.requires.reader c.requires.may.of.work c.id.ensures c.input_position-from.ensures c.in_ok-recs.ensures.records c.in_ok-recs.ensures.next c.if-next-from.false c.as_slice.ensures.value
-    c.in_ok-take_fetched.ensures.view (c.skip.ensures.task d c.in_ok-take_fetched.ensures.task) (c.skip.ensures.view d c.in_ok-take_fetched.ensures.task there)
+    c.in_ok-take_fetched.ensures.view (c.skip.ensures.task d c.in_ok-take_fetched.ensures.task) (c.skip.ensures.view d c.in_ok-take_fetched.ensures.task there) (c.skip.ensures.cache ∙ c.take_fetched.ensures.cache)

@@ -16,15 +16,15 @@ restore_each-requires-clause-there g c κs within =
 
 pub loop-one-preserved : goal.loop-one-preserved
 loop-one-preserved g c =
-    one_put (draft_of c.args.topology.now) (setup_of g.W.Work.plan c.args.cluster.now) c.args.cluster.now.journal c.args.cluster.now.tasks c.loop-one.tasks.items c.push.new.self.items c.loop-one.one-iterator.rest.items c.next.new.self.rest.items
+    one_put (draft_of c.args.topology.now) (setup_of g.W.Work.plan c.args.cluster.now) c.args.cluster.now.journal c.args.cluster.now.tasks c.args.cache c.loop-one.tasks.items c.push.new.self.items c.loop-one.one-iterator.rest.items c.next.new.self.rest.items
     c.in-Some.one c.in_ok-one.field-0 c.loop-one.invariant c.in-Some.ensures.steps.0 c.in_ok-one.was c.in_ok-push.ensures.items
 
 pub loop-one-preserved-in_ok-push : goal.loop-one-preserved-in_ok-push
 loop-one-preserved-in_ok-push g c =
-    one_put (draft_of c.args.topology.now) (setup_of g.W.Work.plan c.args.cluster.now) c.args.cluster.now.journal c.args.cluster.now.tasks c.loop-one.tasks.items c.push.new.self.items c.loop-one.one-iterator.rest.items c.next.new.self.rest.items
+    one_put (draft_of c.args.topology.now) (setup_of g.W.Work.plan c.args.cluster.now) c.args.cluster.now.journal c.args.cluster.now.tasks c.args.cache c.loop-one.tasks.items c.push.new.self.items c.loop-one.one-iterator.rest.items c.next.new.self.rest.items
     c.in-Some.one c.in_ok-one.field-0 c.loop-one.invariant c.in-Some.ensures.steps.0 c.in_ok-one.was c.in_ok-push.ensures.items
 
 pub returns : goal.returns
 returns g c =
-    all_put (draft_of c.args.topology.now) (setup_of g.W.Work.plan c.args.cluster.now) c.args.cluster.now.journal c.args.cluster.now.tasks c.loop-one.tasks.items c.loop-one.one-iterator.rest.items c.loop-one.invariant
+    all_put (draft_of c.args.topology.now) (setup_of g.W.Work.plan c.args.cluster.now) c.args.cluster.now.journal c.args.cluster.now.tasks c.args.cache c.loop-one.tasks.items c.loop-one.one-iterator.rest.items c.loop-one.invariant
     (omega (arith, c.loop-one.one-iterator.rest.ok, c.in-None.ensures.steps.0))

@@ -10,7 +10,7 @@ use Rattle.ks_task_nodes.specs.Nodes.{node_view}
 use Rattle.ks_task_nodes.specs.Reach.{NoItems}
 use Rattle.ks_task_nodes.specs.Records.{arrival_of, message_of}
 use Rattle.ks_task_nodes.specs.Stored.{views}
-use Rattle.ks_store.specs.Changelogs.{stores_in}
+use Rattle.ks_cache.specs.Changelogs.{stores_in}
 use Rattle.ks_task_step.specs.Steps.{olds_at, made_at, late_of}
 use Rattle.ks_task_step.proofs.Quiet.{no_items}
 use Rattle.ks_task_step.proofs.processing.process.Goals as goal

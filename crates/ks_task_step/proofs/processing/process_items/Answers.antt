@@ -9,7 +9,7 @@ use Rattle.ks_task_nodes.specs.Nodes.{node_view}
 use Rattle.ks_task_nodes.specs.Reach.{SameValues}
 use Rattle.ks_task_nodes.specs.Records.{arrival_of}
 use Rattle.ks_task_nodes.specs.Stored.{views}
-use Rattle.ks_store.specs.Changelogs.{stores_in}
+use Rattle.ks_cache.specs.Changelogs.{stores_in}
 use Rattle.ks_task_step.specs.declared.live.LiveValue.{LiveValue}
 use Rattle.ks_task_step.specs.Steps.{olds_at, live_olds, live_news, made_with}
 use Rattle.ks_task_step.proofs.processing.process_items.Goals as goal

@@ -6,7 +6,7 @@ use Rattle.ks_def_tasks.specs.Rules.{rules_of}
 use Rattle.ks_task_nodes.specs.Nodes.{node_view}
 use Rattle.ks_task_nodes.specs.Records.{arrival_of}
 use Rattle.ks_task_step.specs.Steps.{items_in, olds_in, news_in}
-use Rattle.ks_store.specs.Changelogs.{stores_in}
+use Rattle.ks_cache.specs.Changelogs.{stores_in}
 use Rattle.ks_task_step.proofs.Quiet.{sends_go}
 use Rattle.ks_task_step.proofs.sends.push_all_sends.Goals as goal
 

@@ -4,7 +4,7 @@ use Rattle.ks_task_nodes.specs.Nodes.{node_view}
 use Rattle.ks_task_nodes.specs.Reach.{at_numbers}
 use Rattle.ks_task_nodes.specs.Records.{arrival_of}
 use Rattle.ks_task_step.specs.Steps.{items_in, olds_in, news_in, sends_by}
-use Rattle.ks_store.specs.Changelogs.{stores_in}
+use Rattle.ks_cache.specs.Changelogs.{stores_in}
 use Rattle.ks_task_step.proofs.sends.push_live_sends.Given as goal
 
 abbrev pub invariant-loop-rest : goal.invariant-loop-rest

@@ -2,7 +2,7 @@ use Rattle.std.proofs.Common.{Option, map, ap}
 use Rattle.ks_query.specs.Streams.{Key}
 use Rattle.ks_task_nodes.specs.Nodes.{node_view}
 use Rattle.ks_task_nodes.specs.Stored.{in_list}
-use Rattle.ks_store.specs.Changelogs.{stores_in}
+use Rattle.ks_cache.specs.Changelogs.{stores_in}
 use Rattle.ks_task_step.specs.Steps.{old_list}
 use Rattle.ks_task_step.proofs.step.stored_here.Goals as goal
 

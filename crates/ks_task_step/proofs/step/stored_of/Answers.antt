@@ -2,7 +2,7 @@ use Rattle.std.proofs.Common.{map, sym, ◌∙◌}
 use Rattle.ks_def_tasks.specs.Step.{step_key}
 use Rattle.ks_task_nodes.specs.Nodes.{node_view}
 use Rattle.ks_task_nodes.specs.Records.{message_of}
-use Rattle.ks_store.specs.Changelogs.{stores_in}
+use Rattle.ks_cache.specs.Changelogs.{stores_in}
 use Rattle.ks_task_step.proofs.LiveValues.{stored_place, stored_nowhere}
 use Rattle.ks_task_step.proofs.step.stored_of.Goals as goal
 

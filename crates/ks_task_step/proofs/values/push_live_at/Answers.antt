@@ -7,7 +7,7 @@ use Rattle.ks_task_nodes.specs.Nodes.{TaskNode, node_view}
 use Rattle.ks_task_nodes.specs.Reach.{valued_by}
 use Rattle.ks_task_nodes.specs.Records.{arrival_of, message_of}
 use Rattle.ks_task_nodes.specs.Stored.{views}
-use Rattle.ks_store.specs.Changelogs.{stores_in}
+use Rattle.ks_cache.specs.Changelogs.{stores_in}
 use Rattle.ks_task_step.specs.Steps.{olds_at, live_news}
 use Rattle.ks_task_step.proofs.LiveValues.{stored_there}
 use Rattle.ks_task_step.proofs.values.push_live_at.Goals as goal

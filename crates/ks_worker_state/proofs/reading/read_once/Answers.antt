@@ -41,7 +41,7 @@ returns-clause-task g c =
     held_read g.W.Work.plan _ _ c.fetch.ensures.later d c.args.member.now c.args.session.now.last c.args.topic c.args.task.now c.requires.may.network c.requires.seen c.requires.task
     c.id.result.part c.input_position-from.result c.in_ok-recs.next c.in_ok-recs.recs.items (own_input g.H.Hash128.hash_of d setup c.args.topic (task_view c.args.task.now).task.sub c.requires.topology c.requires.input)
     (ap (λ (t : TaskId). t.part) c.id.ensures) c.input_position-from.ensures c.in_ok-recs.ensures.records c.in_ok-recs.ensures.next
-    c.skip.new.self (c.skip.ensures.task d of) c.if-next-from.false
+    c.skip.new.self (c.skip.ensures.task d of) (c.skip.ensures.cache ∙ c.take_fetched.ensures.cache) c.if-next-from.false
     (skipped setup.plan work (ap (λ (s : Setup). s.plan) c.requires.topology.setup_is) (task_view c.args.task.now) (task_view c.take_fetched.new.task) (task_view c.skip.new.self) c.args.topic c.in_ok-recs.next c.in_ok-recs.recs.items c.as_slice.result.now
     view c.as_slice.ensures.value (c.skip.ensures.view d of there))
 
@@ -57,6 +57,6 @@ returns-clause-read g c =
     read_moves g.W.Work.plan _ _ c.fetch.ensures.later d c.args.member.now c.args.session.now.last c.args.topic c.args.task.now c.requires.may.network c.requires.seen c.requires.task
     c.id.result.part c.input_position-from.result c.in_ok-recs.next c.in_ok-recs.recs.items (own_input g.H.Hash128.hash_of d setup c.args.topic (task_view c.args.task.now).task.sub c.requires.topology c.requires.input)
     (ap (λ (t : TaskId). t.part) c.id.ensures) c.input_position-from.ensures c.in_ok-recs.ensures.records c.in_ok-recs.ensures.next
-    c.skip.new.self (c.skip.ensures.task d of) c.if-next-from.false
+    c.skip.new.self (c.skip.ensures.task d of) (c.skip.ensures.cache ∙ c.take_fetched.ensures.cache) c.if-next-from.false
     (skipped setup.plan work (ap (λ (s : Setup). s.plan) c.requires.topology.setup_is) (task_view c.args.task.now) (task_view c.take_fetched.new.task) (task_view c.skip.new.self) c.args.topic c.in_ok-recs.next c.in_ok-recs.recs.items c.as_slice.result.now
     view c.as_slice.ensures.value (c.skip.ensures.view d of there))

@@ -63,10 +63,10 @@ pub returns-clause-later : goal.returns-clause-later
 returns-clause-later g c =
     let s = c.args.state.now in
     let l = c.take_places.ensures.later in
-    record { later = later_twice g.W.Work.plan _ _ _ c.assignment_of.ensures.later l.later; number = l.number; instance = l.instance }
+    record { later = later_twice g.W.Work.plan _ _ _ c.assignment_of.ensures.later l.later; number = l.number; instance = l.instance; cache = l.cache }
 
 pub returns-in_default-clause-later : goal.returns-in_default-clause-later
-returns-in_default-clause-later g c = record { later = c.assignment_of.ensures.later; number = refl; instance = refl }
+returns-in_default-clause-later g c = record { later = c.assignment_of.ensures.later; number = refl; instance = refl; cache = refl }
 
 pub returns-in_default-clause-made : goal.returns-in_default-clause-made
 returns-in_default-clause-made g c = c.in_ok-answer.ensures.made c.args.state.now.member.instance

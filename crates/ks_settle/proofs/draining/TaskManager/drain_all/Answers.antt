@@ -3,6 +3,7 @@ use Rattle.std.specs.Prelude.{slice_index}
 use Rattle.ks_plan.specs.Infos.{drain_numbers}
 use Rattle.ks_topo.specs.Topologies.{draft_of, plan_in}
 use Rattle.ks_def_tasks.specs.Rules.{rules_of}
+use Rattle.ks_settle.specs.Drained.{caches_in}
 use Rattle.ks_settle.proofs.Publishing.{still_of_topology, drains_both, drains_most}
 use Rattle.ks_settle.proofs.Ordering.{resting_at, draining_on, settled_last}
 use Rattle.ks_settle.proofs.draining.TaskManager.drain_all.Goals as goal
@@ -14,17 +15,20 @@ drain_topic-requires-clause-of g c κs within =
 pub drain_topic-requires-clause-resting : goal.drain_topic-requires-clause-resting
 drain_topic-requires-clause-resting g c κs within =
     resting_at g.W.Work.plan (rules_of g.H.Hash128.hash_of) (draft_of c.args.topology.now) c.args.cluster.now c.requires.setup c.loop-i.cluster c.loop-i.self.publisher c.loop-i.i (slice_index c.drain_order-order.result.now c.loop-i.i)
-    c.drain_order-order.result.now c.loop-i.self.tasks.items c.loop-i.invariant c.drain_order-order.ensures c.loop-i-test.true refl
+    (caches_in c.args.self.now.tasks.items) c.drain_order-order.result.now c.loop-i.self.tasks.items c.loop-i.invariant c.drain_order-order.ensures c.loop-i-test.true refl
 
 pub loop-i-preserved : goal.loop-i-preserved
 loop-i-preserved g c =
     draining_on g.W.Work.plan (rules_of g.H.Hash128.hash_of) (draft_of c.args.topology.now) c.args.cluster.now c.requires.setup c.loop-i.cluster c.drain_topic.new.cluster c.loop-i.self.publisher c.drain_topic.new.self.publisher c.loop-i.i
-    (slice_index c.drain_order-order.result.now c.loop-i.i) c.drain_order-order.result.now c.loop-i.self.tasks.items c.drain_topic.new.self.tasks.items c.loop-i.invariant c.drain_order-order.ensures c.loop-i-test.true refl c.in_ok-drain_topic.ensures.rest c.drain_topic.ensures.on
+    (slice_index c.drain_order-order.result.now c.loop-i.i) (caches_in c.args.self.now.tasks.items) c.drain_order-order.result.now c.loop-i.self.tasks.items c.drain_topic.new.self.tasks.items c.loop-i.invariant c.drain_order-order.ensures c.loop-i-test.true refl c.in_ok-drain_topic.ensures.rest c.in_ok-drain_topic.ensures.caches c.drain_topic.ensures.on
 
 pub returns-clause-settled : goal.returns-clause-settled
 returns-clause-settled g c =
-    settled_last g.W.Work.plan (rules_of g.H.Hash128.hash_of) (draft_of c.args.topology.now) c.args.cluster.now c.requires.setup c.loop-i.cluster c.loop-i.self.publisher c.loop-i.i c.drain_order-order.result.now c.loop-i.self.tasks.items c.loop-i.invariant
+    settled_last g.W.Work.plan (rules_of g.H.Hash128.hash_of) (draft_of c.args.topology.now) c.args.cluster.now c.requires.setup c.loop-i.cluster c.loop-i.self.publisher c.loop-i.i (caches_in c.args.self.now.tasks.items) c.drain_order-order.result.now c.loop-i.self.tasks.items c.loop-i.invariant
     c.drain_order-order.ensures c.loop-i-test.false
+
+pub returns-clause-caches : goal.returns-clause-caches
+returns-clause-caches g c = c.loop-i.invariant.caches
 
 pub returns-clause-on : goal.returns-clause-on
 returns-clause-on g c =

@@ -58,7 +58,10 @@ restore_tasks-requires-clause-replicas g c κs within =
 
 pub returns-clause-resting : goal.returns-clause-resting
 returns-clause-resting g c =
-    resting_first g.W.Work.plan c.start.new.cluster c.in_ok-publisher.publisher (draft_of c.args.topology.now) c.in_ok-tasks.tasks.items c.in_ok-publisher.ensures.worker c.in_ok-publisher.ensures.ready c.in_ok-tasks.ensures
+    resting_first g.W.Work.plan c.start.new.cluster c.in_ok-publisher.publisher (draft_of c.args.topology.now) c.args.cache c.in_ok-tasks.tasks.items c.in_ok-publisher.ensures.worker c.in_ok-publisher.ensures.ready c.in_ok-tasks.ensures
+
+pub returns-clause-caches : goal.returns-clause-caches
+returns-clause-caches g c = c.in_ok-tasks.ensures.caches
 
 pub returns-clause-on : goal.returns-clause-on
 returns-clause-on g c =

@@ -11,9 +11,9 @@ use Rattle.ks_task_nodes.specs.Nodes.{TaskNode, node_view, kinds_in}
 use Rattle.ks_task_nodes.specs.Records.{arrival_at}
 use Rattle.ks_task_nodes.specs.Reach.{are_numbered}
 use Rattle.ks_task_nodes.proofs.Numbers.{kinds_from, nodes_numbered}
-use Rattle.ks_store.specs.declared.changelogs.Changelog.{Changelog}
+use Rattle.ks_cache.specs.declared.changelogs.Changelog.{Changelog}
 use Rattle.ks_task_step.specs.Steps.{made_or_none, late_or_none}
-use Rattle.ks_store.specs.Changelogs.{stores_in}
+use Rattle.ks_cache.specs.Changelogs.{stores_in}
 use Rattle.ks_law_topology.proofs.Setups.{task_few}
 use Rattle.ks_task.specs.Views.{AreLiveAt}
 use Rattle.ks_task.proofs.task.Task.process.Goals as goal

@@ -29,6 +29,7 @@ pub loop-i-preserved : goal.loop-i-preserved
 loop-i-preserved g c = record {
   task = c.in_ok-take_by.ensures.task;
   id = ap (λ (v : TaskView). v.task) c.in_ok-take_by.ensures.view ∙ c.loop-i.invariant.id;
+  cache = c.take_by.ensures.cache ∙ c.loop-i.invariant.cache;
   view = one_record_more (work_of (rules_of g.H.Hash128.hash_of) (plan_in c.args.topology.now)) c.args.topic (task_view c.args.self.now) (task_view c.loop-i.self) (task_view c.take_by.new.self) c.args.recs.now c.loop-i.i c.index-recs-i.result
       c.loop-i-test.true c.index-recs-i.is c.loop-i.invariant.view
       (c.in_ok-take_by.ensures.view ∙ ap (take_view (work_of (rules_of g.H.Hash128.hash_of) (plan_in c.args.topology.now)) (task_view c.loop-i.self) c.args.topic c.index-recs-i.result.0) c.as_ref.ensures);

@@ -11,5 +11,6 @@ abbrev pub invariant-loop-i : goal.invariant-loop-i
 invariant-loop-i g l = record {
   task : IsTaskOf (draft_of l.topology) l.self;
   id : l.self.id ≡ l.fn.self.id;
+  cache : l.self.cache ≡ l.fn.self.cache;
   view : task_view l.self ≡ take_all (work_of (rules_of g.H.Hash128.hash_of) (plan_in l.topology)) (task_view l.fn.self) l.topic (take l.i l.recs);
 }

@@ -1,4 +1,4 @@
-use Rattle.std.proofs.Common.{◌≡◌, List, map, drop, ◌+◌, ◌∙◌, refl, ap, sym, subst}
+use Rattle.std.proofs.Common.{◌≡◌, List, ◌++◌, map, drop, ◌+◌, ◌∙◌, refl, ap, sym, subst}
 use Rattle.ks_plan.specs.Plan.{plan_of}
 use Rattle.ks_plan.specs.Layout.{topic_at}
 use Rattle.ks_law_step.specs.Whole.{AreStores}
@@ -8,9 +8,9 @@ use Rattle.ks_history.specs.Faithful.{capped}
 use Rattle.ks_topo.specs.Topologies.{draft_of}
 use Rattle.ks_task_nodes.specs.Nodes.{nodes_of}
 use Rattle.ks_task_nodes.specs.Records.{arrival_at}
-use Rattle.ks_store.specs.declared.changelogs.Changelog.{Changelog}
+use Rattle.ks_cache.specs.declared.changelogs.Changelog.{Changelog}
 use Rattle.ks_task_step.specs.Steps.{made_or_none, late_or_none}
-use Rattle.ks_store.specs.Changelogs.{stores_in}
+use Rattle.ks_cache.specs.Changelogs.{stores_in}
 use Rattle.ks_task.specs.declared.task.Task.{Task}
 use Rattle.ks_task.specs.Tasks.{with_made}
 use Rattle.ks_task.specs.Views.{IsTask, view_of, moved_to, log_after}
@@ -26,10 +26,15 @@ returns-clause-task g c =
     let d = draft_of c.args.topology.now in
     let then = c.process.new.self in
     let same : then ≡ with_made then.made self = c.in_ok-late.ensures.same in
-    let is = still_moved d then.id then.nodes.items then.inputs.items then.changelogs.items
-    (subst (λ (t : Task). IsTask d t.id t.nodes.items t.inputs.items t.changelogs.items) (sym same) c.requires.task)
-    c.args.topic c.in-Some.next c.move_input.new.inputs.items c.keep_records.new.changelogs.items c.move_input.ensures c.in_ok-keep_records.ensures.numbers in
-    is
+    let made = drop c.len-before.result then.made in
+    let new : then.made ≡ self.made ++ made =
+    c.in_ok-late.ensures.records ∙ ap (λ (xs : List (PartId × Rec)). self.made ++ xs) (sym (after_first self.made _ then.made c.len-before.result c.len-before.ensures c.in_ok-late.ensures.records)) in
+    subst (λ (t : Task). IsTask d t.id t.nodes.items c.move_input.new.inputs.items c.keep_records.new.changelogs.items then.made t.cache) (sym same)
+    (still_moved d self.id self.nodes.items self.inputs.items self.changelogs.items self.made self.cache c.requires.task
+    c.args.topic c.in-Some.next c.move_input.new.inputs.items c.keep_records.new.changelogs.items made then.made
+    (c.move_input.ensures ∙ ap (λ (t : Task). map (moved_to c.args.topic c.in-Some.next) t.inputs.items) same)
+    (c.in_ok-keep_records.ensures.ok ∙ ap (λ (t : Task). map (log_after t.id.part made) t.changelogs.items) same)
+    new)
 
 pub returns-clause-view : goal.returns-clause-view
 returns-clause-view g c =
@@ -42,7 +47,7 @@ returns-clause-view g c =
     let more = made_or_none (rules_of g.H.Hash128.hash_of) (nodes_of p self.id.sub) (stores_in self.changelogs.items) self.id.part arrival in
     let late = late_or_none (nodes_of p self.id.sub) (stores_in self.changelogs.items) arrival in
     ap (λ (t : Task). view_of t.id c.move_input.new.inputs.items c.keep_records.new.changelogs.items c.take_in_order.new.order.items then.made c.saturating_add-self.result) same
-    ∙ taken (draft_of c.args.topology.now) self.id self.nodes.items self.inputs.items self.changelogs.items c.requires.task g.H.Hash128.hash_of c.args.topic c.args.offset rec
+    ∙ taken (draft_of c.args.topology.now) self.id self.nodes.items self.inputs.items self.changelogs.items self.made self.cache c.requires.task g.H.Hash128.hash_of c.args.topic c.args.offset rec
     c.move_input.new.inputs.items c.keep_records.new.changelogs.items self.order.items c.take_in_order.new.order.items self.made more then.made self.late late c.saturating_add-self.result
     c.requires.input
     (c.move_input.ensures ∙ (ap (λ (t : Task). map (moved_to c.args.topic c.in-Some.next) t.inputs.items) same ∙ ap (λ n. map (moved_to c.args.topic n) self.inputs.items) c.in-Some.ensures.1))

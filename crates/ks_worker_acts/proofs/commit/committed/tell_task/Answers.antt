@@ -18,8 +18,9 @@ returns c = λ d of.
     inr (
       λ clean. absurd (true≢false (sym (c.is_clean.ensures.no clean) ∙ c.if-is_clean.false)),
       record {
-        of = c.committed.ensures.task d of;
-        view = c.committed.ensures.view d of
+        of = c.in_ok-committed.ensures.task d of;
+        view = c.in_ok-committed.ensures.view d of
             ∙ ap (λ (l : List (ℕ × ℕ)). committed_view v (own_ends (changelog_numbers (plan_of d) v.task.sub) l)) (c.as_slice.ensures.value ∙ c.in_ok-own.ensures ∙ ap (λ (t : TaskId). ends_for t c.args.ends.now) c.id.ensures);
+        cache = c.committed.ensures.cache;
       },
     )

@@ -1,0 +1,12 @@
+//! The audit of a journal: its lines, one after another, judged as entries of a legal and faithful journal.
+#![tactic(auto)]
+
+mod audit;
+mod fault;
+mod judging;
+pub mod laws;
+mod placing;
+mod played;
+
+pub use audit::Audit;
+pub use fault::AuditFault;

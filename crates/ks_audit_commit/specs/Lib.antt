@@ -1,0 +1,5 @@
+pub mod Naming
+pub mod Ends
+pub mod Comparing
+pub mod Taking
+pub mod Judging

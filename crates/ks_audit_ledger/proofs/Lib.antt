@@ -1,0 +1,4 @@
+pub mod Noting
+pub mod Offsetting
+pub mod Naming
+pub mod Keeping

@@ -1,0 +1,4 @@
+pub mod Accounts
+pub mod Offsets
+pub mod Kept
+pub mod Ledgers

@@ -1,0 +1,9 @@
+pub mod Placed
+pub mod Answering
+pub mod Lasting
+pub mod Fresh
+pub mod Clean
+pub mod Lending
+pub mod OwnReplicas
+pub mod Known
+pub mod Telling

@@ -1,0 +1,5 @@
+pub mod Asks
+pub mod Codes
+pub mod Places
+pub mod Reads
+pub mod Readers

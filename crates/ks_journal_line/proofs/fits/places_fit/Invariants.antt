@@ -1,0 +1,11 @@
+use Rattle.std.proofs.Common.{length}
+use Rattle.std.specs.List.{AllByRecursion}
+use Rattle.ks_journal.specs.Fits.{FitsPlace}
+use Rattle.ks_journal_line.proofs.fits.places_fit.Given as goal
+
+-- what is left fits only if all does: where nothing is left, all does
+abbrev pub invariant-loop-rest : goal.invariant-loop-rest
+invariant-loop-rest l = AllByRecursion (FitsPlace 256) l.rest → AllByRecursion (FitsPlace 256) l.places
+
+abbrev pub decreases-loop-rest : goal.decreases-loop-rest
+decreases-loop-rest l = length l.rest

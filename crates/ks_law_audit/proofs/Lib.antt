@@ -1,0 +1,6 @@
+pub mod Merging
+pub mod Resting
+pub mod Failing
+pub mod Behind
+pub mod Logging
+pub mod Ending

@@ -1,0 +1,3 @@
+pub mod Rested
+pub mod Logged
+pub mod Laws
