@@ -1,5 +1,6 @@
 """`./streams audit JOB OUTPUT`: gives the program's audit the topology's line of a job and then an output, as it reads them."""
 
+import os
 import shutil
 import signal
 import subprocess
@@ -54,5 +55,5 @@ def main(words):
     if chosen.job == chosen.output == "-":
         raise WrongUse("one of the two alone can be standard input")
     signal.signal(signal.SIGPIPE, signal.SIG_IGN)
-    status = feed([STREAMS, "audit"], topology_line(read_file(chosen.job)), chosen.output)
+    status = feed([os.environ.get("STREAMS") or STREAMS, "audit"], topology_line(read_file(chosen.job)), chosen.output)
     return status if status >= 0 else 128 - status

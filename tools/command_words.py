@@ -108,9 +108,25 @@ def plain_fault(word, plain):
         return f"{extra}: {word} takes {('no word', 'one word, the number of orders', 'two words, a node and a key')[PLAIN[word]]} beside its options"
     if word == "load" and (not plain or number_of(plain[0]) is None or not 1 <= number_of(plain[0]) <= MOST_ORDERS):
         return f"load wants the number of orders, from 1 to {MOST_ORDERS:,}{f', not {plain[0]}' if plain else ''}"
-    if word == "ask" and len(plain) < 2:
-        return "ask wants the name of a table and a key"
+    if word == "ask":
+        return question_fault(*plain) if len(plain) == 2 else "ask wants the name of a table and a key"
     return None
+
+
+def question_fault(node, key):
+    """What is wrong with the name of a node or with a key."""
+    if not (node.isascii() and node.replace("_", "a").isalnum() and len(node) <= 64):
+        return f'"{node}": a node has a name of 1 to 64 letters, digits and _'
+    if key.startswith("-") or not is_key(key.encode(errors="surrogateescape")):
+        return "a key has 1 to 1,024 bytes of UTF-8, of which the first is no hyphen here"
+    return None
+
+
+def is_key(text):
+    try:
+        return bool(text.decode()) and len(text) <= 1024
+    except UnicodeDecodeError:
+        return False
 
 
 def job_file(words):

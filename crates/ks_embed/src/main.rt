@@ -1,11 +1,12 @@
 //! An example of embedding: a job in memory is run with gates of one's own, and its tables are printed.
 #![tactic(auto)]
 
-ghost use Rattle.std.specs.Prelude.{◌≡◌, ℕ, List, Some, None, IfOk, false};
+ghost use Rattle.std.specs.Prelude.{◌≡◌, ℕ, List, Some, None, IfOk};
 ghost use Rattle.std.specs.Io.KnownBytes.{Appends};
 ghost use Rattle.ks_hash.specs.Murmur3.{murmur3_of};
 ghost use Rattle.ks_def_tasks.specs.Rules.{rules_of};
 ghost use Rattle.ks_run.specs.Commands.{placing_by};
+ghost use Rattle.ks_run.specs.Told.Wanted.{nothing};
 ghost use Rattle.ks_run.specs.Journals.{IsSettledRun};
 
 mod crashing;
@@ -45,7 +46,7 @@ fn run_bytes<R: Threads + Wait + Sync>(
     out: &mut MemSink,
 ) -> Result<Ended, AllocError>
     ensures settled { IfOk result (λ ended. ended.status ≡ 0 → ((text : List ℕ)
-        × IsSettledRun (rules_of murmur3_of) (placing_by None) false (Some job.now) text
+        × IsSettledRun (rules_of murmur3_of) (placing_by None) nothing (Some job.now) text
         ended.journal
         × Appends (Some out.old.held) (Some out.new.held) text)) }
 {

@@ -1,5 +1,5 @@
 -- What a settled cluster of a job answers.
-use Rattle.std.proofs.Common.{◌≡◌, ℕ, ◌<◌, ◌≤◌, Bool, List, [], ◌∷◌, ◌++◌, length, map, get_or, refl, sym, ap, subst, ◌∙◌, arith}
+use Rattle.std.proofs.Common.{◌≡◌, ℕ, ◌<◌, ◌≤◌, List, [], ◌∷◌, ◌++◌, length, map, get_or, refl, sym, ap, subst, ◌∙◌, arith}
 use Rattle.std.specs.Prelude.{None, Some, Option}
 use Rattle.std.specs.List.{All}
 use Rattle.std.proofs.lemmas.List.Elements.{All-weaker}
@@ -57,9 +57,10 @@ use Rattle.ks_settle.specs.Restoring.{IsReplicaAt}
 use Rattle.ks_settle.specs.Drained.{Extends, drain_worker}
 use Rattle.ks_settle_report.specs.Report.{IsOf}
 use Rattle.ks_task.proofs.Subs.{inputs_there}
-use Rattle.ks_run.specs.Told.{told, with_lines}
+use Rattle.ks_iq.specs.declared.fault.IqFault.{IqFault}
+use Rattle.ks_run.specs.Told.{Wanted, told, refusal_of, wanted_at, IsText}
 use Rattle.ks_run.specs.Journals.{placed_records, IsUndrained}
-use Rattle.ks_run.specs.Settling.{IsDrained, SettlesJob, IsWantedBy, IsEnded, IsLeft, EndsBy, KeepsJob, TellsEnd, RunsJob}
+use Rattle.ks_run.specs.Settling.{IsDrained, SettlesJob, IsWantedBy, IsEnded, IsLeft, EndsWhole, EndsBy, KeepsJob, TellsWhole, TellsEnd, RunsJob}
 use Rattle.ks_run.proofs.Counts.{counts_length, plan_count, have_places, shown_counts}
 use Rattle.ks_run.proofs.Placed.{keys_have_parts, records_placed, records_fit, records_in_range}
 
@@ -137,10 +138,10 @@ pub drained_setup : {W : Type 0} (plan : W → TaskPlan) (old new : ClusterView 
 drained_setup plan old new h = rw (ap (λ c. c.work) h.same, ap (λ c. c.counts) h.same, ap (λ c. c.tasks) h.same) refl
 
 -- ---- what a drained cluster has come to
-answered : (hash : List ℕ → ℕ) (shown : Bool) (d : DraftView) (is : List ItemView) (setup : Setup) (status : ℕ) (text : List ℕ) (journal : List Entry) → IsRunnable hash d is →
+answered : (hash : List ℕ → ℕ) (wanted : Wanted) (d : DraftView) (is : List ItemView) (setup : Setup) (status : ℕ) (text : List ℕ) (journal : List Entry) → IsRunnable hash d is →
     setup ≡ setup_of (rules_of hash) (plan_of d) → produces journal ≡ placed_all (plan_of d) is → IsDrained setup journal →
-    (status, text) ≡ with_lines shown journal (told (rules_of hash) d (at setup journal)) → SettlesJob (rules_of hash) shown d (records_of is) status text journal
-answered hash shown d is setup status text journal ready e made drained told_is =
+    status ≡ (told (rules_of hash) d (at setup journal)).0 → IsText (rules_of hash) d (wanted_at status wanted) journal (told (rules_of hash) d (at setup journal)).1 text → SettlesJob (rules_of hash) wanted d (records_of is) status text journal
+answered hash wanted d is setup status text journal ready e made drained status_is text_is =
     let rules = rules_of hash in
     let right = setup_of rules (plan_of d) in
     let here : IsDrained right journal = subst (λ s. IsDrained s journal) e drained in
@@ -153,18 +154,20 @@ answered hash shown d is setup status text journal ready e made drained told_is 
         run = is_run right journal (works_are_networks rules (plan_of d)) here.history;
         few = here.few;
       };
-      told = told_is ∙ ap (λ s. with_lines shown journal (told rules d (at s journal))) e;
+      status_is = status_is ∙ ap (λ s. (told rules d (at s journal)).0) e;
+      told = subst (λ s. IsText rules d (wanted_at status wanted) journal (told rules d (at s journal)).1 text) e text_is;
     }
 
-pub settled_answers : {W : Type 0} (hash : List ℕ → ℕ) (shown : Bool) (d : DraftView) (plan : W → TaskPlan) (is : List ItemView) (begun filled drained : ClusterView W) (status : ℕ) (text : List ℕ) (journal : List Entry) →
+pub settled_answers : {W : Type 0} (hash : List ℕ → ℕ) (wanted : Wanted) (d : DraftView) (plan : W → TaskPlan) (is : List ItemView) (begun filled drained : ClusterView W) (status : ℕ) (text : List ℕ) (journal : List Entry) →
     IsRunnable hash d is → kept.setup_of plan begun ≡ setup_of (rules_of hash) (plan_of d) →
     IsFilled begun filled (placed_all (plan_of d) is) → Extends filled drained → IsDrained (kept.setup_of plan drained) drained.journal →
-    (status, text) ≡ with_lines shown drained.journal (told (rules_of hash) d (kept.state_of plan drained)) → journal ≡ drained.journal → SettlesJob (rules_of hash) shown d (records_of is) status text journal
-settled_answers hash shown d plan is begun filled drained status text journal ready start filling draining done told_is handed =
+    status ≡ (told (rules_of hash) d (kept.state_of plan drained)).0 → IsText (rules_of hash) d (wanted_at status wanted) drained.journal (told (rules_of hash) d (kept.state_of plan drained)).1 text → journal ≡ drained.journal →
+    SettlesJob (rules_of hash) wanted d (records_of is) status text journal
+settled_answers hash wanted d plan is begun filled drained status text journal ready start filling draining done status_is text_is handed =
     let setup = drained_setup plan filled drained draining ∙ (filled_setup plan begun filled (placed_all (plan_of d) is) filling ∙ start) in
     let made : produces drained.journal ≡ placed_all (plan_of d) is =
     draining.produces ∙ filling.produced in
-    subst (λ j. SettlesJob (rules_of hash) shown d (records_of is) status text j) (sym handed) (answered hash shown d is (kept.setup_of plan drained) status text drained.journal ready setup made done told_is)
+    subst (λ j. SettlesJob (rules_of hash) wanted d (records_of is) status text j) (sym handed) (answered hash wanted d is (kept.setup_of plan drained) status text drained.journal ready setup made done status_is text_is)
 
 -- the report and the tables are those of the topology
 pub is_of : (hash : List ℕ → ℕ) (d : DraftView) (t : Topology) (setup : Setup) → draft_of t ≡ d → fault_of d ≡ None → setup ≡ setup_of (rules_of hash) (plan_of d) → IsOf t setup
@@ -192,7 +195,7 @@ alone_ready test placing d ts wanted named fine threads =
     (subst (λ us. IsGoodForAll (placed_by (plan_of d) (Some placing)) (drain_worker ∷ []) (everything drain_worker us)) (sym named) (everything_is_good d (Some placing) drain_worker fine threads (omega arith)))
 
 -- ---- the end of a run
-module _ {W : Type 0} (hash : List ℕ → ℕ) (plan : W → TaskPlan) (good : W → PlacementTest) (placing : Placing) (shown : Bool) (d : DraftView) (begun filled : ClusterView W) (intake : JobInput) (left now : Option (List ℕ)) (e : JobEnd)
+module _ {W : Type 0} (hash : List ℕ → ℕ) (plan : W → TaskPlan) (good : W → PlacementTest) (placing : Placing) (wanting : Wanted) (d : DraftView) (begun filled : ClusterView W) (intake : JobInput) (left now : Option (List ℕ)) (e : JobEnd)
     (start : kept.setup_of plan begun ≡ setup_of (rules_of hash) (plan_of d)) (wanted : IsWantedBy good begun.work d placing)
     (job : IsReadable d (item_views intake.records.items) intake.rest) (work : HasWorked d begun filled intake left now e) where
   abbrev its_items : List ItemView
@@ -211,8 +214,8 @@ module _ {W : Type 0} (hash : List ℕ → ℕ) (plan : W → TaskPlan) (good : 
   filled_made = work.filled.produced ∙ records_placed hash d its_items its_records
 
   -- a run that was cut short
-  cut_short : (before after status : ℕ) (text : List ℕ) (journal : List Entry) → FaultsBy e before after → IsLeft plan good filled journal → (IsUndrained journal → TellsEnd e (rules_of hash) shown d (records_of its_items) status text journal) →
-      RunsJob (rules_of hash) placing shown d (item_views intake.records.items) intake.rest.standing left now before after status text journal
+  cut_short : (before after status : ℕ) (text : List ℕ) (journal : List Entry) → FaultsBy e before after → IsLeft plan good filled journal → (IsUndrained journal → TellsEnd e (rules_of hash) wanting d (records_of its_items) status text journal) →
+      RunsJob (rules_of hash) placing wanting d (item_views intake.records.items) intake.rest.standing left now before after status text journal
   cut_short before after status text journal faults h told = record {
     end = e;
     items = work.items;
@@ -227,9 +230,10 @@ module _ {W : Type 0} (hash : List ℕ → ℕ) (plan : W → TaskPlan) (good : 
     ready : IsRunnable hash d its_items
     ready = record { fine = fine; spelled = spelled; hashes = hashes; partitions = job.partitions; records = its_records }
 
-    ran_whole : (before after status : ℕ) (text : List ℕ) (journal : List Entry) → e ≡ end.Whole → FaultsBy e before after → IsEnded plan good (rules_of hash) shown d filled status text journal →
-        RunsJob (rules_of hash) placing shown d (item_views intake.records.items) intake.rest.standing left now before after status text journal
-    ran_whole before after status text journal whole faults h =
+    -- the topology has nothing against the question
+    ran_whole : (before after status : ℕ) (text : List ℕ) (journal : List Entry) → e ≡ end.Whole → FaultsBy e before after → refusal_of d wanting ≡ None → IsEnded plan good (rules_of hash) wanting d filled status text journal →
+        RunsJob (rules_of hash) placing wanting d (item_views intake.records.items) intake.rest.standing left now before after status text journal
+    ran_whole before after status text journal whole faults fine_ask h =
         let setup = drained_setup plan filled h.drained h.more ∙ filled_start in
         record {
           end = e;
@@ -237,22 +241,35 @@ module _ {W : Type 0} (hash : List ℕ → ℕ) (plan : W → TaskPlan) (good : 
           reads = work.ends;
           faults = faults;
           kept = keeps_job plan good (rules_of hash) placing d h.drained (records_of its_items) journal setup (ap (λ c. good c.work) h.more.same ∙ filled_wanted) h.done.history h.placed (h.more.produces ∙ filled_made) h.handed;
-          told = subst (λ x. TellsEnd x (rules_of hash) shown d (records_of its_items) status text journal) (sym whole)
-              (settled_answers hash shown d plan its_items begun filled h.drained status text journal ready start work.filled h.more h.done h.told h.handed);
+          told = subst (λ x. TellsEnd x (rules_of hash) wanting d (records_of its_items) status text journal) (sym whole)
+              (subst (λ o. TellsWhole o (rules_of hash) wanting d (records_of its_items) status text journal) (sym fine_ask)
+              (settled_answers hash wanting d plan its_items begun filled h.drained status text journal ready start work.filled h.more h.done h.status_is h.told h.handed));
         }
 
--- one of any end
-pub ran_so : {W : Type 0} (hash : List ℕ → ℕ) (plan : W → TaskPlan) (good : W → PlacementTest) (placing : Placing) (shown : Bool) (d : DraftView) (begun filled : ClusterView W) (intake : JobInput) (left now : Option (List ℕ)) (e : JobEnd) →
+    -- by what it has against it
+    pub ran_asked : (refusal : Option IqFault) (told : Wanted) (before after status : ℕ) (text : List ℕ) (journal : List Entry) → e ≡ end.Whole → FaultsBy e before after → refusal_of d wanting ≡ refusal → (refusal ≡ None → told ≡ wanting) →
+        EndsWhole plan good (rules_of hash) told d filled refusal status text journal →
+        RunsJob (rules_of hash) placing wanting d (item_views intake.records.items) intake.rest.standing left now before after status text journal
+    ran_asked None told before after status text journal whole faults refused same h =
+        ran_whole before after status text journal whole faults refused (subst (λ w. IsEnded plan good (rules_of hash) w d filled status text journal) (same refl) h)
+    ran_asked (Some fault) told before after status text journal whole faults refused same h =
+        cut_short before after status text journal faults h.2
+        (λ u. subst (λ x. TellsEnd x (rules_of hash) wanting d (records_of its_items) status text journal) (sym whole)
+        (subst (λ o. TellsWhole o (rules_of hash) wanting d (records_of its_items) status text journal) (sym refused) (h.0, h.1, u)))
+
+-- one of any end, by what the topology has against the question and what is wanted then
+pub ran_so : {W : Type 0} (hash : List ℕ → ℕ) (plan : W → TaskPlan) (good : W → PlacementTest) (placing : Placing) (wanting : Wanted) (d : DraftView) (begun filled : ClusterView W) (intake : JobInput) (left now : Option (List ℕ)) (e : JobEnd) →
     kept.setup_of plan begun ≡ setup_of (rules_of hash) (plan_of d) → IsWantedBy good begun.work d placing →
     IsReadable d (item_views intake.records.items) intake.rest → HasWorked d begun filled intake left now e → fault_of d ≡ None → FitsPlan (plan_of d) → FitsRules (rules_of hash) →
-    (before after status : ℕ) (text : List ℕ) (journal : List Entry) → FaultsBy e before after → EndsBy plan good (rules_of hash) shown d filled e status text journal →
-    RunsJob (rules_of hash) placing shown d (item_views intake.records.items) intake.rest.standing left now before after status text journal
-ran_so hash plan good placing shown d begun filled intake left now end.Whole start wanted job work fine spelled hashes before after status text journal faults h =
-    ran_whole hash plan good placing shown d begun filled intake left now end.Whole start wanted job work fine spelled hashes before after status text journal refl faults h
-ran_so hash plan good placing shown d begun filled intake left now (end.Stopped stop) start wanted job work fine spelled hashes before after status text journal faults h =
-    cut_short hash plan good placing shown d begun filled intake left now (end.Stopped stop) start wanted job work before after status text journal faults h.2 (λ u. (h.0, h.1, u))
-ran_so hash plan good placing shown d begun filled intake left now end.Failed start wanted job work fine spelled hashes before after status text journal faults h =
-    cut_short hash plan good placing shown d begun filled intake left now end.Failed start wanted job work before after status text journal faults h.2 (λ u. (h.0, h.1, u))
+    (refusal : Option IqFault) (told : Wanted) → refusal_of d wanting ≡ refusal → (refusal ≡ None → told ≡ wanting) →
+    (before after status : ℕ) (text : List ℕ) (journal : List Entry) → FaultsBy e before after → EndsBy plan good (rules_of hash) told d filled refusal e status text journal →
+    RunsJob (rules_of hash) placing wanting d (item_views intake.records.items) intake.rest.standing left now before after status text journal
+ran_so hash plan good placing wanting d begun filled intake left now end.Whole start wanted job work fine spelled hashes refusal told refused same before after status text journal faults h =
+    ran_asked hash plan good placing wanting d begun filled intake left now end.Whole start wanted job work fine spelled hashes refusal told before after status text journal refl faults refused same h
+ran_so hash plan good placing wanting d begun filled intake left now (end.Stopped stop) start wanted job work fine spelled hashes refusal told refused same before after status text journal faults h =
+    cut_short hash plan good placing wanting d begun filled intake left now (end.Stopped stop) start wanted job work before after status text journal faults h.2 (λ u. (h.0, h.1, u))
+ran_so hash plan good placing wanting d begun filled intake left now end.Failed start wanted job work fine spelled hashes refusal told refused same before after status text journal faults h =
+    cut_short hash plan good placing wanting d begun filled intake left now end.Failed start wanted job work before after status text journal faults h.2 (λ u. (h.0, h.1, u))
 
 -- ---- the replicas that workers leave serve the drain
 pub all_given : (setup : Setup) (journal : List Entry) (rs : List Replica) → All (IsStandby setup journal) rs → All (IsReplicaAt setup journal) rs

@@ -28,7 +28,10 @@ use Rattle.ks_law_settled.specs.Jobs.{IsJob, produced_of, produces}
 use Rattle.ks_law_settled.specs.Settled.{end_of}
 use Rattle.ks_job_source.specs.Stops.{stop_of}
 use Rattle.ks_job_source.specs.Reading.{TookNoFault}
-use Rattle.ks_run.specs.Told.{TellsQuery, TellsLate, TellsCollision}
+use Rattle.ks_iq.specs.declared.ask.Ask.{Ask}
+use Rattle.ks_iq.specs.declared.fault.IqFault.{IqFault}
+use Rattle.ks_iq.specs.Asks.{ask_fault}
+use Rattle.ks_run.specs.Told.{Wanted, TellsQuery, TellsLate, TellsCollision}
 
 -- the topology is the first item
 abbrev pub draft_in : List ItemView → Option DraftView
@@ -71,25 +74,25 @@ pub record SettlesBytes (rules : Rules) (placing : Placing) (left : Option (List
   pub placed : IsPlaced rules placing d journal
 
 -- ---- status 0: the source held a job, and the text has its tables by its query
-pub record IsSettledRun (rules : Rules) (placing : Placing) (shown : Bool) (left : Option (List ℕ)) (text : List ℕ) (journal : List Entry) : Type 0 where
+pub record IsSettledRun (rules : Rules) (placing : Placing) (wanted : Wanted) (left : Option (List ℕ)) (text : List ℕ) (journal : List Entry) : Type 0 where
   pub draft : DraftView
   pub records : List Input
   pub settles : SettlesBytes rules placing left draft records journal
-  pub query : TellsQuery rules shown draft records text journal
+  pub query : TellsQuery rules wanted draft records text journal
 
 -- ---- status 3: the source held a job some of whose records are not within grace, and the text has its tables without the late ones
-pub record IsLateRun (rules : Rules) (placing : Placing) (shown : Bool) (left : Option (List ℕ)) (text : List ℕ) (journal : List Entry) : Type 0 where
+pub record IsLateRun (rules : Rules) (placing : Placing) (wanted : Wanted) (left : Option (List ℕ)) (text : List ℕ) (journal : List Entry) : Type 0 where
   pub draft : DraftView
   pub records : List Input
   pub settles : SettlesBytes rules placing left draft records journal
-  pub late : TellsLate rules shown draft records text journal
+  pub late : TellsLate rules wanted draft records text journal
 
 -- ---- status 5: the source held a job in whose journal two rows of a key have one hash, and the text names them
-pub record IsCollidedRun (rules : Rules) (placing : Placing) (shown : Bool) (left : Option (List ℕ)) (text : List ℕ) (journal : List Entry) : Type 0 where
+pub record IsCollidedRun (rules : Rules) (placing : Placing) (wanted : Wanted) (left : Option (List ℕ)) (text : List ℕ) (journal : List Entry) : Type 0 where
   pub draft : DraftView
   pub records : List Input
   pub settles : SettlesBytes rules placing left draft records journal
-  pub collision : TellsCollision rules shown draft text journal
+  pub collision : TellsCollision rules wanted draft text journal
 
 -- ---- jobs that are always answered by their query
 -- the bytes that the source has left are a valid job, whose records are within grace
@@ -98,6 +101,21 @@ pub record IsInTime (left : Option (List ℕ)) : Type 0 where
   pub known : left ≡ Some bytes
   pub unstopped : stop_of (whole bytes) ≡ None
   pub in_time : (d : DraftView) → draft_in (whole bytes).items ≡ Some d → IsWithinGrace (plan_of d) (records_of (whole bytes).items)
+
+-- the job of the bytes that the source has left has the store that is asked for, and a start is given exactly where that is a windowed count
+abbrev pub IsGoodAsk : Option (List ℕ) → Ask → Type 0
+IsGoodAsk left ask = (bytes : List ℕ) → left ≡ Some bytes → (d : DraftView) → draft_in (whole bytes).items ≡ Some d → ask_fault d ask ≡ None
+
+-- the bytes that the source has left are a valid job without the store that is asked for, or a start is given for a node that isn't a windowed
+-- count, or none for one
+pub record IsRefusing (left : Option (List ℕ)) (ask : Ask) : Type 0 where
+  pub bytes : List ℕ
+  pub known : left ≡ Some bytes
+  pub unstopped : stop_of (whole bytes) ≡ None
+  pub draft : DraftView
+  pub topology : draft_in (whole bytes).items ≡ Some draft
+  pub fault : IqFault
+  pub bad : ask_fault draft ask ≡ Some fault
 
 -- no two rows of a left key collide in the changelogs that a journal of their job leaves
 abbrev pub IsWithoutCollision : Rules → Option (List ℕ) → List Entry → Type 0

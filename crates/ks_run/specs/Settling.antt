@@ -1,5 +1,5 @@
 -- A job that is run while it is read, and what its run answers.
-use Rattle.std.specs.Prelude.{◌≡◌, ◌<◌, ◌≤◌, ◌^◌, ℕ, Bool, List, ◌++◌, Option}
+use Rattle.std.specs.Prelude.{◌≡◌, ◌<◌, ◌≤◌, ◌^◌, ℕ, List, ◌++◌, Option, Some, None}
 use Rattle.ks_plan.specs.Drafts.{DraftView}
 use Rattle.ks_query.specs.Streams.{Input}
 use Rattle.ks_def_tasks.specs.Messages.{Rules}
@@ -30,13 +30,16 @@ use Rattle.ks_job_source.specs.Texts.{bad_job_text}
 use Rattle.ks_run_output.specs.Texts.{read_fault_text}
 use Rattle.ks_run_workers.specs.Feeding.{FaultsBy}
 use Rattle.ks_law_settled.specs.Settled.{end_of}
-use Rattle.ks_run.specs.Told.{told, with_lines}
+use Rattle.ks_iq.specs.declared.fault.IqFault.{IqFault}
+use Rattle.ks_run_ask.specs.Texts.{bad_ask_text}
+use Rattle.ks_run.specs.Told.{Wanted, told, refusal_of, wanted_at, IsText}
 use Rattle.ks_run.specs.Journals.{IsJournal, IsPlaced, IsUndrained, placed_records}
 
--- the journal settles the job, and the status and the text are those of the cluster that it leaves, with its lines where they are asked for
-pub record SettlesJob (rules : Rules) (shown : Bool) (d : DraftView) (records : List Input) (status : ℕ) (text : List ℕ) (journal : List Entry) : Type 0 where
+-- the journal settles the job, and the status and the text are those of the cluster that it leaves, with what is wanted behind it
+pub record SettlesJob (rules : Rules) (wanted : Wanted) (d : DraftView) (records : List Input) (status : ℕ) (text : List ℕ) (journal : List Entry) : Type 0 where
   pub kept : IsJournal rules d records journal
-  pub told : (status, text) ≡ with_lines shown journal (told rules d (end_of rules d journal))
+  pub status_is : status ≡ (told rules d (end_of rules d journal)).0
+  pub told : IsText rules d (wanted_at status wanted) journal (told rules d (end_of rules d journal)).1 text
 
 -- a work's assignments are good by the tasks and the changelogs of this topology, and this placing
 abbrev pub IsWantedBy : {W : Type 0} → (W → PlacementTest) → W → DraftView → Placing → Type 0
@@ -53,12 +56,13 @@ pub record IsDrained (setup : Setup) (journal : List Entry) : Type 0 where
   pub settled : IsSettled setup (at setup journal)
 
 -- the cluster was drained, its journal is handed on, and what is told is what it then has come to
-pub record IsEnded {W : Type 0} (plan : W → TaskPlan) (good : W → PlacementTest) (rules : Rules) (shown : Bool) (d : DraftView) (cluster : ClusterView W) (status : ℕ) (text : List ℕ) (journal : List Entry) : Type 0 where
+pub record IsEnded {W : Type 0} (plan : W → TaskPlan) (good : W → PlacementTest) (rules : Rules) (wanted : Wanted) (d : DraftView) (cluster : ClusterView W) (status : ℕ) (text : List ℕ) (journal : List Entry) : Type 0 where
   pub drained : ClusterView W
   pub more : Extends cluster drained
   pub done : IsDrained (kept.setup_of plan drained) drained.journal
   pub placed : ArePlaced (good drained.work) (kept.setup_of plan drained) drained.journal
-  pub told : (status, text) ≡ with_lines shown drained.journal (told rules d (kept.state_of plan drained))
+  pub status_is : status ≡ (told rules d (kept.state_of plan drained)).0
+  pub told : IsText rules d (wanted_at status wanted) drained.journal (told rules d (kept.state_of plan drained)).1 text
   pub handed : journal ≡ drained.journal
 
 -- the cluster was left as it was, and its journal is handed on
@@ -67,11 +71,20 @@ pub record IsLeft {W : Type 0} (plan : W → TaskPlan) (good : W → PlacementTe
   pub placed : ArePlaced (good cluster.work) (kept.setup_of plan cluster) cluster.journal
   pub handed : journal ≡ cluster.journal
 
+-- the topology has no such store as is asked for: the cluster was left, and the text says so
+abbrev pub IsRefusedAsk : {W : Type 0} → (W → TaskPlan) → (W → PlacementTest) → ClusterView W → IqFault → ℕ → List ℕ → List Entry → Type 0
+IsRefusedAsk plan good cluster fault status text journal = (status ≡ 9) × (text ≡ bad_ask_text fault) × IsLeft plan good cluster journal
+
+-- what is told of a cluster whose job was read whole, by what a topology has against the question
+abbrev pub EndsWhole : {W : Type 0} → (W → TaskPlan) → (W → PlacementTest) → Rules → Wanted → DraftView → ClusterView W → Option IqFault → ℕ → List ℕ → List Entry → Type 0
+EndsWhole plan good rules wanted d cluster None status text journal = IsEnded plan good rules wanted d cluster status text journal
+EndsWhole plan good rules wanted d cluster (Some fault) status text journal = IsRefusedAsk plan good cluster fault status text journal
+
 -- what is told of a cluster by how reading its job ended: where it was read whole the cluster was drained, and else it was left
-abbrev pub EndsBy : {W : Type 0} → (W → TaskPlan) → (W → PlacementTest) → Rules → Bool → DraftView → ClusterView W → JobEnd → ℕ → List ℕ → List Entry → Type 0
-EndsBy plan good rules shown d cluster Whole status text journal = IsEnded plan good rules shown d cluster status text journal
-EndsBy plan good rules shown d cluster (Stopped stop) status text journal = (status ≡ 2) × (text ≡ bad_job_text stop) × IsLeft plan good cluster journal
-EndsBy plan good rules shown d cluster Failed status text journal = (status ≡ 6) × (text ≡ read_fault_text) × IsLeft plan good cluster journal
+abbrev pub EndsBy : {W : Type 0} → (W → TaskPlan) → (W → PlacementTest) → Rules → Wanted → DraftView → ClusterView W → Option IqFault → JobEnd → ℕ → List ℕ → List Entry → Type 0
+EndsBy plan good rules wanted d cluster refusal Whole status text journal = EndsWhole plan good rules wanted d cluster refusal status text journal
+EndsBy plan good rules wanted d cluster refusal (Stopped stop) status text journal = (status ≡ 2) × (text ≡ bad_job_text stop) × IsLeft plan good cluster journal
+EndsBy plan good rules wanted d cluster refusal Failed status text journal = (status ≡ 6) × (text ≡ read_fault_text) × IsLeft plan good cluster journal
 
 -- the journal is legal and faithful, has good assignments alone, and has produced these records
 pub record KeepsJob (rules : Rules) (placing : Placing) (d : DraftView) (records : List Input) (journal : List Entry) : Type 0 where
@@ -79,17 +92,22 @@ pub record KeepsJob (rules : Rules) (placing : Placing) (d : DraftView) (records
   pub placed : IsPlaced rules placing d journal
   pub produced : produces journal ≡ placed_records rules d records
 
+-- what is told of a job that was read whole: it is settled, unless the question can't be asked
+abbrev pub TellsWhole : Option IqFault → Rules → Wanted → DraftView → List Input → ℕ → List ℕ → List Entry → Type 0
+TellsWhole None rules wanted d records status text journal = SettlesJob rules wanted d records status text journal
+TellsWhole (Some fault) rules wanted d records status text journal = (status ≡ 9) × (text ≡ bad_ask_text fault) × IsUndrained journal
+
 -- what is told of a job that was read to this end: where it was read whole it is settled, and else nothing was drained
-abbrev pub TellsEnd : JobEnd → Rules → Bool → DraftView → List Input → ℕ → List ℕ → List Entry → Type 0
-TellsEnd Whole rules shown d records status text journal = SettlesJob rules shown d records status text journal
-TellsEnd (Stopped stop) rules shown d records status text journal = (status ≡ 2) × (text ≡ bad_job_text stop) × IsUndrained journal
-TellsEnd Failed rules shown d records status text journal = (status ≡ 6) × (text ≡ read_fault_text) × IsUndrained journal
+abbrev pub TellsEnd : JobEnd → Rules → Wanted → DraftView → List Input → ℕ → List ℕ → List Entry → Type 0
+TellsEnd Whole rules wanted d records status text journal = TellsWhole (refusal_of d wanted) rules wanted d records status text journal
+TellsEnd (Stopped stop) rules wanted d records status text journal = (status ≡ 2) × (text ≡ bad_job_text stop) × IsUndrained journal
+TellsEnd Failed rules wanted d records status text journal = (status ≡ 6) × (text ≡ read_fault_text) × IsUndrained journal
 
 -- a job was read on from there, with the records that had come with its topology, and its run tells so of it
-pub record RunsJob (rules : Rules) (placing : Placing) (shown : Bool) (d : DraftView) (records : List ItemView) (standing : Standing) (left now : Option (List ℕ)) (before after : ℕ) (status : ℕ) (text : List ℕ) (journal : List Entry) : Type 0 where
+pub record RunsJob (rules : Rules) (placing : Placing) (wanted : Wanted) (d : DraftView) (records : List ItemView) (standing : Standing) (left now : Option (List ℕ)) (before after : ℕ) (status : ℕ) (text : List ℕ) (journal : List Entry) : Type 0 where
   pub end : JobEnd
   pub items : List ItemView
   pub reads : EndsFrom standing left now end items
   pub faults : FaultsBy end before after
   pub kept : KeepsJob rules placing d (records_of (records ++ items)) journal
-  pub told : TellsEnd end rules shown d (records_of (records ++ items)) status text journal
+  pub told : TellsEnd end rules wanted d (records_of (records ++ items)) status text journal

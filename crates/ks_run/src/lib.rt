@@ -9,6 +9,7 @@ mod runs;
 mod settling;
 mod status;
 mod verdict;
+mod wanted;
 
 pub use command::top;
-pub use runs::{Ended, run_job};
+pub use runs::{Ended, run_asked, run_job};

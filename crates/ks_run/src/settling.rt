@@ -1,5 +1,5 @@
 //! Runs a job's tasks over its records, until nothing is left to take.
-ghost use Rattle.std.specs.Prelude.{◌≡◌, ◌++◌, ◌<◌, ◌^◌, [], IfOk, OnOk, length, map};
+ghost use Rattle.std.specs.Prelude.{◌≡◌, ◌++◌, ◌<◌, ◌^◌, ℕ, List, [], IfOk, OnOk, None, cond, is_some, length, map};
 ghost use Rattle.ks_run_workers.specs.Left.{AreStandbysOf};
 ghost use Rattle.ks_plan.specs.Drafts.{draft_view};
 ghost use Rattle.ks_plan.specs.Infos.{topic_infos};
@@ -8,31 +8,39 @@ ghost use Rattle.ks_topo.specs.Topologies.{draft_of, plan_in};
 ghost use Rattle.ks_history.specs.History.{IsHistory};
 ghost use Rattle.ks_history.specs.State.{IsSetup};
 ghost use Rattle.ks_history.specs.Count.{records_in};
-ghost use Rattle.ks_cluster.specs.View.{setup_from, setup_of};
+ghost use Rattle.ks_cluster.specs.View.{setup_from, setup_of, state_of};
 ghost use Rattle.ks_cluster.specs.Placed.{ArePlaced};
 ghost use Rattle.ks_job.specs.Items.{item_views};
 ghost use Rattle.ks_job_source.specs.Opening.{IsReadable};
 ghost use Rattle.ks_law_inputs.specs.Records.{HavePartitions};
 ghost use Rattle.ks_law_topology.specs.Work.{work_of, setup_of as topology_setup};
 ghost use Rattle.ks_law_topology.specs.Work.{FitsRules};
-ghost use Rattle.ks_def_tasks.specs.Rules.{rules_of};
+ghost use Rattle.ks_def_tasks.specs.Rules.{HaveParts, rules_of};
 ghost use Rattle.ks_words.specs.Ranges.{HasRanges};
 ghost use Rattle.ks_run_workers.specs.Members.{placing_of};
-ghost use Rattle.ks_run.specs.Told.{lines_of, with_lines};
+ghost use Rattle.ks_settle.specs.Restoring.{IsQuiet};
+ghost use Rattle.ks_run.specs.Told.{wanted_in};
+ghost use Rattle.ks_iq.specs.Reads.{ReadsTopology};
+ghost use Rattle.ks_run.specs.declared.wanted.Tail.TheVariants.{Answers};
+ghost use Rattle.ks_run.specs.Tails.{wanted_of, refusal_in, without_answers, MayTell, IsTailOf, AreLinesOf, IsToldBy};
 ghost use Rattle.ks_run.specs.Verdict.{told_as};
-ghost use Rattle.ks_run.specs.Settling.{IsWantedBy, AreWanted, IsEnded, IsLeft, EndsBy, RunsJob};
+ghost use Rattle.ks_run.specs.Settling.{IsWantedBy, AreWanted, IsEnded, IsLeft, EndsWhole, EndsBy, RunsJob};
 
 use crate::answer::Answer;
-use crate::status::{BAD_JOB, READ_FAULT};
+use crate::status::{BAD_ASK, BAD_JOB, COLLISION, READ_FAULT};
 use crate::verdict::{Verdict, judge, print_verdict};
+use crate::wanted::{Tail, refusal_in, wanted_by};
 use ks_cluster::{Cluster, Work};
 use ks_edge::{Gate, Source};
 use ks_hash::Hash128;
-use ks_history::Entry;
+use ks_iq::{Ask, IqFault};
 use ks_job_source::{JobEnd, OpenJob, print_bad_job};
 use ks_journal::push_journal;
+use ks_run_ask::{answer_last, bad_ask, print_bad_ask, push_answers};
 use ks_run_output::print_read_fault;
-use ks_run_workers::{JobInput, RunWorkers, WorkEnd, counts_of, placing_of, run_workers};
+use ks_run_workers::{
+    Asked, JobInput, RunWorkers, WorkEnd, counts_of, last_position, placing_of, run_workers,
+};
 use ks_settle::drain;
 use ks_standby::Replica;
 use ks_task::{TaskWork, topology_fits};
@@ -41,37 +49,93 @@ use std::alloc::{AllocError, Global};
 use std::sync::Wait;
 use std::thread::Threads;
 
-// The stores of the drain's tasks hold no write back.
-const NO_CACHE: u32 = 0;
-
-// Appends the lines of a journal, where they are asked for.
-fn push_lines(text: &mut Vec<u8>, entries: &[Entry], shown: bool) -> Result<(), AllocError>
-    ensures { OnOk result (text.new.items ≡ text.old.items ++ lines_of shown entries.now) }
+// Appends what stands behind the tables: the lines of the journal, or those of the answers, of which the last is asked for now.
+fn push_tail<W: Work>(
+    alloc: Global,
+    topology: &Topology,
+    cluster: &Cluster<W>,
+    text: &mut Vec<u8>,
+    wanted: Tail,
+) -> Result<(), AllocError>
+    requires quiet { IsQuiet W.plan cluster.now }
+    requires topology { ReadsTopology (draft_of topology.now) (setup_of W.plan cluster.now) }
+    requires parts { HaveParts (plan_in topology.now) }
+    requires may { MayTell (draft_of topology.now) (state_of W.plan cluster.now) wanted }
+    ensures { OnOk result ((tail : List ℕ) × (text.new.items ≡ text.old.items ++ tail)
+        × IsTailOf (draft_of topology.now) (state_of W.plan cluster.now) wanted cluster.now.journal
+        tail) }
 {
-    if shown {
-        push_journal(text, entries)?;
+    match wanted {
+        Tail::Nothing => Ok(()),
+        Tail::Lines => push_journal(text, cluster.journal()),
+        Tail::Answers(asked) => push_answered(alloc, topology, cluster, text, asked),
+        Tail::Refusal(_) => Ok(()),
     }
-    Ok(())
 }
 
-// The answer of a run that came to this: the text of its verdict, and then the journal's lines.
+// The answers that were given, and the last one.
+fn push_answered<W: Work>(
+    alloc: Global,
+    topology: &Topology,
+    cluster: &Cluster<W>,
+    text: &mut Vec<u8>,
+    asked: Asked,
+) -> Result<(), AllocError>
+    requires quiet { IsQuiet W.plan cluster.now }
+    requires topology { ReadsTopology (draft_of topology.now) (setup_of W.plan cluster.now) }
+    requires parts { HaveParts (plan_in topology.now) }
+    requires may { MayTell (draft_of topology.now) (state_of W.plan cluster.now) (Answers asked) }
+    ensures { OnOk result ((tail : List ℕ) × (text.new.items ≡ text.old.items ++ tail)
+        × AreLinesOf (draft_of topology.now) (state_of W.plan cluster.now) asked tail) }
+{
+    let Asked { ask, mut answers } = asked;
+    let at_least = last_position(&answers);
+    let last = answer_last(alloc, topology, cluster, &ask, at_least)?;
+    answers.push(last)?;
+    push_answers(alloc, text, answers.as_slice())
+}
+
+// What stands behind a text of this status: of rows that collide no table is shown, and so no answer.
+fn shown_at(status: u8, wanted: Tail) -> Tail
+    ensures { result ≡ without_answers status wanted }
+{
+    if status != COLLISION {
+        return wanted;
+    }
+    match wanted {
+        Tail::Nothing | Tail::Answers(_) => Tail::Nothing,
+        Tail::Lines => Tail::Lines,
+        Tail::Refusal(fault) => Tail::Refusal(fault),
+    }
+}
+
+// The answer of a run that came to this: the text of its verdict, and then what stands behind its tables.
 fn end_run<R: Threads + Sync, W: Work>(
     rt: &R,
     alloc: Global,
+    topology: &Topology,
     cluster: Cluster<W>,
     verdict: Verdict,
-    shown: bool,
+    wanted: Tail,
 ) -> Result<Answer, AllocError>
-    ensures made { IfOk result (λ a. ((a.status, a.text.items)
-        ≡ with_lines shown cluster.journal (told_as verdict)) × (a.journal ≡ cluster.journal)) }
+    requires quiet { IsQuiet W.plan cluster }
+    requires topology { ReadsTopology (draft_of topology.now) (setup_of W.plan cluster) }
+    requires parts { HaveParts (plan_in topology.now) }
+    requires may { MayTell (draft_of topology.now) (state_of W.plan cluster) wanted }
+    ensures made { IfOk result (λ a. IsToldBy (draft_of topology.now) (state_of W.plan cluster)
+        wanted cluster.journal (told_as verdict) a.status a.text.items
+        × (a.journal ≡ cluster.journal)) }
     ensures history { IsHistory (setup_of W.plan cluster) cluster.journal }
     ensures placed { ArePlaced (W.good cluster.work) (setup_of W.plan cluster) cluster.journal }
     ensures few { records_in (setup_of W.plan cluster) cluster.journal < 2 ^ 48 }
 {
+    // The journal is a history, whether memory suffices or not.
+    let _journal = cluster.journal();
     let status = verdict.status();
+    let shown = shown_at(status, wanted);
     let mut text = print_verdict(rt, alloc, verdict)?;
+    push_tail(alloc, topology, &cluster, &mut text, shown)?;
     let journal = cluster.into_last_journal();
-    push_lines(&mut text, journal.as_slice(), shown)?;
     Ok(Answer {
         status,
         text,
@@ -103,20 +167,52 @@ fn end_settled<H: Hash128 + Send + Sync, R: Threads + Sync, W: Work + Send + Syn
     topology: &Topology,
     mut cluster: Cluster<W>,
     replicas: Vec<Replica>,
-    shown: bool,
+    cache: u32,
+    wanted: Tail,
 ) -> Result<Answer, AllocError>
     requires setup { setup_of W.plan cluster ≡ topology_setup (rules_of H.hash_of)
         (plan_in topology.now) }
     requires placing { AreWanted W.good cluster.work (draft_of topology.now) }
     requires replicas { AreStandbysOf W.plan cluster replicas.items }
+    requires may { MayTell (draft_of topology.now) (state_of W.plan cluster) wanted }
     requires partitions { HavePartitions (draft_of topology.now).topics }
-    ensures { IfOk result (λ a. IsEnded W.plan W.good (rules_of H.hash_of) shown
+    ensures { IfOk result (λ a. IsEnded W.plan W.good (rules_of H.hash_of) (wanted_of wanted)
         (draft_of topology.now) cluster a.status a.text.items a.journal) }
 {
     let _nodes = topology.nodes();
-    drain::<H, R, W>(rt, alloc, topology, &mut cluster, replicas, NO_CACHE)?;
+    drain::<H, R, W>(rt, alloc, topology, &mut cluster, replicas, cache)?;
     let verdict = judge::<H, R, W>(rt, alloc, topology, &cluster)?;
-    end_run(rt, alloc, cluster, verdict, shown)
+    // The journal is a history: what was read of its front is read of it.
+    let _journal = cluster.journal();
+    end_run(rt, alloc, topology, cluster, verdict, wanted)
+}
+
+// The answer of a run whose records were all fed: a question that can't be asked is refused, and nothing is drained then.
+fn end_whole<H: Hash128 + Send + Sync, R: Threads + Sync, W: Work + Send + Sync>(
+    rt: &R,
+    alloc: Global,
+    topology: &Topology,
+    cluster: Cluster<W>,
+    replicas: Vec<Replica>,
+    cache: u32,
+    wanted: Tail,
+) -> Result<Answer, AllocError>
+    requires setup { setup_of W.plan cluster ≡ topology_setup (rules_of H.hash_of)
+        (plan_in topology.now) }
+    requires placing { AreWanted W.good cluster.work (draft_of topology.now) }
+    requires replicas { AreStandbysOf W.plan cluster replicas.items }
+    requires may { MayTell (draft_of topology.now) (state_of W.plan cluster) wanted }
+    requires partitions { HavePartitions (draft_of topology.now).topics }
+    ensures { IfOk result (λ a. EndsWhole W.plan W.good (rules_of H.hash_of) (wanted_of wanted)
+        (draft_of topology.now) cluster (refusal_in wanted) a.status a.text.items a.journal) }
+{
+    match refusal_in(&wanted) {
+        Some(fault) => {
+            let text = print_bad_ask(alloc, &fault)?;
+            Ok(end_undrained(cluster, BAD_ASK, text))
+        }
+        None => end_settled::<H, R, W>(rt, alloc, topology, cluster, replicas, cache, wanted),
+    }
 }
 
 // The answer of a run by how reading its job ended: a cluster is brought to rest only where all of the job was read.
@@ -125,15 +221,17 @@ fn end_by<H: Hash128 + Send + Sync, R: Threads + Sync, W: Work + Send + Sync>(
     alloc: Global,
     topology: &Topology,
     ended: WorkEnd<W>,
-    shown: bool,
+    cache: u32,
+    wanted: Tail,
 ) -> Result<Answer, AllocError>
     requires setup { setup_of W.plan ended.cluster ≡ topology_setup (rules_of H.hash_of)
         (plan_in topology.now) }
     requires placing { AreWanted W.good ended.cluster.work (draft_of topology.now) }
     requires replicas { AreStandbysOf W.plan ended.cluster ended.replicas.items }
+    requires may { MayTell (draft_of topology.now) (state_of W.plan ended.cluster) wanted }
     requires partitions { HavePartitions (draft_of topology.now).topics }
-    ensures { IfOk result (λ a. EndsBy W.plan W.good (rules_of H.hash_of) shown
-        (draft_of topology.now) ended.cluster ended.end
+    ensures { IfOk result (λ a. EndsBy W.plan W.good (rules_of H.hash_of) (wanted_of wanted)
+        (draft_of topology.now) ended.cluster (refusal_in wanted) ended.end
         a.status a.text.items a.journal) }
 {
     let WorkEnd {
@@ -142,7 +240,9 @@ fn end_by<H: Hash128 + Send + Sync, R: Threads + Sync, W: Work + Send + Sync>(
         end,
     } = ended;
     match end {
-        JobEnd::Whole => end_settled::<H, R, W>(rt, alloc, topology, cluster, replicas, shown),
+        JobEnd::Whole => {
+            end_whole::<H, R, W>(rt, alloc, topology, cluster, replicas, cache, wanted)
+        }
         JobEnd::Stopped(stop) => {
             let text = print_bad_job(alloc, &stop)?;
             Ok(end_undrained(cluster, BAD_JOB, text))
@@ -151,6 +251,16 @@ fn end_by<H: Hash128 + Send + Sync, R: Threads + Sync, W: Work + Send + Sync>(
             let text = print_read_fault(alloc)?;
             Ok(end_undrained(cluster, READ_FAULT, text))
         }
+    }
+}
+
+// A question that the topology has nothing against.
+fn unless_refused(refusal: &Option<IqFault>, question: Option<Ask>) -> Option<Ask>
+    ensures { result ≡ cond (is_some refusal.now) None question }
+{
+    match refusal {
+        Some(_) => None,
+        None => question,
     }
 }
 
@@ -187,8 +297,9 @@ fn settle<H: Hash128 + Send + Sync, R: Threads + Wait + Sync, W: Work + Send + S
     requires job { IsReadable (draft_of topology.now) (item_views intake.records.items)
         intake.rest }
     ensures { IfOk result (λ a. RunsJob (rules_of H.hash_of) (placing_of crew.settings)
-        crew.settings.journal (draft_of topology.now) (item_views intake.records.items)
-        intake.rest.standing (S.left input.old) (S.left input.new) (S.faults input.old)
+        (wanted_in crew.settings.journal crew.question) (draft_of topology.now)
+        (item_views intake.records.items) intake.rest.standing (S.left input.old) (S.left input.new)
+        (S.faults input.old)
         (S.faults input.new) a.status a.text.items a.journal) }
 {
     // Its names and constants can be written, and it is well formed: the law on settled journals asks for both.
@@ -196,9 +307,23 @@ fn settle<H: Hash128 + Send + Sync, R: Threads + Wait + Sync, W: Work + Send + S
     hashes_fit::<H>();
     let _nodes = topology.nodes();
     let empty = begin(alloc, topology, work)?;
-    let shown = crew.settings.journal;
-    let ended = run_workers::<H, R, W, S>(rt, alloc, topology, empty, intake, input, crew)?;
-    end_by::<H, R, W>(rt, alloc, topology, ended, shown)
+    let RunWorkers {
+        settings,
+        gates,
+        question,
+    } = crew;
+    let refusal = bad_ask(topology, &question);
+    let question = unless_refused(&refusal, question);
+    let crew = RunWorkers {
+        settings,
+        gates,
+        question,
+    };
+    let (ended, asked) = run_workers::<H, R, W, S>(
+        rt, alloc, topology, empty, intake, input, crew,
+    )?;
+    let wanted = wanted_by(settings.journal, refusal, asked);
+    end_by::<H, R, W>(rt, alloc, topology, ended, settings.cache, wanted)
 }
 
 /// The run of a job that was opened, by this crew; the text has the journal's lines where the crew's settings say so. Want of
@@ -214,8 +339,9 @@ pub fn settle_job<H: Hash128 + Send + Sync, R: Threads + Wait + Sync, S: Source>
     requires gates { length crew.gates.items ≡ 16 }
     requires job { IsReadable (draft_view job.draft) (item_views job.records.items) job.rest }
     ensures { IfOk result (λ a. RunsJob (rules_of H.hash_of) (placing_of crew.settings)
-        crew.settings.journal (draft_view job.draft) (item_views job.records.items)
-        job.rest.standing (S.left input.old) (S.left input.new) (S.faults input.old)
+        (wanted_in crew.settings.journal crew.question) (draft_view job.draft)
+        (item_views job.records.items) job.rest.standing (S.left input.old) (S.left input.new)
+        (S.faults input.old)
         (S.faults input.new) a.status a.text.items a.journal) }
 {
     let OpenJob {

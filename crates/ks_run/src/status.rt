@@ -21,5 +21,8 @@ pub const READ_FAULT: u8 = 6;
 /// The sink failed.
 pub const WRITE_FAULT: u8 = 7;
 
+/// The job has no such store as was asked for.
+pub const BAD_ASK: u8 = 9;
+
 /// There was no memory.
 pub const NO_MEMORY: u8 = 8;

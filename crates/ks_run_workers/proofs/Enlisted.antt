@@ -29,12 +29,11 @@ use Rattle.ks_def_tasks.specs.Rules.{HaveParts, rules_of}
 use Rattle.ks_growing.specs.Passes.{PassView, IsPass, IsFresh, Each}
 use Rattle.ks_shared.specs.declared.state.Frame.{Frame}
 use Rattle.ks_shared.specs.Calls.{frame_of, setup_in, good_in}
-use Rattle.ks_worker_client.specs.Turns.{GateCounts, HasRoomFor}
+use Rattle.ks_worker_client.specs.Turns.{HasRoomFor}
 use Rattle.ks_words.specs.Ranges.{IsBetween}
 use Rattle.ks_run_workers.proofs.Fresh.{fresh_setup, fresh_seen}
 use Rattle.ks_worker.specs.Beginning.{MayRun, HasRoomForTurns}
 use Rattle.ks_worker_state.specs.declared.state.WorkerState.{WorkerState}
-use Rattle.ks_worker_state.specs.Topology.{RunsTopology}
 use Rattle.ks_worker.proofs.Beginning.{new_may_act}
 use Rattle.ks_run_workers.specs.Members.{ArePasses, IsEnlisted}
 
@@ -64,7 +63,7 @@ at_mapped f [] k d l = absurd (omega arith)
 at_mapped f (x ∷ xs) zero d l = refl
 at_mapped f (x ∷ xs) (suc k) d l = at_mapped f xs k d (omega arith)
 
-empty_history : (setup : Setup) → IsHistory setup []
+pub empty_history : (setup : Setup) → IsHistory setup []
 empty_history setup = record { legal = tt; faithful = tt }
 
 module _ {W : Type 0} (plan : W → TaskPlan) (good : W → PlacementTest) (hash : List ℕ → ℕ) (d : DraftView) (c : ClusterView W) (lock : TableId) (placing : Placing) (turns : ℕ) (empty : c.journal ≡ [])
@@ -105,9 +104,6 @@ both_ok P Q S (Ok a) f p q = f a p q
 both_ok P Q S (Err e) f p q = tt
 
 -- ---- lengths
-pub others_long : {A : Type 0} (all rest : List A) (first : A) (count : ℕ) → all ≡ first ∷ rest → length all ≡ count + 1 → length rest ≡ count
-others_long all rest first count is long = let e : length all ≡ suc (length rest) = ap length is in omega (arith, e, long)
-
 pub members_long : {A B : Type 0} (f : A → B) (members : List A) (others : List B) (count : ℕ) → map f members ≡ others → length others ≡ count → length members ≡ count
 members_long f members others count is long = sym (length-map members f) ∙ ap length is ∙ long
 

@@ -14,14 +14,14 @@ use Rattle.ks_shared.specs.declared.state.Frame.{Frame}
 use Rattle.ks_shared.specs.Calls.{setup_in}
 use Rattle.ks_job.specs.declared.judge.JobItem.{JobItem}
 use Rattle.ks_job.specs.Items.{ItemView, TopologyAt, RecordTo, item_views}
-use Rattle.ks_job.specs.Reader.{Reader, after}
+use Rattle.ks_job.specs.Reader.{Reader}
 use Rattle.ks_law_inputs.specs.Records.{AreRecords}
 use Rattle.ks_job_source.specs.declared.rest.Standing.{Standing}
 use Rattle.ks_job_source.specs.declared.rest.Standing.TheVariants.{Reading, Whole, Stopped, Lost}
 use Rattle.ks_job_source.specs.declared.rest.JobEnd.{JobEnd}
 use Rattle.ks_job_source.specs.declared.rest.JobEnd.TheVariants as end
 use Rattle.ks_job_source.specs.Steps.{GoesFurther, GoesPast}
-use Rattle.ks_job_source.specs.Opening.{from, GoesOn, EndsFrom, StandsPast, IsReading, end_at}
+use Rattle.ks_job_source.specs.Opening.{GoesOn, EndsFrom, StandsPast, IsReading, end_at}
 use Rattle.ks_job_source.proofs.Opened.{starts_on, lost_no_more, some_left}
 use Rattle.ks_run_workers.specs.declared.feeding.JobFeed.{JobFeed}
 use Rattle.ks_run_workers.specs.Placing.{placed, placed_all}

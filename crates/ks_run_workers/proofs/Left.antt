@@ -1,8 +1,7 @@
 -- What the workers of a run leave follows the journal of the cluster that their lock gives back.
-use Rattle.std.proofs.Common.{◌≡◌, ◌<◌, ◌+◌, ℕ, zero, suc, List, [], ◌∷◌, ◌++◌, map, length, refl, sym, ap, subst, ◌∙◌, arith, append_assoc}
-use Rattle.std.specs.Prelude.{Some, slice_index_or}
+use Rattle.std.proofs.Common.{◌≡◌, ◌<◌, ℕ, zero, suc, List, [], ◌∷◌, ◌++◌, map, length, refl, sym, ap, subst, ◌∙◌, arith, append_assoc, append-nil}
+use Rattle.std.specs.Prelude.{Option, Some, None, IfSome, slice_index_or}
 use Rattle.std.specs.List.{All}
-use Rattle.std.proofs.lemmas.List.{map-append}
 use Rattle.std.proofs.lemmas.List.Elements.{All-head, All-tail, All-nil}
 use mathlib.Core.Option.{some}
 use lib.ListN.{get_elem?}
@@ -25,9 +24,9 @@ use Rattle.ks_worker_state.proofs.Fed.{standby_stays}
 use Rattle.ks_worker.specs.Left.{MayLeave, LeavesStandbys}
 use Rattle.ks_run_workers.specs.declared.working.WorkerThread.{WorkerThread}
 use Rattle.ks_run_workers.specs.Left.{AllMayLeave, AllLeave, AreWorkers, AreStandbysOf}
+use Rattle.ks_run_workers.specs.Asked.{option_list}
 use Rattle.ks_run_workers.specs.Members.{HaveKeys, pass_key}
 use Rattle.ks_run_workers.specs.Working.{HaveTurned}
-use Rattle.ks_run_workers.proofs.Enlisted.{at_mapped}
 use Rattle.ks_run_workers.proofs.LockPasses.{keys_length}
 
 -- ---- one worker after another
@@ -58,6 +57,25 @@ pub passes_more : {A B : Type 0} (f : A → B) (before after : List B) (m : A) (
 passes_more f before after m p rest more all pushed is split so_far =
     ap (λ l. l ++ map f more) pushed ∙ (append_assoc before (p ∷ []) (map f more) ∙ (ap (λ x. before ++ x ∷ map f more) is ∙ (ap (λ l. before ++ map f l) (sym split) ∙ so_far)))
 
+-- all of them, and then the last
+pub passes_and_last : {A B : Type 0} (f : A → B) (now : List B) (rest : List A) (first : B) (all : List A) (last : Option B) (new : List B) → length rest ≡ 0 → now ++ map f rest ≡ first ∷ map f all → new ≡ now ++ option_list last →
+    new ≡ first ∷ (map f all ++ option_list last)
+passes_and_last f now [] first all last new none so_far is = is ∙ ap (λ l. l ++ option_list last) (sym (append-nil now) ∙ so_far)
+passes_and_last f now (x ∷ rest) first all last new none so_far is = absurd (omega (arith, none))
+
+at_end : {B : Type 0} (front : List B) (x : B) → get_elem? (front ++ x ∷ []) (length front) ≡ some x
+at_end [] x = refl
+at_end (y ∷ ys) x = at_end ys x
+
+pub last_is : {B : Type 0} (P : B → Type 0) (front : List B) (last : Option B) → Each (λ k p. P p) (front ++ option_list last) → IfSome last P
+last_is P front None h = tt
+last_is P front (Some x) h = h (length front) x (at_end front x)
+
+at_front : {A B : Type 0} (f : A → B) (xs : List A) (more : List B) (k : ℕ) (d : A) → k < length xs → get_elem? (map f xs ++ more) k ≡ some (f (slice_index_or xs k d))
+at_front f [] more k d l = absurd (omega arith)
+at_front f (x ∷ xs) more zero d l = refl
+at_front f (x ∷ xs) more (suc k) d l = at_front f xs more k d (omega arith)
+
 -- ---- the lock is closed
 module _ {W : Type 0} (plan : W → TaskPlan) (closed : ClusterView W) (history : IsHistory (setup_of plan closed) closed.journal) (net : IsNetwork (setup_of plan closed).plan) where
   follows_on : (pass : PassView Entry (Frame W)) (r : Replica) → pass.frame ≡ Some (frame_of closed) → IsPrefix pass.seen closed.journal → IsStandby (setup_in plan pass.frame) pass.seen r → IsStandby (setup_of plan closed) closed.journal r
@@ -66,21 +84,21 @@ module _ {W : Type 0} (plan : W → TaskPlan) (closed : ClusterView W) (history 
       subst (λ j. IsStandby (setup_of plan closed) j r) (sym prefix.1)
       (standby_stays (setup_of plan closed) pass.seen prefix.0 r net (subst (IsHistory (setup_of plan closed)) prefix.1 history) here)
 
-network_of : (hash : List ℕ → ℕ) (d : DraftView) (setup : Setup) → RunsTopology hash d setup → IsNetwork setup.plan
+pub network_of : (hash : List ℕ → ℕ) (d : DraftView) (setup : Setup) → RunsTopology hash d setup → IsNetwork setup.plan
 network_of hash d setup runs = subst (λ (s : Setup). IsNetwork s.plan) (sym runs.setup_is) (works_are_networks (rules_of hash) (plan_of d))
 
-pub all_standbys : {W G : Type 0} (plan : W → TaskPlan) (first closed : ClusterView W) (members : List (WorkerThread W G)) (one : PassView Entry (Frame W)) (passes : List (PassView Entry (Frame W))) (old new : List Replica) →
-    AreWorkers plan (setup_of plan first) members → frame_of closed ≡ frame_of first → passes ≡ one ∷ map (λ m. m.worker.state.session.client.pass) members →
+pub all_standbys : {W G : Type 0} (plan : W → TaskPlan) (first closed : ClusterView W) (members : List (WorkerThread W G)) (one : PassView Entry (Frame W)) (more passes : List (PassView Entry (Frame W))) (old new : List Replica) →
+    AreWorkers plan (setup_of plan first) members → frame_of closed ≡ frame_of first → passes ≡ one ∷ (map (λ m. m.worker.state.session.client.pass) members ++ more) →
     Each (λ k p. p.frame ≡ Some (frame_of closed)) passes → Each (λ k p. IsPrefix p.seen closed.journal) passes →
     IsHistory (setup_of plan closed) closed.journal → old ≡ [] → AllLeave plan members old new → AreStandbysOf plan closed new
-all_standbys {W} {G} plan first closed members one passes old new w same is frames prefixes history none leave =
+all_standbys {W} {G} plan first closed members one more passes old new w same is frames prefixes history none leave =
     leave w.hash w.topology (setup_of plan closed) closed.journal may_leave (subst (All (IsStandby (setup_of plan closed) closed.journal)) (sym none) (All-nil (IsStandby (setup_of plan closed) closed.journal)))
   where
     runs : RunsTopology w.hash w.topology (setup_of plan closed)
     runs = subst (λ (f : Frame W). RunsTopology w.hash w.topology (setup_in plan (Some f))) (sym same) w.runs
 
     at_member : (k : ℕ) (m : WorkerThread W G) → k < length members → get_elem? passes (suc k) ≡ some (slice_index_or members k m).worker.state.session.client.pass
-    at_member k m lt = ap (λ l. get_elem? l (suc k)) is ∙ at_mapped (λ (x : WorkerThread W G). x.worker.state.session.client.pass) members k m lt
+    at_member k m lt = ap (λ l. get_elem? l (suc k)) is ∙ at_front (λ (x : WorkerThread W G). x.worker.state.session.client.pass) members more k m lt
 
     may_leave : AllMayLeave plan w.hash w.topology (setup_of plan closed) closed.journal members
     may_leave k m lt =

@@ -5,3 +5,6 @@ pub mod Produced
 pub mod Feeds
 pub mod LockPasses
 pub mod Left
+pub mod AskedBeside
+pub mod AskedOften
+pub mod TakenLast

@@ -1,8 +1,8 @@
 -- The passes that workers give back are those that they had.
-use Rattle.std.proofs.Common.{◌≡◌, ℕ, zero, suc, ◌+◌, ◌<◌, false, Bool, List, [], ◌∷◌, ◌++◌, take, drop, filter, map, length, append-nil, refl, sym, ap, ap₂, subst, ◌∙◌, arith}
+use Rattle.std.proofs.Common.{◌≡◌, ℕ, zero, suc, ◌+◌, ◌<◌, false, Bool, List, [], ◌∷◌, ◌++◌, take, drop, filter, map, length, append-nil, length-append, refl, sym, ap, ap₂, subst, ◌∙◌, arith}
 use Rattle.std.specs.Prelude.{Option, Some, slice_get, slice_index_or, option_map}
 use Rattle.std.proofs.lemmas.Option.{slice_get-map}
-use Rattle.std.proofs.lemmas.List.{take_all, drop_all}
+use Rattle.std.proofs.lemmas.List.{take_all, drop_all, map-append}
 use mathlib.Core.Option.{some, some-injective, some-ne-none}
 use lib.ListN.{get_elem?}
 use Rattle.atomic_table.specs.Seated.{TableId}
@@ -23,6 +23,7 @@ use Rattle.ks_run_workers.specs.Placing.{placed_all}
 use Rattle.ks_law_settled.specs.Jobs.{produces}
 use Rattle.ks_job.specs.Items.{item_views}
 use Rattle.ks_job_source.specs.Opening.{EndsFrom}
+use Rattle.ks_run_workers.specs.Asked.{option_list}
 use Rattle.ks_run_workers.specs.Members.{pass_key, HaveKeys, ArePasses}
 use Rattle.ks_run_workers.specs.Ready.{HasClosed, HasWorked}
 
@@ -87,21 +88,28 @@ slice_back P pass items old new len at_first sized keys told =
     let long : length new ≡ length items = keys_length (λ w. pass_key (pass w)) new old keys ∙ ap length at_first in
     subst (P items) (sym (written_back len new items long sized)) (subst (λ l. P l new) at_first told)
 
--- all passes of a lock, after the workers ran
-pub closing : {A W : Type 0} (lock : TableId) (count : ℕ) (pass : A → PassView Entry (Frame W)) (first : PassView Entry (Frame W)) (items new : List A) (all : List (PassView Entry (Frame W))) →
-    all ≡ first ∷ map pass new → HaveKeys pass items new → IsPass lock 0 first → ArePasses lock (map pass items) → length items + 1 ≡ count → (length all ≡ count) × (0 < length all) × Each (IsPass lock) all
-closing {W = W} lock count pass first items new all is keys one more counted =
-    let passes : map pass_key (map pass new) ≡ map pass_key (map pass items) = map_twice pass pass_key new ∙ keys ∙ sym (map_twice pass pass_key items) in
-    let long : length new ≡ length items = keys_length (λ w. pass_key (pass w)) new items keys in
+-- all passes of a lock
+pub closing : {W : Type 0} (lock : TableId) (count : ℕ) (first : PassView Entry (Frame W)) (rest all : List (PassView Entry (Frame W))) →
+    all ≡ first ∷ rest → IsPass lock 0 first → ArePasses lock rest → length rest + 1 ≡ count → (length all ≡ count) × (0 < length all) × Each (IsPass lock) all
+closing {W = W} lock count first rest all is one more counted =
     subst (λ (l : List (PassView Entry (Frame W))). (length l ≡ count) × (0 < length l) × Each (IsPass lock) l) (sym is)
-    (omega (arith, long, counted, map_long pass new), omega arith, all_passes lock first (map pass new) one (still_passes lock (map pass new) (map pass items) passes more))
+    (omega (arith, counted), omega arith, all_passes lock first rest one more)
 
--- the workers' passes, after they ran
-pub passes_after : {A W : Type 0} (lock : TableId) (pass : A → PassView Entry (Frame W)) (items new : List A) → HaveKeys pass items new → ArePasses lock (map pass items) → ArePasses lock (map pass new)
-passes_after lock pass items new keys more = still_passes lock (map pass new) (map pass items) (map_twice pass pass_key new ∙ keys ∙ sym (map_twice pass pass_key items)) more
+-- how many there are with the last
+pub with_last_long : {A B C : Type 0} (f : A → B) (members : List A) (last : Option C) (given : Option B) (count : ℕ) → length (option_list given) ≡ length (option_list last) → length members + length (option_list last) + 1 ≡ count →
+    length (map f members ++ option_list given) + 1 ≡ count
+with_last_long f members last given count same counted =
+    ap (λ n. n + 1) (length-append (map f members) (option_list given) ∙ ap₂ (λ a b. a + b) (map_long f members) same) ∙ counted
 
-pub members_after : {A W : Type 0} (pass : A → PassView Entry (Frame W)) (items new : List A) (count : ℕ) → HaveKeys pass items new → length items + 1 ≡ count → length new + 1 ≡ count
-members_after pass items new count keys counted = ap (λ n. n + 1) (keys_length (λ w. pass_key (pass w)) new items keys) ∙ counted
+-- the passes of the workers and of who asks, after they ran
+pub passes_after : {A W : Type 0} (lock : TableId) (pass : A → PassView Entry (Frame W)) (items new : List A) (last then : List (PassView Entry (Frame W))) → HaveKeys pass items new → map pass_key then ≡ map pass_key last →
+    ArePasses lock (map pass items ++ last) → ArePasses lock (map pass new ++ then)
+passes_after lock pass items new last then keys same more =
+    still_passes lock (map pass new ++ then) (map pass items ++ last)
+    (map-append pass_key (map pass new) then ∙ (ap₂ (λ a b. a ++ b) (map_twice pass pass_key new ∙ keys ∙ sym (map_twice pass pass_key items)) same ∙ sym (map-append pass_key (map pass items) last))) more
+
+pub members_after : {A W : Type 0} (pass : A → PassView Entry (Frame W)) (items new : List A) (more count : ℕ) → HaveKeys pass items new → length items + more + 1 ≡ count → length new + more + 1 ≡ count
+members_after pass items new more count keys counted = ap (λ n. n + more + 1) (keys_length (λ w. pass_key (pass w)) new items keys) ∙ counted
 
 -- what the closed cluster has, by what its first pass has seen
 pub closed : {W : Type 0} (d : DraftView) (first new : ClusterView W) (old fed : JobFeed W) (left now : Option (List ℕ)) (e : JobEnd) → HasFed d old fed left now e → frame_of new ≡ frame_of first →

@@ -5,3 +5,6 @@ pub mod Placing
 pub mod Producing
 pub mod Feeding
 pub mod Left
+pub mod Asking
+pub mod Asked
+pub mod Lending

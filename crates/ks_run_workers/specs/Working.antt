@@ -1,5 +1,5 @@
 -- A team before it works, and after it.
-use Rattle.std.specs.Prelude.{◌≡◌, ◌<◌, ℕ, Bool, false, List, length, slice_index_or}
+use Rattle.std.specs.Prelude.{◌≡◌, ◌<◌, ℕ, Bool, false, IfSome, List, length, slice_index_or}
 use Rattle.std.specs.List.{All, list_any}
 use Rattle.atomic_table.specs.Seated.{TableId}
 use Rattle.ks_plan.specs.Drafts.{DraftView}
@@ -11,14 +11,16 @@ use Rattle.ks_worker.specs.Beginning.{MayRun}
 use Rattle.ks_worker.specs.Running.{HasCounted, HasEndedBy, ShowsCalls}
 use Rattle.ks_run_workers.specs.declared.feeding.JobFeed.{JobFeed}
 use Rattle.ks_run_workers.specs.Feeding.{MayFeed}
+use Rattle.ks_run_workers.specs.Asking.{MayAsk}
 use Rattle.ks_run_workers.specs.declared.working.WorkerThread.{WorkerThread}
-use Rattle.ks_run_workers.specs.declared.working.WorkerThreads.{WorkerThreads}
+use Rattle.ks_run_workers.specs.declared.working.Team.{Team}
 
--- there are workers, each may take its turns on the cluster of this lock, and the feeder may feed it
-pub record MayWork {W G : Type 0} (plan : W → TaskPlan) (good : W → PlacementTest) (hash : List ℕ → ℕ) (lock : TableId) (d : DraftView) (team : WorkerThreads W G) (feeder : JobFeed W) : Type 0 where
-  pub some : 0 < length team.members.items
-  pub may : All (λ m. MayRun plan good hash lock d m.worker.placing team.turns m.worker.state) team.members.items
+-- there are workers, each may take its turns on the cluster of this lock, the feeder may feed it, and who asks may ask it
+pub record MayWork {W G : Type 0} (plan : W → TaskPlan) (good : W → PlacementTest) (hash : List ℕ → ℕ) (lock : TableId) (d : DraftView) (team : Team W G) (feeder : JobFeed W) : Type 0 where
+  pub some : 0 < length team.crew.threads.members.items
+  pub may : All (λ m. MayRun plan good hash lock d m.worker.placing team.crew.threads.turns m.worker.state) team.crew.threads.members.items
   pub feed : MayFeed plan lock d feeder
+  pub ask : IfSome team.crew.asker (MayAsk plan lock d)
 
 -- a worker took its turns: it is one still, its gate stopped it or it took all of them, and its acts
 -- on the group show

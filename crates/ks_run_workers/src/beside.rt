@@ -1,13 +1,16 @@
 //! A feed beside the workers.
-ghost use Rattle.std.specs.Prelude.{◌≡◌, ◌<◌, length, IfOk, OnOk};
+ghost use Rattle.std.specs.Prelude.{◌≡◌, ◌<◌, length, false, IfOk, IfSome, OnOk};
+ghost use Rattle.std.specs.Option.{option_map_or};
 ghost use Rattle.std.specs.List.{All};
 ghost use Rattle.ks_topo.specs.Topologies.{draft_of};
 ghost use Rattle.ks_worker.specs.Beginning.{MayRun};
+ghost use Rattle.ks_run_workers.specs.Asking.{MayAsk, HasAskedUnlessStarved};
 ghost use Rattle.ks_run_workers.specs.Feeding.{MayFeed, FaultsBy, HasFed};
 ghost use Rattle.ks_run_workers.specs.Members.{HaveKeys};
 ghost use Rattle.ks_run_workers.specs.Working.{MayWork, AllTurnedUnlessStarved, HaveTurned, is_one_starved};
 
-use crate::working::{WorkerThread, WorkerThreads, work_together};
+use crate::asking::Asker;
+use crate::working::{Team, WorkerThread, work_and_ask};
 use crate::{JobFeed, feed};
 use ks_cluster::Work;
 use ks_edge::{Gate, Source};
@@ -55,24 +58,24 @@ fn feed_first<
     shared: &Shared<W>,
     input: &mut S,
     feeder: &mut JobFeed<W>,
-    team: &mut WorkerThreads<W, G>,
+    team: &mut Team<W, G>,
 ) -> Result<JobEnd, AllocError>
     requires { MayWork W.plan W.good H.hash_of shared.now.growing.id (draft_of topology.now)
         team.old feeder.old }
     ensures keys { HaveKeys (λ m. m.worker.state.session.client.pass)
-        team.old.members.items team.new.members.items }
+        team.old.crew.threads.members.items team.new.crew.threads.members.items }
     ensures turned { OnOk result (AllTurnedUnlessStarved W.plan (draft_of topology.now)
-        team.old.turns
-        team.old.members.items team.new.members.items) }
+        team.old.crew.threads.turns
+        team.old.crew.threads.members.items team.new.crew.threads.members.items) }
+    ensures asked { OnOk result (HasAskedUnlessStarved W.plan (draft_of topology.now)
+        team.old.crew.asker team.new.crew.asker) }
     ensures fed { IfOk result (λ e. HasFed (draft_of topology.now) feeder.old feeder.new
         (S.left input.old) (S.left input.new) e) }
     ensures faults { IfOk result (λ e. FaultsBy e (S.faults input.old) (S.faults input.new)) }
 {
     let feeding = AtomicBool::new(false);
     let end = feed_while(rt, alloc, topology, shared, input, feeder, &feeding)?;
-    let turns = team.turns;
-    let members = team.members.as_mut_slice();
-    work_together::<H, R, W, G>(rt, alloc, topology, shared, members, turns, &feeding);
+    work_and_ask::<H, R, W, G>(rt, alloc, topology, shared, &mut team.crew, &feeding);
     Ok(end)
 }
 
@@ -90,15 +93,17 @@ fn feed_beside<
     shared: &Shared<W>,
     input: &mut S,
     feeder: &mut JobFeed<W>,
-    team: &mut WorkerThreads<W, G>,
+    team: &mut Team<W, G>,
 ) -> Result<JobEnd, AllocError>
     requires { MayWork W.plan W.good H.hash_of shared.now.growing.id (draft_of topology.now)
         team.old feeder.old }
     ensures keys { HaveKeys (λ m. m.worker.state.session.client.pass)
-        team.old.members.items team.new.members.items }
+        team.old.crew.threads.members.items team.new.crew.threads.members.items }
     ensures turned { OnOk result (AllTurnedUnlessStarved W.plan (draft_of topology.now)
-        team.old.turns
-        team.old.members.items team.new.members.items) }
+        team.old.crew.threads.turns
+        team.old.crew.threads.members.items team.new.crew.threads.members.items) }
+    ensures asked { OnOk result (HasAskedUnlessStarved W.plan (draft_of topology.now)
+        team.old.crew.asker team.new.crew.asker) }
     ensures fed { IfOk result (λ e. HasFed (draft_of topology.now) feeder.old feeder.new
         (S.left input.old) (S.left input.new) e) }
     ensures faults { IfOk result (λ e. FaultsBy e (S.faults input.old) (S.faults input.new)) }
@@ -106,20 +111,25 @@ fn feed_beside<
     share_topology();
     let feeding = AtomicBool::new(true);
     let flag = &feeding;
-    let turns = team.turns;
-    let slice = team.members.as_mut_slice();
+    let crew = team.crew_mut();
     let (_, end) = thread::join_mut(
         rt,
         &mut ||
-            requires { (0 < length slice.now)
+            requires { (0 < length crew.now.threads.members.items)
                 × All (λ m. MayRun W.plan W.good H.hash_of shared.now.growing.id
                 (draft_of topology.now)
-                m.worker.placing turns m.worker.state) slice.now }
-            ensures { HaveKeys (λ m. m.worker.state.session.client.pass) slice.entry.now
-                slice.exit.now
-                × AllTurnedUnlessStarved W.plan (draft_of topology.entry.now) turns slice.entry.now
-                slice.exit.now }
-        { work_together::<H, R, W, G>(rt, alloc, topology, shared, slice, turns, flag) },
+                m.worker.placing crew.now.threads.turns m.worker.state)
+                crew.now.threads.members.items
+                × IfSome crew.now.asker (MayAsk W.plan shared.now.growing.id
+                (draft_of topology.now)) }
+            ensures { HaveKeys (λ m. m.worker.state.session.client.pass)
+                crew.entry.now.threads.members.items crew.exit.now.threads.members.items
+                × AllTurnedUnlessStarved W.plan (draft_of topology.entry.now)
+                crew.entry.now.threads.turns
+                crew.entry.now.threads.members.items crew.exit.now.threads.members.items
+                × HasAskedUnlessStarved W.plan (draft_of topology.entry.now) crew.entry.now.asker
+                crew.exit.now.asker }
+        { work_and_ask::<H, R, W, G>(rt, alloc, topology, shared, crew, flag) },
         &mut || -> Result<JobEnd, AllocError>
             requires { MayFeed W.plan shared.now.growing.id (draft_of topology.now) feeder.now }
             ensures { IfOk result (λ e. HasFed (draft_of topology.entry.now) feeder.entry.now
@@ -145,15 +155,17 @@ fn feed_team<
     shared: &Shared<W>,
     input: &mut S,
     feeder: &mut JobFeed<W>,
-    team: &mut WorkerThreads<W, G>,
+    team: &mut Team<W, G>,
 ) -> Result<JobEnd, AllocError>
     requires { MayWork W.plan W.good H.hash_of shared.now.growing.id (draft_of topology.now)
         team.old feeder.old }
     ensures keys { HaveKeys (λ m. m.worker.state.session.client.pass)
-        team.old.members.items team.new.members.items }
+        team.old.crew.threads.members.items team.new.crew.threads.members.items }
     ensures turned { OnOk result (AllTurnedUnlessStarved W.plan (draft_of topology.now)
-        team.old.turns
-        team.old.members.items team.new.members.items) }
+        team.old.crew.threads.turns
+        team.old.crew.threads.members.items team.new.crew.threads.members.items) }
+    ensures asked { OnOk result (HasAskedUnlessStarved W.plan (draft_of topology.now)
+        team.old.crew.asker team.new.crew.asker) }
     ensures fed { IfOk result (λ e. HasFed (draft_of topology.now) feeder.old feeder.new
         (S.left input.old) (S.left input.new) e) }
     ensures faults { IfOk result (λ e. FaultsBy e (S.faults input.old) (S.faults input.new)) }
@@ -162,6 +174,16 @@ fn feed_team<
         feed_first::<H, R, W, G, S>(rt, alloc, topology, shared, input, feeder, team)
     } else {
         feed_beside::<H, R, W, G, S>(rt, alloc, topology, shared, input, feeder, team)
+    }
+}
+
+// Whether who asks is marked as starved.
+fn is_asker_starved<W: Work>(asker: &Option<Asker<W>>) -> bool
+    ensures { result ≡ option_map_or (λ a. a.is_starved) asker.now false }
+{
+    match asker {
+        Some(asker) => asker.is_starved,
+        None => false,
     }
 }
 
@@ -192,20 +214,28 @@ pub fn feed_and_work<
     shared: &Shared<W>,
     input: &mut S,
     feeder: &mut JobFeed<W>,
-    team: &mut WorkerThreads<W, G>,
+    team: &mut Team<W, G>,
 ) -> Result<JobEnd, AllocError>
     requires { MayWork W.plan W.good H.hash_of shared.now.growing.id (draft_of topology.now)
         team.old feeder.old }
     ensures keys { HaveKeys (λ m. m.worker.state.session.client.pass)
-        team.old.members.items team.new.members.items }
-    ensures turned { OnOk result (HaveTurned W.plan (draft_of topology.now) team.old.turns
-        team.old.members.items team.new.members.items) }
+        team.old.crew.threads.members.items team.new.crew.threads.members.items }
+    ensures turned { OnOk result (HaveTurned W.plan (draft_of topology.now)
+        team.old.crew.threads.turns
+        team.old.crew.threads.members.items team.new.crew.threads.members.items) }
+    ensures asked { OnOk result (HasAskedUnlessStarved W.plan (draft_of topology.now)
+        team.old.crew.asker team.new.crew.asker) }
+    ensures awake { OnOk result (option_map_or (λ a. a.is_starved) team.new.crew.asker false
+        ≡ false) }
     ensures fed { IfOk result (λ e. HasFed (draft_of topology.now) feeder.old feeder.new
         (S.left input.old) (S.left input.new) e) }
     ensures faults { IfOk result (λ e. FaultsBy e (S.faults input.old) (S.faults input.new)) }
 {
     let end = feed_team::<H, R, W, G, S>(rt, alloc, topology, shared, input, feeder, team)?;
-    if is_one_starved(team.members.as_slice()) {
+    if is_one_starved(team.crew.threads.members.as_slice()) {
+        return Err(AllocError);
+    }
+    if is_asker_starved(&team.crew.asker) {
         return Err(AllocError);
     }
     Ok(end)

@@ -1,5 +1,6 @@
 //! A crew that works, and then closes the lock.
-ghost use Rattle.std.specs.Prelude.{◌≡◌, ◌+◌, ◌∷◌, filter, length, map, IfOk, OnOk};
+ghost use Rattle.std.specs.Prelude.{◌≡◌, ◌+◌, ◌∷◌, ◌++◌, [], filter, length, map, option_map, IfOk, IfSome, OnOk, Some};
+ghost use Rattle.ks_history.specs.History.{IsHistory, IsPrefix};
 ghost use Rattle.ks_cluster.specs.View.{setup_of};
 ghost use Rattle.ks_topo.specs.Topologies.{draft_of};
 ghost use Rattle.ks_worker_state.specs.Topology.{RunsTopology};
@@ -7,14 +8,16 @@ ghost use Rattle.ks_run_workers.specs.Left.{AllLeave, AreWorkers, AreStandbysOf}
 ghost use Rattle.ks_growing.specs.Passes.{IsPass};
 ghost use Rattle.ks_shared.specs.Calls.{frame_of};
 ghost use Rattle.ks_shared.specs.Reserved.{is_callers};
+ghost use Rattle.ks_run_workers.specs.Asked.{option_list, asked_by, AreAnswered};
 ghost use Rattle.ks_run_workers.specs.Feeding.{FaultsBy};
 ghost use Rattle.ks_run_workers.specs.Members.{ArePasses};
 ghost use Rattle.ks_run_workers.specs.Ready.{HasClosed};
 ghost use Rattle.ks_run_workers.specs.Working.{MayWork};
 
-use crate::JobFeed;
+use crate::asking::Asker;
 use crate::beside::feed_and_work;
-use crate::working::{WorkerThread, WorkerThreads};
+use crate::working::{Crew, Team, WorkerThread};
+use crate::{Asked, JobFeed};
 use ks_cluster::{Cluster, Work};
 use ks_edge::{Gate, Source};
 use ks_growing::Pass;
@@ -36,15 +39,30 @@ pub struct WorkEnd<W: Work> {
     pub end: JobEnd,
 }
 
-// All passes of a lock: the first, and those of the workers, which are let go; at the end of others the replicas that these leave.
+// A pass at the end of others, where there is one.
+fn push_last<W: Work>(
+    passes: &mut Vec<Pass<SharedState<W>>>,
+    last: Option<Pass<SharedState<W>>>,
+) -> Result<(), AllocError>
+    ensures { OnOk result (passes.new.items ≡ passes.old.items ++ option_list last) }
+{
+    if let Some(last) = last {
+        passes.push(last)?;
+    }
+    Ok(())
+}
+
+// All passes of a lock: the first, those of the workers, which are let go, and that of who asks; at the end of others the replicas that the
+// workers leave.
 fn passes_of<W: Work, G: Gate>(
     alloc: Global,
     first: Pass<SharedState<W>>,
     members: Vec<WorkerThread<W, G>>,
+    last: Option<Pass<SharedState<W>>>,
     replicas: &mut Vec<Replica>,
 ) -> Result<Vec<Pass<SharedState<W>>>, AllocError>
     ensures passes { IfOk result (λ v. v.items ≡ first
-        ∷ map (λ m. m.worker.state.session.client.pass) members.items) }
+        ∷ (map (λ m. m.worker.state.session.client.pass) members.items ++ option_list last)) }
     ensures replicas { OnOk result (AllLeave W.plan members.items replicas.old.items
         replicas.new.items) }
 {
@@ -55,7 +73,25 @@ fn passes_of<W: Work, G: Gate>(
         let pass = member.worker.into_pass(replicas)?;
         passes.push(pass)?;
     }
+    push_last(&mut passes, last)?;
     Ok(passes)
+}
+
+// The pass of who asks, and what was answered.
+fn part_asker<W: Work>(asker: Option<Asker<W>>) -> (Option<Pass<SharedState<W>>>, Option<Asked>)
+    ensures pass { result.0 ≡ option_map (λ a. a.reader.pass) asker }
+    ensures asked { result.1 ≡ option_map asked_by asker }
+{
+    let Some(asker) = asker else {
+        return (None, None);
+    };
+    let Asker {
+        reader,
+        ask,
+        answers,
+        ..
+    } = asker;
+    (Some(reader.into_pass()), Some(Asked { ask, answers }))
 }
 
 // Closes a lock with all its passes.
@@ -64,19 +100,23 @@ fn close_with<W: Work, G: Gate>(
     shared: Shared<W>,
     first: Pass<SharedState<W>>,
     members: Vec<WorkerThread<W, G>>,
+    last: Option<Pass<SharedState<W>>>,
 ) -> Result<(Cluster<W>, Vec<Replica>), AllocError>
     requires first { IsPass shared.growing.id 0 first }
     requires passes { ArePasses shared.growing.id
-        (map (λ m. m.worker.state.session.client.pass) members.items) }
-    requires all { length members.items + 1 ≡ shared.growing.passes }
+        (map (λ m. m.worker.state.session.client.pass) members.items ++ option_list last) }
+    requires all { length members.items + length (option_list last) + 1 ≡ shared.growing.passes }
     requires workers { AreWorkers W.plan (setup_of W.plan shared.growing.first) members.items }
+    ensures history { IfOk result (λ r. IsHistory (setup_of W.plan r.0) r.0.journal) }
+    ensures last { IfOk result (λ r. IfSome last (λ p. IsPrefix p.seen r.0.journal
+        × (p.frame ≡ Some (frame_of r.0)))) }
     ensures frame { IfOk result (λ r. frame_of r.0 ≡ frame_of shared.growing.first) }
     ensures reserved { IfOk result (λ r. filter is_callers r.0.journal
         ≡ filter is_callers first.seen) }
     ensures replicas { IfOk result (λ r. AreStandbysOf W.plan r.0 r.1.items) }
 {
     let mut replicas = Vec::new(alloc);
-    let passes = passes_of(alloc, first, members, &mut replicas)?;
+    let passes = passes_of(alloc, first, members, last, &mut replicas)?;
     let cluster = shared.close(passes);
     // The journal is a history: the replicas follow it.
     let _journal = cluster.journal();
@@ -99,19 +139,25 @@ pub fn work_and_close<
     shared: Shared<W>,
     input: &mut S,
     mut feeder: JobFeed<W>,
-    mut team: WorkerThreads<W, G>,
-) -> Result<WorkEnd<W>, AllocError>
+    mut team: Team<W, G>,
+) -> Result<(WorkEnd<W>, Option<Asked>), AllocError>
     requires may { MayWork W.plan W.good H.hash_of shared.growing.id (draft_of topology.now) team
         feeder }
     requires passes { ArePasses shared.growing.id
-        (map (λ m. m.worker.state.session.client.pass) team.members.items) }
-    requires all { length team.members.items + 1 ≡ shared.growing.passes }
+        (map (λ m. m.worker.state.session.client.pass) team.crew.threads.members.items
+        ++ option_list (option_map (λ a. a.reader.pass) team.crew.asker)) }
+    requires all { length team.crew.threads.members.items + length (option_list team.crew.asker) + 1
+        ≡ shared.growing.passes }
     requires topology { RunsTopology H.hash_of (draft_of topology.now)
         (setup_of W.plan shared.growing.first) }
-    ensures fed { IfOk result (λ r. HasClosed (draft_of topology.now) shared.growing.first r.cluster
-        feeder (S.left input.old) (S.left input.new) r.end) }
-    ensures replicas { IfOk result (λ r. AreStandbysOf W.plan r.cluster r.replicas.items) }
-    ensures faults { IfOk result (λ r. FaultsBy r.end (S.faults input.old) (S.faults input.new)) }
+    requires none { IfSome team.crew.asker (λ a. a.answers.items ≡ []) }
+    ensures asked { IfOk result (λ r. AreAnswered W.plan (draft_of topology.now) r.0.cluster
+        (option_map (λ a. a.ask) team.crew.asker) r.1) }
+    ensures fed { IfOk result (λ r. HasClosed (draft_of topology.now) shared.growing.first
+        r.0.cluster feeder (S.left input.old) (S.left input.new) r.0.end) }
+    ensures replicas { IfOk result (λ r. AreStandbysOf W.plan r.0.cluster r.0.replicas.items) }
+    ensures faults { IfOk result (λ r. FaultsBy r.0.end (S.faults input.old)
+        (S.faults input.new)) }
 {
     let end = feed_and_work::<H, R, W, G, S>(
         rt,
@@ -122,11 +168,14 @@ pub fn work_and_close<
         &mut feeder,
         &mut team,
     )?;
-    let WorkerThreads { members, .. } = team;
-    let (cluster, replicas) = close_with(alloc, shared, feeder.into_pass(), members)?;
-    Ok(WorkEnd {
+    let Team { crew, .. } = team;
+    let Crew { threads, asker } = crew;
+    let (last, asked) = part_asker(asker);
+    let (cluster, replicas) = close_with(alloc, shared, feeder.into_pass(), threads.members, last)?;
+    let end = WorkEnd {
         cluster,
         replicas,
         end,
-    })
+    };
+    Ok((end, asked))
 }

@@ -14,9 +14,6 @@ use ks_words::Settings;
 use ks_worker::Worker;
 use std::alloc::{AllocError, Global};
 
-// The stores of a run's tasks hold no write back.
-const NO_CACHE: u32 = 0;
-
 // The instance of a worker, of instances that have so many threads each.
 fn instance_of(number: u8, threads: u8) -> u8
     requires some { 1 ≤ threads }
@@ -40,11 +37,13 @@ fn enlist_one<W: Work, G: Gate>(
     ensures pass { result.worker.state.session.client.pass ≡ pass }
     ensures enlisted { IsEnlisted result.worker.state }
     ensures placing { result.worker.placing ≡ placing_of settings.now }
+    ensures cache { result.worker.state.member.cache ≡ settings.now.cache }
 {
     gate.reset(number, settings.chaos, settings.interval);
     let instance = instance_of(number, settings.threads);
     let placing = placing_of(settings);
-    let worker = Worker::new(alloc, number, instance, placing, gate, pass, NO_CACHE);
+    let cache = settings.cache;
+    let worker = Worker::new(alloc, number, instance, placing, gate, pass, cache);
     WorkerThread {
         worker,
         is_starved: false,
@@ -67,6 +66,8 @@ pub fn enlist<W: Work, G: Gate>(
         ≡ passes.items) }
     ensures enlisted { IfOk result (λ v. All (λ m. IsEnlisted m.worker.state) v.items) }
     ensures placing { IfOk result (λ v. All (λ m. m.worker.placing ≡ placing_of settings.now)
+        v.items) }
+    ensures cache { IfOk result (λ v. All (λ m. m.worker.state.member.cache ≡ settings.now.cache)
         v.items) }
 {
     let mut members = Vec::new(alloc);

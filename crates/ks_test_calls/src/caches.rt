@@ -1,9 +1,33 @@
-//! A store with a cache.
+//! A store with a cache, call by call.
 ghost use Rattle.std.specs.Prelude.{◌≤◌};
 
-use ks_cache::CachedStore;
-use ks_store::OrderedStore;
+use crate::replies::{pairs, told};
+use ks_cache::{CachedStore, run_cached};
+use ks_row::Blob;
+use ks_store::{KvStore, OrderedStore, StoreCall};
 use std::alloc::{AllocError, Global};
+use std::test::Fail;
+
+/// A call of a store with a cache.
+#[derive(Clone, Copy)]
+enum Step {
+    Put(&'static [u8], &'static [u8]),
+    Delete(&'static [u8]),
+    Get(&'static [u8]),
+    Flush,
+}
+
+/// Calls of a store that holds two pairs back, each with its reply, how many pairs are held back of how many that there are, and what stands in
+/// the store below: of three keys the one that was written longest ago, where a deletion finds it; a flush writes the others.
+const STEPS: &[(Step, &str)] = &[
+    (Step::Put(b"a", b"1"), "done 1 of 1, below "),
+    (Step::Put(b"b", b"1"), "done 2 of 2, below "),
+    (Step::Put(b"a", b"2"), "done 2 of 2, below "),
+    (Step::Put(b"c", b"1"), "done 2 of 3, below b=1 "),
+    (Step::Get(b"a"), "2 2 of 3, below b=1 "),
+    (Step::Delete(b"b"), "done 2 of 2, below "),
+    (Step::Flush, "0 of 2, below a=2 c=1 "),
+];
 
 /// An empty store that holds back so many pairs.
 pub fn new_cached(alloc: Global, capacity: u32) -> Result<CachedStore<OrderedStore>, AllocError>
@@ -13,4 +37,62 @@ pub fn new_cached(alloc: Global, capacity: u32) -> Result<CachedStore<OrderedSto
         Ok(store) => Ok(store),
         Err(_) => Err(AllocError),
     }
+}
+
+// The call of a step; a flush is none.
+fn call_of(alloc: Global, step: &Step) -> Result<Option<StoreCall>, AllocError> {
+    match *step {
+        Step::Put(key, value) => {
+            let key = Blob::from_slice(alloc, key)?;
+            let value = Blob::from_slice(alloc, value)?;
+            Ok(Some(StoreCall::Put(key, value)))
+        }
+        Step::Delete(key) => Ok(Some(StoreCall::Delete(Blob::from_slice(alloc, key)?))),
+        Step::Get(key) => Ok(Some(StoreCall::Get(Blob::from_slice(alloc, key)?))),
+        Step::Flush => Ok(None),
+    }
+}
+
+// Takes a step, and tells the reply.
+fn take_step(
+    alloc: Global,
+    store: &mut CachedStore<OrderedStore>,
+    step: &Step,
+) -> Result<Vec<u8>, AllocError> {
+    match call_of(alloc, step)? {
+        Some(call) => {
+            let replies = run_cached(alloc, store, &[call])?;
+            told(alloc, replies)
+        }
+        None => {
+            store.flush()?;
+            Ok(Vec::new(alloc))
+        }
+    }
+}
+
+// What is held back of what there is, and what stands below.
+fn push_held(
+    alloc: Global,
+    text: &mut Vec<u8>,
+    store: &CachedStore<OrderedStore>,
+) -> Result<(), AllocError> {
+    text.extend_from_slice(store.cached().to_string(alloc)?.as_bytes())?;
+    text.extend_from_slice(b" of ")?;
+    text.extend_from_slice(store.len().to_string(alloc)?.as_bytes())?;
+    text.extend_from_slice(b", below ")?;
+    let below = pairs(alloc, store.inner(), b"")?;
+    text.extend_from_slice(below.as_slice())
+}
+
+#[test]
+fn the_oldest_write_goes_through(rt: HostRuntime) -> Result<(), Fail> {
+    let alloc = rt.alloc();
+    let mut store = new_cached(alloc, 2)?;
+    for (step, expected) in STEPS {
+        let mut text = take_step(alloc, &mut store, step)?;
+        push_held(alloc, &mut text, &store)?;
+        assert_eq!(rt; text.as_slice(), expected.as_bytes());
+    }
+    Ok(())
 }

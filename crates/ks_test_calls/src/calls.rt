@@ -3,6 +3,7 @@
 ghost use Rattle.std.specs.Prelude.{◌≡◌, ◌≤◌, false, IfSome};
 
 use crate::caches::new_cached;
+use crate::replies::{pairs, told};
 use crate::tables::{COUNTED, FORMS, LEFT, NAMED, RIGHT, STORED};
 use ks_cache::CachedStore;
 use ks_expr::{Expr, Fk, JoinKind, Proj};
@@ -10,7 +11,7 @@ use ks_fk_left::{Answer, respond, subscriptions};
 use ks_fk_right::{on_right, on_subscription};
 use ks_hash::{Hash128, Murmur3};
 use ks_row::{Blob, Change, Key, Name, Rec, RecordRef, Row, Seq, decode, encode};
-use ks_store::{KvStore, OrderedStore, PlainStore, StoreCall, StoreReply, restore, run_calls};
+use ks_store::{KvStore, OrderedStore, PlainStore, StoreCall, restore, run_calls};
 use ks_table_ops::joined_after;
 use ks_window::{Window, apply};
 use ks_wire::{Response, Subscription, write_response, write_subscription};
@@ -309,17 +310,6 @@ fn get<S: KvStore>(alloc: Global, store: &S, key: &[u8]) -> Result<Vec<u8>, Allo
     }
 }
 
-fn pairs<S: KvStore>(alloc: Global, store: &S, front: &[u8]) -> Result<Vec<u8>, AllocError> {
-    let mut text = Vec::new(alloc);
-    for (key, value) in store.prefix(front)? {
-        text.extend_from_slice(key.as_slice())?;
-        text.push(b'=')?;
-        text.extend_from_slice(value.as_slice())?;
-        text.push(b' ')?;
-    }
-    Ok(text)
-}
-
 fn length<S: KvStore>(alloc: Global, store: &S) -> Result<Vec<u8>, AllocError> {
     Vec::from_slice(alloc, store.len().to_string(alloc)?.as_bytes())
 }
@@ -341,19 +331,7 @@ fn list<S: KvStore>(
         StoreCall::Delete(Blob::from_slice(alloc, key)?),
         StoreCall::Get(Blob::from_slice(alloc, key)?),
     ];
-    let mut text = Vec::new(alloc);
-    for reply in run_calls(alloc, store, &calls)? {
-        match reply {
-            StoreReply::Done => text.extend_from_slice(b"done")?,
-            StoreReply::Found(Some(value)) => text.extend_from_slice(value.as_slice())?,
-            StoreReply::Found(None) => text.extend_from_slice(b"nothing")?,
-            StoreReply::Pairs(pairs) => {
-                text.extend_from_slice(pairs.len().to_string(alloc)?.as_bytes())?;
-            }
-        }
-        text.push(b' ')?;
-    }
-    Ok(text)
+    told(alloc, run_calls(alloc, store, &calls)?)
 }
 
 fn answer<H: Hash128, S: KvStore>(

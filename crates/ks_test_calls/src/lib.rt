@@ -9,6 +9,8 @@ mod calls;
 #[cfg(test)]
 mod hashes;
 #[cfg(test)]
+mod replies;
+#[cfg(test)]
 mod rows;
 #[cfg(test)]
 mod tables;

@@ -1,17 +1,20 @@
 //! Runs in which a worker is cut off at each of its steps.
 ghost use Rattle.std.specs.Prelude.{◌≡◌, ◌≤◌, ◌+◌, ℕ, IfOk, length, Some};
 ghost use Rattle.ks_edge.specs.Counts.{stops_of, calls_of, one_if, HasRoom};
+ghost use Rattle.ks_words.specs.Ranges.{HasRanges};
 
 use crate::rows::{TOTALS, TOTALS_SHOWN};
-use crate::workers::{ORDER, SHOWN, limited, run_with, two_threads};
+use crate::workers::{ORDER, SHOWN, limited, run_with, two_threads, with_cache};
 use ks_edge::{Act, Gate, ScriptGate, SteadyGate, TurnView};
 use ks_hash::Murmur3;
 use ks_history::{Entry, Request};
 use ks_words::Settings;
 use std::alloc::{AllocError, Global};
-use std::sync::Arc;
+use std::process::Abort;
 use std::sync::atomic::{AtomicU64, Ordering};
+use std::sync::{Arc, Wait};
 use std::test::Fail;
+use std::thread::Threads;
 
 /// The most turns that are kept.
 const TURNS: usize = 100;
@@ -184,8 +187,30 @@ fn count_epochs(entries: &[Entry]) -> usize {
     epochs
 }
 
-/// Wherever a worker that works by the rule is cut off, the tables are the same. It begins anew each time: in a second epoch, but where it
-/// was cut off before it began its first.
+// Runs the job by these settings once for each step of these turns, at which its worker is cut off. It begins anew each time: in a second
+// epoch, but where it was cut off before it began its first.
+fn expect_cut_off<R: Threads + Wait + Sync + Abort>(
+    rt: &R,
+    alloc: Global,
+    turns: &[(Act, u32)],
+    settings: &Settings,
+) -> Result<(), Fail>
+    requires settings { HasRanges settings.now }
+{
+    for turn in 0..turns.len() {
+        for step in 0..turns[turn].1 {
+            let acts = acts_of(alloc, turns)?;
+            let gates = cut_gates(alloc, acts, Vec::new(alloc), turn as u64 + 1, step)?;
+            let ended = run_with::<Murmur3, R>(rt, alloc, settings, ORDER, gates, SHOWN)?;
+            assert_eq!(rt; ended.status, 0);
+            let begun = if turn == 0 && step == 0 { 1 } else { 2 };
+            assert_eq!(rt; count_epochs(ended.journal.as_slice()), begun);
+        }
+    }
+    Ok(())
+}
+
+/// Wherever a worker that works by the rule is cut off, the tables are the same, also where each store holds two writes back.
 #[test]
 fn a_worker_is_cut_off_at_each_step(rt: HostRuntime) -> Result<(), Fail> {
     let alloc = rt.alloc();
@@ -195,20 +220,8 @@ fn a_worker_is_cut_off_at_each_step(rt: HostRuntime) -> Result<(), Fail> {
     assert_eq!(rt; ended.status, 0);
     let turns = turns_of(alloc, &kept)?;
     assert!(rt; turns.len() > 16 && turns.len() < 99);
-    for turn in 0..turns.len() {
-        for step in 0..turns[turn].1 {
-            let acts = acts_of(alloc, turns.as_slice())?;
-            let gates = cut_gates(alloc, acts, Vec::new(alloc), turn as u64 + 1, step)?;
-            let settings = Settings::usual();
-            let ended = run_with::<Murmur3, HostRuntime>(
-                &rt, alloc, &settings, ORDER, gates, SHOWN,
-            )?;
-            assert_eq!(rt; ended.status, 0);
-            let begun = if turn == 0 && step == 0 { 1 } else { 2 };
-            assert_eq!(rt; count_epochs(ended.journal.as_slice()), begun);
-        }
-    }
-    Ok(())
+    expect_cut_off(&rt, alloc, turns.as_slice(), &Settings::usual())?;
+    expect_cut_off(&rt, alloc, turns.as_slice(), &with_cache())
 }
 
 /// A worker that is removed again and again by another one is cut off as well.

@@ -50,6 +50,15 @@ pub fn limited() -> Settings
     settings
 }
 
+/// The usual settings, with stores that hold two writes back.
+pub fn with_cache() -> Settings
+    ensures { result ≡ record usual { cache = 2 } }
+{
+    let mut settings = Settings::usual();
+    settings.cache = 2;
+    settings
+}
+
 /// The usual settings, with two threads.
 pub fn two_threads() -> Settings
     ensures { result ≡ record usual { threads = 2 } }

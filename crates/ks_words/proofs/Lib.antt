@@ -4,3 +4,4 @@ pub mod Found
 pub mod Numbers
 pub mod Sections
 pub mod Commands
+pub mod Asks

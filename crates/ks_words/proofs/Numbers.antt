@@ -9,9 +9,9 @@ use Rattle.clap.specs.declared.parser.matches.Found.{Found}
 use Rattle.clap.specs.declared.builder.value_parser.ValueParser.TheVariants as vp
 use Rattle.clap.proofs.ValueTestLemmas.{accepts-Accepts}
 use Rattle.clap.proofs.WalkLemmas.{both}
-use Rattle.ks_words.specs.Grammar.{Text, Use, is_number_in, number_of, number_told, text_of, settings_of, greatest_seed}
+use Rattle.ks_words.specs.Grammar.{Text, Use, is_number_in, number_of, number_told, text_of, settings_of, greatest_seed, greatest_start}
 use Rattle.ks_words.specs.Ranges.{IsBetween, HasRanges}
-use Rattle.ks_words.specs.Parser.{Tells, TellsNumber}
+use Rattle.ks_words.specs.Parser.{Tells, TellsAsk, TellsNumber}
 
 reads : (E : Type 0) (G : List ℕ → Result ℕ E → Type 0) (k low high : ℕ) (t : List ℕ) (r : Option ℕ) → ReadsOne G t r → ((u : List ℕ) (x : Result ℕ E) → G u x → ParsesUnsigned k 10 u x)
     → high < 2 ^ k → is_number_in low high t ≡ true → r ≡ Some (number_of t)
@@ -76,7 +76,11 @@ ranges found us told = record {
   interval = ranged_or 1 10000 100 _ told.interval.1 (omega arith, omega arith);
   chaos = ranged 0 greatest_seed _ told.chaos.1;
   stop = ranged 1 1000000 _ told.stop.1;
+  cache = ranged_or 0 100000 0 _ told.cache.1 (omega arith, omega arith);
 }
 
 pub orders_ranged : (found : Found) (us : List Use) (n : ℕ) → TellsNumber found us (codes "N") 1 150000 → number_told (codes "N") us ≡ Some n → IsBetween 1 150000 n
 orders_ranged found us n told e = subst (λ (o : Option ℕ). IfSome o (IsBetween 1 150000)) e (ranged 1 150000 (text_of (codes "N") us) told.1)
+
+pub start_ranged : (found : Found) (us : List Use) → TellsAsk found us → IfSome (number_told (codes "start") us) (IsBetween 0 greatest_start)
+start_ranged found us told = ranged 0 greatest_start _ told.start.1

@@ -1,11 +1,11 @@
 -- What clap knows of a form's options, and what it makes of one use of an option.
-use Rattle.std.proofs.Common.{◌≡◌, ◌∙◌, ◌&&◌, ◌||◌, ℕ, Bool, cond, true, false, not, refl, sym, ap, subst, List, [], ◌∷◌, ◌++◌, map, Option, Some, None, append-nil, true≢false, codes}
-use Rattle.std.specs.Prelude.{unwrap_or, option_map}
+use Rattle.std.proofs.Common.{◌≡◌, ◌∙◌, ◌&&◌, ◌||◌, ℕ, Bool, cond, suc, true, false, not, refl, sym, ap, subst, List, [], ◌∷◌, ◌++◌, map, Option, Some, None, append-nil, true≢false, codes}
+use Rattle.std.specs.Prelude.{unwrap_or, option_map, is_some}
 use Rattle.std.specs.Str.{bytes_eq}
 use Rattle.std.proofs.lemmas.Slice.Eq.{bytes_eq-Decides}
 use Rattle.std.proofs.lemmas.List.{map-append}
 use Rattle.clap.specs.Words.{Rule, Row, new_rule}
-use Rattle.clap.specs.Walk.{arg_by_id, arg_by_index, arg_by_long, arg_by_short, at_row, has_row, more_values, used, with_values, without}
+use Rattle.clap.specs.Walk.{arg_by_id, arg_by_long, arg_by_short, at_row, has_row, more_values, used, with_values, without}
 use Rattle.clap.specs.Simple.{Shape, new_shape}
 use Rattle.clap.specs.Kinds.{Kinds, or_else}
 use Rattle.clap.specs.Faults.{use_fault}
@@ -17,49 +17,65 @@ use Rattle.clap.specs.declared.builder.value_parser.Reading.TheVariants as readi
 use Rattle.clap.specs.declared.parser.matches.ValueSource.TheVariants.{CommandLine}
 use Rattle.clap.specs.declared.error.kind.ErrorKind.TheVariants as kind
 use Rattle.clap.proofs.WalkLemmas.{list_any-map}
-use Rattle.ks_words.specs.Grammar.{Text, Use, Takes, number, nothing, Choice, Form, numbered, option_named, is_number_in, is_given}
+use Rattle.ks_words.specs.Grammar.{Text, Use, Takes, number, anything, nothing, Choice, Form, numbered, free, option_named, is_number_in, is_value, is_given}
 
 -- ---- the rules of a form
 
+-- it takes a text
+abbrev pub TakesText : Takes → Type 0
+TakesText (number low high) = Unit {0}
+TakesText anything = Unit {0}
+TakesText nothing = ⊥
+
 abbrev action_for : Takes → ArgAction
 action_for (number low high) = Set
+action_for anything = Set
 action_for nothing = SetTrue
 
 abbrev width_of : Takes → ℕ
 width_of (number low high) = 1
+width_of anything = 1
 width_of nothing = 0
 
 abbrev defaults_for : Takes → List Text
 defaults_for (number low high) = []
+defaults_for anything = []
 defaults_for nothing = codes "false" ∷ []
 
 abbrev missing_for : Takes → List Text
 missing_for (number low high) = []
+missing_for anything = []
 missing_for nothing = codes "true" ∷ []
 
 abbrev parser_for : Takes → ValueParser
 parser_for (number low high) = vp.Unsigned low high
+parser_for anything = vp.String
 parser_for nothing = vp.Bool
 
--- an option, or what stands as a word of its own
-abbrev pub rule : Bool → Choice → Rule
+abbrev long_for : Option ℕ → Text → Option Text
+long_for None name = Some name
+long_for (Some i) name = None
+
+-- an option, or what stands as a word of its own, at its place among these
+abbrev pub rule : Option ℕ → Choice → Rule
 rule own o = record (new_rule o.name) {
-  long = cond own None (Some o.name);
-  index = cond own (Some 1) None;
+  long = long_for own o.name;
+  index = own;
   action = Some (action_for o.takes);
   range = Some (record { start_inclusive = width_of o.takes; end_inclusive = width_of o.takes });
   defaults = defaults_for o.takes;
   missing = missing_for o.takes;
   parser = Some (parser_for o.takes);
-  required = own;
+  required = is_some own;
 }
 
-abbrev pub plain_rules : Option (Text × ℕ × ℕ) → List Rule
-plain_rules None = []
-plain_rules (Some p) = rule true (numbered p.0 p.1 p.2) ∷ []
+-- the plain words, from a place on
+abbrev pub plain_rules : ℕ → List Choice → List Rule
+plain_rules i [] = []
+plain_rules i (p ∷ ps) = rule (Some i) p ∷ plain_rules (suc i) ps
 
 abbrev pub rules_for : Form → List Rule
-rules_for f = map (rule false) f.options ++ plain_rules f.plain
+rules_for f = map (rule None) f.options ++ plain_rules 1 f.plain
 
 abbrev pub shape_for : Text → Form → Shape
 shape_for name f = record (new_shape name) {
@@ -73,23 +89,23 @@ shape_for name f = record (new_shape name) {
 
 -- ---- looking rules up
 
-pub by_long : (os : List Choice) (p : Option (Text × ℕ × ℕ)) (n : Text) → arg_by_long (map (rule false) os ++ plain_rules p) n ≡ option_map (rule false) (option_named os n)
-by_long [] None n = refl
-by_long [] (Some q) n = refl
-by_long (o ∷ os) p n = go (bytes_eq o.name n) (by_long os p n)
+pub by_long : (os : List Choice) (i : ℕ) (ps : List Choice) (n : Text) → arg_by_long (map (rule None) os ++ plain_rules i ps) n ≡ option_map (rule None) (option_named os n)
+by_long [] i [] n = refl
+by_long [] i (p ∷ ps) n = by_long [] (suc i) ps n
+by_long (o ∷ os) i ps n = go (bytes_eq o.name n) (by_long os i ps n)
   where
-    go : (b : Bool) → arg_by_long (map (rule false) os ++ plain_rules p) n ≡ option_map (rule false) (option_named os n)
-        → cond (b || false) (Some (rule false o)) (arg_by_long (map (rule false) os ++ plain_rules p) n) ≡ option_map (rule false) (cond b (Some o) (option_named os n))
+    go : (b : Bool) → arg_by_long (map (rule None) os ++ plain_rules i ps) n ≡ option_map (rule None) (option_named os n)
+        → cond (b || false) (Some (rule None o)) (arg_by_long (map (rule None) os ++ plain_rules i ps) n) ≡ option_map (rule None) (cond b (Some o) (option_named os n))
     go true e = refl
     go false e = e
 
-pub by_id : (os : List Choice) (rest : List Rule) (n : Text) (o : Choice) → option_named os n ≡ Some o → arg_by_id (map (rule false) os ++ rest) n ≡ Some (rule false o)
+pub by_id : (os : List Choice) (rest : List Rule) (n : Text) (o : Choice) → option_named os n ≡ Some o → arg_by_id (map (rule None) os ++ rest) n ≡ Some (rule None o)
 by_id [] rest n o e = absurd (cc)
 by_id (x ∷ os) rest n o e = go (bytes_eq x.name n) e (by_id os rest n o)
   where
-    go : (b : Bool) → cond b (Some x) (option_named os n) ≡ Some o → (option_named os n ≡ Some o → arg_by_id (map (rule false) os ++ rest) n ≡ Some (rule false o))
-        → cond b (Some (rule false x)) (arg_by_id (map (rule false) os ++ rest) n) ≡ Some (rule false o)
-    go true same later = ap (option_map (rule false)) same
+    go : (b : Bool) → cond b (Some x) (option_named os n) ≡ Some o → (option_named os n ≡ Some o → arg_by_id (map (rule None) os ++ rest) n ≡ Some (rule None o))
+        → cond b (Some (rule None x)) (arg_by_id (map (rule None) os ++ rest) n) ≡ Some (rule None o)
+    go true same later = ap (option_map (rule None)) same
     go false same later = later same
 
 pub named_front : (os more : List Choice) (n : Text) (o : Choice) → option_named os n ≡ Some o → option_named (os ++ more) n ≡ Some o
@@ -109,14 +125,10 @@ same_name (x ∷ os) n o e = go (bytes_eq x.name n) refl e (same_name os n o)
     go true hit same later = sym (ap (λ m. (unwrap_or m x).name) same) ∙ (bytes_eq-Decides x.name n).0 hit
     go false miss same later = later same
 
-pub by_short : (os : List Choice) (p : Option (Text × ℕ × ℕ)) (x : ℕ) → arg_by_short (map (rule false) os ++ plain_rules p) x ≡ None
-by_short [] None x = refl
-by_short [] (Some q) x = refl
-by_short (o ∷ os) p x = by_short os p x
-
-pub by_index : (os : List Choice) (rest : List Rule) (i : ℕ) → arg_by_index (map (rule false) os ++ rest) i ≡ arg_by_index rest i
-by_index [] rest i = refl
-by_index (o ∷ os) rest i = by_index os rest i
+pub by_short : (os : List Choice) (i : ℕ) (ps : List Choice) (x : ℕ) → arg_by_short (map (rule None) os ++ plain_rules i ps) x ≡ None
+by_short [] i [] x = refl
+by_short [] i (p ∷ ps) x = by_short [] (suc i) ps x
+by_short (o ∷ os) i ps x = by_short os i ps x
 
 -- ---- rows
 
@@ -163,7 +175,7 @@ Admits false fault after wanted = Faulty fault
 abbrev fault_by : Bool → Bool → Kinds
 fault_by again valid = or_else (cond (again && true) (kind.ArgumentConflict ∷ []) []) (or_else (cond valid [] (kind.ValueValidation ∷ [])) [])
 
-pub number_used : (own : Bool) (n : Text) (low high : ℕ) (t : Text) (us : List Use)
+number_used : (own : Option ℕ) (n : Text) (low high : ℕ) (t : Text) (us : List Use)
     → Admits (not (is_given n us) && is_number_in low high t) (use_fault false (rule own (numbered n low high)) (t ∷ []) (map row us))
     (used (rule own (numbered n low high)) (t ∷ []) (map row us)) (map row (us ++ (n, t) ∷ []))
 number_used own n low high t us =
@@ -176,14 +188,39 @@ number_used own n low high t us =
     go false false e = tt
     go false true e = (refl, used_new n t us e)
 
-pub switch_used : (n : Text) (us : List Use)
-    → Admits (not (is_given n us) && true) (use_fault false (rule false (record { name = n; takes = nothing })) [] (map row us))
-    (used (rule false (record { name = n; takes = nothing })) [] (map row us)) (map row (us ++ (n, codes "true") ∷ []))
-switch_used n us =
-    subst (λ h. Admits (not (is_given n us) && true) (fault_by h true) (used (rule false (record { name = n; takes = nothing })) [] (map row us)) (map row (us ++ (n, codes "true") ∷ [])))
+free_used : (own : Option ℕ) (n t : Text) (us : List Use)
+    → Admits (not (is_given n us) && true) (use_fault false (rule own (free n)) (t ∷ []) (map row us))
+    (used (rule own (free n)) (t ∷ []) (map row us)) (map row (us ++ (n, t) ∷ []))
+free_used own n t us =
+    subst (λ h. Admits (not (is_given n us) && true) (fault_by h true) (used (rule own (free n)) (t ∷ []) (map row us)) (map row (us ++ (n, t) ∷ [])))
     (sym (given_rows n us)) (go (is_given n us) (given_rows n us))
   where
     go : (h : Bool) → has_row n (map row us) ≡ h
-        → Admits (not h && true) (fault_by h true) (used (rule false (record { name = n; takes = nothing })) [] (map row us)) (map row (us ++ (n, codes "true") ∷ []))
+        → Admits (not h && true) (fault_by h true) (used (rule own (free n)) (t ∷ []) (map row us)) (map row (us ++ (n, t) ∷ []))
+    go true e = tt
+    go false e = (refl, used_new n t us e)
+
+pub text_used : (own : Option ℕ) (n : Text) (k : Takes) → TakesText k → (t : Text) (us : List Use)
+    → Admits (not (is_given n us) && is_value k t) (use_fault false (rule own (record { name = n; takes = k })) (t ∷ []) (map row us))
+    (used (rule own (record { name = n; takes = k })) (t ∷ []) (map row us)) (map row (us ++ (n, t) ∷ []))
+text_used own n (number low high) h t us = number_used own n low high t us
+text_used own n anything h t us = free_used own n t us
+text_used own n nothing h t us = absurd h
+
+-- a use without a text
+pub no_value : (own : Option ℕ) (n : Text) (k : Takes) → TakesText k → (rows : List Row) → Faulty (use_fault false (rule own (record { name = n; takes = k })) [] rows)
+no_value own n (number low high) h rows = tt
+no_value own n anything h rows = tt
+no_value own n nothing h rows = absurd h
+
+pub switch_used : (n : Text) (us : List Use)
+    → Admits (not (is_given n us) && true) (use_fault false (rule None (record { name = n; takes = nothing })) [] (map row us))
+    (used (rule None (record { name = n; takes = nothing })) [] (map row us)) (map row (us ++ (n, codes "true") ∷ []))
+switch_used n us =
+    subst (λ h. Admits (not (is_given n us) && true) (fault_by h true) (used (rule None (record { name = n; takes = nothing })) [] (map row us)) (map row (us ++ (n, codes "true") ∷ [])))
+    (sym (given_rows n us)) (go (is_given n us) (given_rows n us))
+  where
+    go : (h : Bool) → has_row n (map row us) ≡ h
+        → Admits (not h && true) (fault_by h true) (used (rule None (record { name = n; takes = nothing })) [] (map row us)) (map row (us ++ (n, codes "true") ∷ []))
     go true e = tt
     go false e = (refl, used_new n (codes "true") us e)

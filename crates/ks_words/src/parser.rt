@@ -1,13 +1,16 @@
 //! The commands as `clap` is told of them.
 ghost use Rattle.std.specs.Prelude.{◌≡◌, ◌≤ℤ◌, ◌<◌, ◌^◌, ℕ, List, pos, true, false, IfOk, IfSome, option_map, unwrap_or, map, string_bytes};
 ghost use Rattle.clap.specs.Words.{app_of, rule_of, is_simple_and_free};
-ghost use Rattle.clap.specs.Matches.{found_of, one_text};
+ghost use Rattle.clap.specs.Matches.{first_value, found_of, one_text};
 ghost use Rattle.ks_words.specs.Grammar.{is_number_in, number_of};
-ghost use Rattle.ks_words.specs.Parser.{number_rule, switch_rule, plain_rule, bare_app, common_app, run_app, load_app, Finds};
+ghost use Rattle.ks_words.specs.Parser.{number_rule, switch_rule, plain_rule, text_rule, bare_app, common_app, run_app, load_app, ask_app, Finds};
 
 use clap::error::ErrorKind;
 use clap::{Arg, ArgAction, ArgMatches, Command};
 use std::alloc::{AllocError, Global};
+
+// The greatest start of a window, 2^53.
+const GREATEST_START: i64 = 9_007_199_254_740_992;
 
 // An option with a number.
 fn number<'a>(alloc: Global, name: &'a str, low: i64, high: i64) -> Arg<'a>
@@ -45,6 +48,14 @@ fn plain<'a>(alloc: Global, name: &'a str, low: i64, high: i64) -> Arg<'a>
         .required(true)
 }
 
+// A text as a word of its own.
+fn text<'a>(alloc: Global, name: &'a str) -> Arg<'a>
+    ensures rule { rule_of result ≡ text_rule name.entry.now }
+    ensures local { result.global ≡ false }
+{
+    Arg::new(alloc, name).action(ArgAction::Set).required(true)
+}
+
 fn bare<'a>(alloc: Global, name: &'a str) -> Command<'a>
     ensures { app_of result ≡ bare_app name.entry.now }
 {
@@ -54,7 +65,7 @@ fn bare<'a>(alloc: Global, name: &'a str) -> Command<'a>
         .disable_version_flag(true)
 }
 
-// A command with the options that both have.
+// A command with the options that all have.
 fn common<'a>(alloc: Global, name: &'a str) -> Result<Command<'a>, AllocError>
     ensures { IfOk result (λ c. app_of c ≡ common_app name.entry.now) }
 {
@@ -64,7 +75,8 @@ fn common<'a>(alloc: Global, name: &'a str) -> Result<Command<'a>, AllocError>
         .arg(number(alloc, "standbys", 0, 3))?
         .arg(number(alloc, "commit-every", 1, 10_000))?
         .arg(number(alloc, "chaos", 0, i64::MAX))?
-        .arg(number(alloc, "stop-after", 1, 1_000_000))
+        .arg(number(alloc, "stop-after", 1, 1_000_000))?
+        .arg(number(alloc, "cache", 0, 100_000))
 }
 
 /// `run` and its options.
@@ -79,6 +91,16 @@ pub(crate) fn load_parser<'a>(alloc: Global) -> Result<Command<'a>, AllocError>
     ensures { IfOk result (λ c. app_of c ≡ load_app) }
 {
     common(alloc, "load")?.arg(plain(alloc, "N", 1, 150_000))
+}
+
+/// `ask`, its node, its key and its options.
+pub(crate) fn ask_parser<'a>(alloc: Global) -> Result<Command<'a>, AllocError>
+    ensures { IfOk result (λ c. app_of c ≡ ask_app) }
+{
+    common(alloc, "ask")?
+        .arg(number(alloc, "start", 0, GREATEST_START))?
+        .arg(text(alloc, "NODE"))?
+        .arg(text(alloc, "KEY"))
 }
 
 /// What the parser finds in the words, or nothing where it refuses them; want of memory is the one error.
@@ -116,6 +138,13 @@ pub(crate) fn number_or(found: &ArgMatches<'_>, name: &str, otherwise: u32) -> u
         otherwise }
 {
     found.get_one::<u32>(name).unwrap_or(otherwise)
+}
+
+/// A text that was found.
+pub(crate) fn text_in<'a>(found: &ArgMatches<'a>, name: &str) -> Option<&'a str>
+    ensures { option_map (λ t. t.now) result ≡ first_value (found_of found.now) name.now }
+{
+    found.get_str(name)
 }
 
 /// A large number, if it was found.

@@ -1,22 +1,30 @@
-use Rattle.std.proofs.Common.{inl, subst, ◌∙◌}
-use Rattle.std.specs.Io.KnownBytes.{Appends}
-use Rattle.ks_run.proofs.Kept.{judged_query}
+use Rattle.std.proofs.Common.{sym, ◌∙◌, None}
+use Rattle.ks_run.proofs.Kept.{asks_for, none_is}
 use Rattle.ks_run.proofs.runs.run_job.Goals as goal
 
-pub returns-in-Ok-write_output-clause-read_fault : goal.returns-in-Ok-write_output-clause-read_fault
-returns-in-Ok-write_output-clause-read_fault g c = λ e.
-    let fault = c.in-Ok.ensures.read_fault e in
-    let written = subst (λ text. Appends (g.K.Sink.held c.args.out.now) (g.K.Sink.held c.write_output.new.out) text) (c.deref.ensures.value ∙ fault.2) c.in-Ok-write_output.ensures.whole in
-    (fault.0, fault.1, written, fault.3, fault.4)
+pub returns-clause-complete : goal.returns-clause-complete
+returns-clause-complete g c = λ valid alone calm kept. c.run_crew.ensures.complete valid tt alone calm kept
 
-pub returns-in-Ok-write_output-clause-journal : goal.returns-in-Ok-write_output-clause-journal
-returns-in-Ok-write_output-clause-journal g c = λ h. c.in-Ok.ensures.kept
+pub returns-clause-asked : goal.returns-clause-asked
+returns-clause-asked g c = λ e. let bad = ((c.run_crew.ensures.bad_ask e).2).1 in none_is (sym (asks_for c.args.settings.now.journal None) ∙ bad.asked)
+
+pub returns-clause-read_fault : goal.returns-clause-read_fault
+returns-clause-read_fault g c = c.run_crew.ensures.read_fault
+
+pub returns-clause-bad_job : goal.returns-clause-bad_job
+returns-clause-bad_job g c = c.run_crew.ensures.bad_job
+
+pub returns-clause-settled : goal.returns-clause-settled
+returns-clause-settled g c = c.run_crew.ensures.settled
+
+pub returns-clause-late : goal.returns-clause-late
+returns-clause-late g c = c.run_crew.ensures.late
+
+pub returns-clause-collision : goal.returns-clause-collision
+returns-clause-collision g c = c.run_crew.ensures.collision
+
+pub returns-clause-write_fault : goal.returns-clause-write_fault
+returns-clause-write_fault g c = c.run_crew.ensures.write_fault
 
 pub returns-clause-journal : goal.returns-clause-journal
-returns-clause-journal g c = λ h. c.in-Ok.ensures.kept
-
-pub returns-in-Ok-write_output-clause-complete : goal.returns-in-Ok-write_output-clause-complete
-returns-in-Ok-write_output-clause-complete g c = λ valid alone calm kept. inl (judged_query _ _ _ _ _ _ _ _ _ _ _ valid alone calm c.in-Ok.ensures)
-
-pub returns-clause-complete : goal.returns-clause-complete
-returns-clause-complete g c = λ valid alone calm kept. absurd (kept c.in-Err.ensures.fault)
+returns-clause-journal g c = c.run_crew.ensures.journal

@@ -12,6 +12,7 @@ use Rattle.ks_job_source.specs.Opening.{IsReadable}
 use Rattle.ks_run_workers.specs.Members.{placing_of}
 use Rattle.ks_task.specs.Placing.{placed_by}
 use Rattle.ks_task.specs.contracts.work.TaskWork as TaskWork
+use Rattle.ks_run.specs.Told.{wanted_in}
 use Rattle.ks_run.specs.Settling.{RunsJob}
 use Rattle.ks_run.proofs.settling.settle_job.Goals as goal
 
@@ -32,6 +33,6 @@ pub returns : goal.returns
 returns g c =
     let built = rw c.in-Ok.is at c.in_ok-topology.ensures in
     IfOk-weaker c.settle.result _ _
-    (λ a h. subst (λ d. RunsJob (rules_of g.H.Hash128.hash_of) (placing_of c.args.crew.settings) c.args.crew.settings.journal d (item_views c.args.job.records.items) c.args.job.rest.standing
+    (λ a h. subst (λ d. RunsJob (rules_of g.H.Hash128.hash_of) (placing_of c.args.crew.settings) (wanted_in c.args.crew.settings.journal c.args.crew.question) d (item_views c.args.job.records.items) c.args.job.rest.standing
     (g.S.Source.left c.args.input.now) (g.S.Source.left c.settle.new.input) (g.S.Source.faults c.args.input.now) (g.S.Source.faults c.settle.new.input) a.status a.text.items a.journal) built.1 h)
     c.settle.ensures

@@ -8,7 +8,7 @@ use Rattle.ks_run_workers.proofs.beside.feed_and_work.Goals as goal
 
 pub returns-clause-turned : goal.returns-clause-turned
 returns-clause-turned g c =
-    let new = c.feed_team.new.team.members.items in
+    let new = c.feed_team.new.team.crew.threads.members.items in
     let none : is_one_starved new ≡ false = search rules in
-    have_turned g.W.Work.plan (draft_of c.args.topology.now) c.args.team.now.turns c.args.team.now.members.items new
-    (keys_length (λ m. pass_key m.worker.state.session.client.pass) new c.args.team.now.members.items c.feed_team.ensures.keys) c.in_ok-end.ensures.turned none
+    have_turned g.W.Work.plan (draft_of c.args.topology.now) c.args.team.now.crew.threads.turns c.args.team.now.crew.threads.members.items new
+    (keys_length (λ m. pass_key m.worker.state.session.client.pass) new c.args.team.now.crew.threads.members.items c.feed_team.ensures.keys) c.in_ok-end.ensures.turned none

@@ -7,6 +7,7 @@ abbrev pub invariant-loop-member : goal.invariant-loop-member
 invariant-loop-member g l = record {
   passes : l.passes.items ++ map (λ m. m.worker.state.session.client.pass) (into_iter_items l.rest) ≡ l.fn.first ∷ map (λ m. m.worker.state.session.client.pass) l.fn.members.items;
   left : HaveLeft g.W.Work.plan l.fn.members.items (into_iter_items l.rest) l.fn.replicas.items l.replicas.items;
+  last : l.last ≡ l.fn.last;
 }
 
 abbrev pub decreases-loop-member : goal.decreases-loop-member

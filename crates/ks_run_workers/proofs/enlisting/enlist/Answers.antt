@@ -18,6 +18,7 @@ loop-pass-preserved g c =
       instances = omega (arith, many, c.loop-pass.invariant.instances);
       uncounted = all_pushed (λ m. IsEnlisted m.worker.state) before after c.enlist_one.result c.in_ok-push.ensures.items c.loop-pass.invariant.uncounted c.enlist_one.ensures.enlisted;
       placing = all_pushed (λ m. m.worker.placing ≡ placing_of c.args.settings.now) before after c.enlist_one.result c.in_ok-push.ensures.items c.loop-pass.invariant.placing c.enlist_one.ensures.placing;
+      cache = all_pushed (λ m. m.worker.state.member.cache ≡ c.args.settings.now.cache) before after c.enlist_one.result c.in_ok-push.ensures.items c.loop-pass.invariant.cache c.enlist_one.ensures.cache;
     }
 
 pub returns-clause-passes : goal.returns-clause-passes

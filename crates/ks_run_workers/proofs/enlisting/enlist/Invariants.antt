@@ -13,6 +13,7 @@ invariant-loop-pass g l = record {
   instances : length l.members.items + length (into_iter_items l.rest) ≤ 4 * l.settings.threads;
   uncounted : All (λ m. IsEnlisted m.worker.state) l.members.items;
   placing : All (λ m. m.worker.placing ≡ placing_of l.settings) l.members.items;
+  cache : All (λ m. m.worker.state.member.cache ≡ l.settings.cache) l.members.items;
 }
 
 abbrev pub decreases-loop-pass : goal.decreases-loop-pass

@@ -1,4 +1,4 @@
-use Rattle.std.proofs.Common.{◌∙◌, ap, refl, sym, subst, length, ◌≤◌}
+use Rattle.std.proofs.Common.{◌∙◌, ap, sym, subst, length, ◌≤◌}
 use Rattle.std.proofs.lemmas.Result.{IfOk-weaker}
 use Rattle.ks_job_source.specs.Opening.{IsReading, StandsPast}
 use Rattle.ks_job.specs.Items.{item_views}

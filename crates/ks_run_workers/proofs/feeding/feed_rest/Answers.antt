@@ -1,4 +1,4 @@
-use Rattle.std.proofs.Common.{refl, sym, subst, ◌∙◌, ap, arith}
+use Rattle.std.proofs.Common.{sym, ◌∙◌, ap, arith}
 use Rattle.ks_job.specs.Items.{item_views}
 use Rattle.ks_topo.specs.Topologies.{draft_of}
 use Rattle.ks_shared.specs.Calls.{setup_in}

@@ -1,0 +1,102 @@
+-- What the words `audit` are answered.
+use Rattle.std.proofs.Common.{◌≡◌, inl, inr, ℕ, Bool, true, false, ◌||◌, List, refl, sym, ap, ◌∙◌}
+use Rattle.std.specs.Prelude.{◌==◌, Option, Some, None}
+use Rattle.std.proofs.lemmas.Bool.{true≢false}
+use Rattle.ks_words.specs.declared.command.Command.{Command}
+use Rattle.ks_words.specs.declared.command.Command.TheVariants.{Run, Load, Ask, Audit}
+use Rattle.ks_plan.specs.Drafts.{DraftView}
+use Rattle.ks_plan.specs.Plan.{plan_of}
+use Rattle.ks_def_tasks.specs.Messages.{Rules}
+use Rattle.ks_journal.specs.Lines.{journal_text}
+use Rattle.ks_law_exactly_once.proofs.Replays.{is_run}
+use Rattle.ks_law_topology.specs.Work.{setup_of}
+use Rattle.ks_law_topology.proofs.Networks.{works_are_networks}
+use Rattle.ks_run_audit.specs.Audited.{IsAudited, HoldsAudited}
+use Rattle.ks_run.specs.Audited.{IsPrintedRun, HoldsRun}
+use Rattle.ks_run.specs.Answers.{IsStatus}
+use Rattle.ks_run.specs.Commands.{IsAuditStatus, HasValidJob, HasBadAsk, is_audit}
+
+-- each is a status, and no other is one
+pub is_status : (s : ℕ) → IsAuditStatus s → IsStatus s
+is_status s (inl e) = inl e
+is_status s (inr (inl e)) = inr (inr (inl e))
+is_status s (inr (inr (inl e))) = inr (inr (inr (inr (inr (inl e)))))
+is_status s (inr (inr (inr (inl e)))) = inr (inr (inr (inr (inr (inr (inl e))))))
+is_status s (inr (inr (inr (inr (inl e))))) = inr (inr (inr (inr (inr (inr (inr (inl e)))))))
+is_status s (inr (inr (inr (inr (inr e))))) = inr (inr (inr (inr (inr (inr (inr (inr (inr e))))))))
+
+abbrev one_of_audit : ℕ → Bool
+one_of_audit s = (s == 0) || (s == 2) || (s == 6) || (s == 7) || (s == 8) || (s == 10)
+
+is_one : (s : ℕ) → IsAuditStatus s → one_of_audit s ≡ true
+is_one s (inl e) = ap one_of_audit e
+is_one s (inr (inl e)) = ap one_of_audit e
+is_one s (inr (inr (inl e))) = ap one_of_audit e
+is_one s (inr (inr (inr (inl e)))) = ap one_of_audit e
+is_one s (inr (inr (inr (inr (inl e))))) = ap one_of_audit e
+is_one s (inr (inr (inr (inr (inr e))))) = ap one_of_audit e
+
+pub not_other : (s n : ℕ) → one_of_audit n ≡ false → IsAuditStatus s → s ≡ n → ⊥
+not_other s n other h e = true≢false (sym (is_one s h) ∙ (ap one_of_audit e ∙ other))
+
+-- no other command is one
+pub not_plain : (command told : Option Command) → command ≡ told → is_audit command ≡ true → is_audit told ≡ false → ⊥
+not_plain command told same audit plain = true≢false (sym audit ∙ (ap is_audit same ∙ plain))
+
+pub is_command : (command told : Option Command) → command ≡ told → is_audit command ≡ true → told ≡ None → ⊥
+is_command command told same audit none = true≢false (sym audit ∙ ap is_audit (same ∙ none))
+
+pub no_job : (command told : Option Command) → command ≡ told → is_audit command ≡ true → (left : Option (List ℕ)) (before now : ℕ) → HasValidJob told left before now → ⊥
+no_job command told same audit left before now h = by told (ap is_audit (sym same) ∙ audit) h
+  where
+    by : (c : Option Command) → is_audit c ≡ true → HasValidJob c left before now → ⊥
+    by None e g = g
+    by (Some (Run settings)) e g = absurd (cc)
+    by (Some (Load orders settings)) e g = absurd (cc)
+    by (Some (Ask node key start settings)) e g = absurd (cc)
+    by (Some Audit) e g = g
+
+pub no_bad_ask : (command told : Option Command) → command ≡ told → is_audit command ≡ true → (left : Option (List ℕ)) (before now : ℕ) → HasBadAsk told left before now → ⊥
+no_bad_ask command told same audit left before now h = by told (ap is_audit (sym same) ∙ audit) h
+  where
+    by : (c : Option Command) → is_audit c ≡ true → HasBadAsk c left before now → ⊥
+    by None e g = g
+    by (Some (Run settings)) e g = g
+    by (Some (Load orders settings)) e g = g
+    by (Some (Ask node key start settings)) e g = absurd (cc)
+    by (Some Audit) e g = g
+
+-- ---- what an audit's yes says, in the words of a run's clause
+pub printed_run : (rules : Rules) (d : DraftView) (text : List ℕ) → IsAudited rules d text → IsPrintedRun rules d text
+printed_run rules d text a = record {
+  records = a.records;
+  journal = a.journal;
+  kept = record {
+    job = a.run.job;
+    history = a.run.done.history;
+    produced = a.run.done.produced;
+    settled = a.run.done.settled;
+    run = is_run (setup_of rules (plan_of d)) a.journal (works_are_networks rules (plan_of d)) a.run.done.history;
+    few = a.run.done.few;
+  };
+  fits = a.fits;
+  told = record {
+    alone = a.alone;
+    in_time = a.in_time;
+    folds = a.folds;
+    printed = record { tail = journal_text a.journal; is_tail = refl; printed = a.printed };
+  };
+}
+
+pub holds_run : (rules : Rules) (left : Option (List ℕ)) → HoldsAudited rules left → HoldsRun rules left
+holds_run rules left h = record {
+  bytes = h.bytes;
+  known = h.known;
+  head = h.head;
+  text = h.text;
+  cut = h.cut;
+  line = h.line;
+  draft = h.draft;
+  topology = h.topology;
+  printed = printed_run rules h.draft h.text h.audited;
+}

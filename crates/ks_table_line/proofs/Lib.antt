@@ -1,0 +1,2 @@
+pub mod RowAgain
+pub mod Ended
