@@ -1,5 +1,5 @@
 -- A replica that is fed.
-use Rattle.std.proofs.Common.{◌≡◌, ◌⊎◌, inl, inr, ℕ, zero, suc, ◌+◌, ◌<◌, ◌≤◌, ◌||◌, Bool, true, false, cond, add-one, List, [], ◌∷◌, ◌++◌, length, take, get_or, refl, sym, ap, ap₂, subst, ◌∙◌, arith}
+use Rattle.std.proofs.Common.{◌≡◌, ◌⊎◌, inl, inr, ℕ, zero, suc, ◌+◌, ◌<◌, ◌≤◌, ◌||◌, Bool, true, false, cond, add-one, List, [], ◌∷◌, ◌++◌, length, take, get_or, map, refl, sym, ap, ap₂, subst, ◌∙◌, arith}
 use Rattle.std.specs.Prelude.{◌==◌, nat_lt}
 use Rattle.std.proofs.Math.Seq.{take-suc}
 use Rattle.std.proofs.lemmas.Bool.{true≢false, eq-eqb, eqb-true, ltb-false}
@@ -7,8 +7,9 @@ use Rattle.ks_row.specs.Records.{Record as Rec}
 use Rattle.ks_row.specs.declared.record.TaskId.{TaskId}
 use Rattle.ks_history.specs.declared.journal.Entry.{Entry}
 use Rattle.ks_history.specs.Machine.{IsNetwork, TaskPlan, has_topic, part_of}
-use Rattle.ks_history.specs.State.{Setup, IsSetup, has_task}
-use Rattle.ks_history.specs.Reads.{MayFetch, fetched}
+use Rattle.ks_history.specs.State.{Setup, State, IsSetup, has_task}
+use Rattle.ks_history.specs.Reads.{MayFetch, fetched, ends_of}
+use Rattle.ks_history.proofs.Histories.{stable-le}
 use Rattle.ks_history.specs.Follows.{ReplicaView, ReplicaFollows}
 use Rattle.ks_history.specs.History.{at, IsHistory}
 use Rattle.ks_law_restore.specs.Replicas.{fed_replica}
@@ -211,3 +212,43 @@ module _ {W : Type 0} (plan : W → TaskPlan) (old mid : PassView Entry (Frame W
           subst (λ (t : TaskId). stable_of (at (setup_in plan old.frame) old.seen) (part_of u t) ≤ (replica_view c).position u) (sym f.task)
           (let past = before (neither moved moves none).0 u early in omega (arith, past, f.later u))
       by (inr late) = read_since (topic ∷ []) (replica_view c) (after (neither moved moves none).1) u late
+
+  -- it has reached the next end, which is past what was stable then, or nothing stable was left there
+  pub read_to : (b c : Replica) (xs : List ℕ) (topic end : ℕ) → HasReadStable (setup_in plan old.frame) old.seen xs (replica_view b) → IsFed (setup_in plan mid.frame) mid.seen [] (replica_view b) (replica_view c) →
+      stable_of (at (setup_in plan old.frame) old.seen) (part_of topic (replica_view c).task) ≤ end →
+      (end ≤ (replica_view c).position topic) ⊎ HasReadStable (setup_in plan mid.frame) mid.seen (topic ∷ []) (replica_view c) →
+      HasReadStable (setup_in plan old.frame) old.seen (xs ++ topic ∷ []) (replica_view c)
+  read_to b c xs topic end before f told stop u there = by (some_topic u xs (topic ∷ []) there)
+    where
+      last : u ≡ topic → has_topic u (topic ∷ []) ≡ true → (end ≤ (replica_view c).position topic) ⊎ HasReadStable (setup_in plan mid.frame) mid.seen (topic ∷ []) (replica_view c) →
+          stable_of (at (setup_in plan old.frame) old.seen) (part_of u (replica_view c).task) ≤ (replica_view c).position u
+      last is own (inl reached) =
+          subst (λ n. stable_of (at (setup_in plan old.frame) old.seen) (part_of n (replica_view c).task) ≤ (replica_view c).position n) (sym is) (omega (arith, told, reached))
+      last is own (inr read) = read_since (topic ∷ []) (replica_view c) read u own
+
+      by : (has_topic u xs ≡ true) ⊎ (has_topic u (topic ∷ []) ≡ true) → stable_of (at (setup_in plan old.frame) old.seen) (part_of u (replica_view c).task) ≤ (replica_view c).position u
+      by (inl early) =
+          subst (λ (t : TaskId). stable_of (at (setup_in plan old.frame) old.seen) (part_of u t) ≤ (replica_view c).position u) (sym f.task)
+          (let past = before u early in omega (arith, past, f.later u))
+      by (inr late) = last (only_one u topic late) late stop
+
+-- what was stable stood below the ends
+pub told_end : (s : State) (t : TaskId) (topics ends : List ℕ) (i : ℕ) → ends ≡ ends_of s (map (λ n. part_of n t) topics) → i < length topics → stable_of s (part_of (get_or topics i 0) t) ≤ get_or ends i 0
+told_end s t topics ends i is h = subst (λ l. stable_of s (part_of (get_or topics i 0) t) ≤ get_or l i 0) (sym is) (by topics i h)
+  where
+    by : (xs : List ℕ) (k : ℕ) → k < length xs → stable_of s (part_of (get_or xs k 0) t) ≤ get_or (ends_of s (map (λ n. part_of n t) xs)) k 0
+    by [] k h = absurd (omega (arith, h))
+    by (x ∷ xs) zero h = stable-le (s.partition (part_of x t))
+    by (x ∷ xs) (suc k) h = by xs k (omega (arith, h))
+
+-- what has read all that was stable was fed from there
+pub fed_of : (setup : Setup) (h now : List Entry) (xs : List ℕ) (a c : Replica) → IsFedStandby setup h now [] a c → HasReadStable setup h xs (replica_view c) → IsFedStandby setup h now xs a c
+fed_of setup h now xs a c f read = record {
+  standby = f.standby;
+  changelogs = f.changelogs;
+  fed = record {
+    task = f.fed.task;
+    later = f.fed.later;
+    moved = λ u there. inr (subst (λ (t : TaskId). stable_of (at setup h) (part_of u t) ≤ (replica_view c).position u) f.fed.task (read u there));
+  };
+}

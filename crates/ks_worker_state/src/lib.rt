@@ -8,7 +8,7 @@ mod restoring;
 mod state;
 mod topics;
 
-pub use feeding::{feed_from, feed_once, feed_to_the_end};
+pub use feeding::{feed_from, feed_once, feed_to_ends};
 pub use reading::read_once;
 pub use restoring::restore;
 pub use state::WorkerState;

@@ -20,7 +20,7 @@ ghost use Rattle.ks_worker_state.specs.Tasks.{IsHeldTask};
 ghost use Rattle.ks_worker_state.specs.Topology.{RunsTopology};
 ghost use Rattle.ks_worker_state.specs.Restoring.{reached_in, IsMadeAtTheEnds, IsShortOfTheEnds, IsGivenBack};
 
-use crate::feeding::feed_to_the_end;
+use crate::feeding::feed_to_ends;
 use crate::topics::changelogs_in;
 use ks_cluster::Work;
 use ks_edge::Gate;
@@ -149,17 +149,18 @@ fn restore_with<H: Hash128, R: Wait, W: Work, G: Gate>(
 {
     let task = replica.id();
     let changelogs = changelogs_in(topology, task.sub);
-    let ends = ends_of_task(rt, alloc, shared, client, task, changelogs)?;
-    feed_to_the_end(rt, alloc, shared, client, &mut replica, changelogs)?;
-    if !has_reached(&replica, changelogs, ends.as_slice()) {
+    let told = ends_of_task(rt, alloc, shared, client, task, changelogs)?;
+    let ends = told.as_slice();
+    feed_to_ends(rt, alloc, shared, client, &mut replica, changelogs, ends)?;
+    if !has_reached(&replica, changelogs, ends) {
         return Ok(Err(replica));
     }
     Ok(Ok(task_of(alloc, topology, replica, offsets, cache)?))
 }
 
-/// Makes a task of a replica, where the group answers its committed offsets and the replica, fed until no fetch moves it, has reached the
-/// ends of its changelogs; else the replica is given back, for a later try: the group refused the offsets, or a transaction that writes
-/// to a changelog isn't decided yet.
+/// Makes a task of a replica, where the group answers its committed offsets and the replica, fed until no fetch moves it or it has reached
+/// the ends of its changelogs, has reached them; else the replica is given back, for a later try: the group refused the offsets, or a
+/// transaction that writes to a changelog isn't decided yet.
 ///
 /// The committed offsets are asked for first and the ends then, so that nothing is committed for the task behind these ends while it is
 /// the worker's.

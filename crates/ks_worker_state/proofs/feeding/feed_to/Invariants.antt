@@ -2,7 +2,7 @@ use Rattle.std.proofs.Common.{◌≡◌, []}
 use Rattle.ks_shared.specs.Calls.{setup_in}
 use Rattle.ks_worker_client.specs.Calls.{Later}
 use Rattle.ks_worker_state.specs.Standbys.{IsFedStandby}
-use Rattle.ks_worker_state.proofs.feeding.feed_to_the_end.Given as goal
+use Rattle.ks_worker_state.proofs.feeding.feed_to.Given as goal
 
 -- it was fed, and follows
 abbrev pub invariant-loop : goal.invariant-loop

@@ -1,0 +1,16 @@
+use Rattle.std.proofs.Common.{◌≡◌, [], take}
+use Rattle.ks_shared.specs.Calls.{setup_in}
+use Rattle.ks_worker_client.specs.Calls.{Later}
+use Rattle.ks_standby.specs.Replicas.{replica_view}
+use Rattle.ks_worker_state.specs.Standbys.{IsFedStandby, HasReadStable}
+use Rattle.ks_worker_state.proofs.feeding.feed_to_ends.Given as goal
+
+-- it was fed, and has read what was stable of the changelogs so far
+abbrev pub invariant-loop-i : goal.invariant-loop-i
+invariant-loop-i g l = record {
+  later : Later g.W.Work.plan l.fn.client.pass l.client.pass;
+  made : l.client.pass.made ≡ l.fn.client.pass.made;
+  gate : l.client.gate ≡ l.fn.client.gate;
+  fed : IsFedStandby (setup_in g.W.Work.plan l.fn.client.pass.frame) l.fn.client.pass.seen l.client.pass.seen [] l.fn.replica l.replica;
+  stops : HasReadStable (setup_in g.W.Work.plan l.fn.client.pass.frame) l.fn.client.pass.seen (take l.i l.changelogs) (replica_view l.replica);
+}
