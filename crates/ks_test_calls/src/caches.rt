@@ -1,7 +1,8 @@
 //! A store with a cache, call by call.
 ghost use Rattle.std.specs.Prelude.{◌≤◌};
 
-use crate::replies::{pairs, told};
+use crate::replies::push_replies;
+use crate::stores::push_pairs;
 use ks_cache::{CachedStore, run_cached};
 use ks_row::Blob;
 use ks_store::{KvStore, OrderedStore, StoreCall};
@@ -39,18 +40,30 @@ pub fn new_cached(alloc: Global, capacity: u32) -> Result<CachedStore<OrderedSto
     }
 }
 
+fn put(alloc: Global, key: &[u8], value: &[u8]) -> Result<StoreCall, AllocError> {
+    let key = Blob::from_slice(alloc, key)?;
+    Ok(StoreCall::Put(key, Blob::from_slice(alloc, value)?))
+}
+
 // The call of a step; a flush is none.
 fn call_of(alloc: Global, step: &Step) -> Result<Option<StoreCall>, AllocError> {
     match *step {
-        Step::Put(key, value) => {
-            let key = Blob::from_slice(alloc, key)?;
-            let value = Blob::from_slice(alloc, value)?;
-            Ok(Some(StoreCall::Put(key, value)))
-        }
+        Step::Put(key, value) => Ok(Some(put(alloc, key, value)?)),
         Step::Delete(key) => Ok(Some(StoreCall::Delete(Blob::from_slice(alloc, key)?))),
         Step::Get(key) => Ok(Some(StoreCall::Get(Blob::from_slice(alloc, key)?))),
         Step::Flush => Ok(None),
     }
+}
+
+// Makes a call, and tells the reply.
+fn make_call(
+    alloc: Global,
+    store: &mut CachedStore<OrderedStore>,
+    call: StoreCall,
+    text: &mut Vec<u8>,
+) -> Result<(), AllocError> {
+    let replies = run_cached(alloc, store, &[call])?;
+    push_replies(alloc, replies.as_slice(), text)
 }
 
 // Takes a step, and tells the reply.
@@ -58,16 +71,11 @@ fn take_step(
     alloc: Global,
     store: &mut CachedStore<OrderedStore>,
     step: &Step,
-) -> Result<Vec<u8>, AllocError> {
+    text: &mut Vec<u8>,
+) -> Result<(), AllocError> {
     match call_of(alloc, step)? {
-        Some(call) => {
-            let replies = run_cached(alloc, store, &[call])?;
-            told(alloc, replies)
-        }
-        None => {
-            store.flush()?;
-            Ok(Vec::new(alloc))
-        }
+        Some(call) => make_call(alloc, store, call, text),
+        None => store.flush(),
     }
 }
 
@@ -81,16 +89,17 @@ fn push_held(
     text.extend_from_slice(b" of ")?;
     text.extend_from_slice(store.len().to_string(alloc)?.as_bytes())?;
     text.extend_from_slice(b", below ")?;
-    let below = pairs(alloc, store.inner(), b"")?;
-    text.extend_from_slice(below.as_slice())
+    push_pairs(store.inner(), b"", text)
 }
 
 #[test]
 fn the_oldest_write_goes_through(rt: HostRuntime) -> Result<(), Fail> {
     let alloc = rt.alloc();
     let mut store = new_cached(alloc, 2)?;
+    let mut text = Vec::new(alloc);
     for (step, expected) in STEPS {
-        let mut text = take_step(alloc, &mut store, step)?;
+        text.clear();
+        take_step(alloc, &mut store, step, &mut text)?;
         push_held(alloc, &mut text, &store)?;
         assert_eq!(rt; text.as_slice(), expected.as_bytes());
     }

@@ -7,11 +7,17 @@ mod caches;
 #[cfg(test)]
 mod calls;
 #[cfg(test)]
+mod given;
+#[cfg(test)]
 mod hashes;
+#[cfg(test)]
+mod joins;
 #[cfg(test)]
 mod replies;
 #[cfg(test)]
 mod rows;
+#[cfg(test)]
+mod stores;
 #[cfg(test)]
 mod tables;
 #[cfg(test)]

@@ -1,6 +1,7 @@
 //! Rows and their bytes.
 use ks_row::{Field, Name, Row, Text, decode, encode, reread};
 use std::alloc::{AllocError, Global};
+use std::process::Abort;
 use std::test::Fail;
 
 #[derive(Clone, Copy)]
@@ -34,15 +35,31 @@ fn row_of(alloc: Global, members: &[(&str, Value)]) -> Result<Option<Row>, Alloc
     Row::of(alloc, fields)
 }
 
-// The bytes of this row, once it was read from its own bytes; no byte for none.
-fn spelling(alloc: Global, row: Option<Row>) -> Result<Vec<u8>, AllocError> {
-    let Some(row) = row else {
-        return Ok(Vec::new(alloc));
-    };
-    match reread(alloc, &row)? {
-        Some(again) => Vec::from_slice(alloc, encode(alloc, &again)?.as_slice()),
-        None => Ok(Vec::new(alloc)),
+// The bytes of a row, once it was read from its own bytes.
+fn push_reread(alloc: Global, row: &Row, text: &mut Vec<u8>) -> Result<(), AllocError> {
+    match reread(alloc, row)? {
+        Some(again) => push_row(alloc, &again, text),
+        None => Ok(()),
     }
+}
+
+fn push_row(alloc: Global, row: &Row, text: &mut Vec<u8>) -> Result<(), AllocError> {
+    text.extend_from_slice(encode(alloc, row)?.as_slice())
+}
+
+// The row has these bytes, also once it was read from its own; no byte where there is no row.
+fn expect_bytes<R: Abort>(
+    rt: &R,
+    alloc: Global,
+    row: Option<Row>,
+    bytes: &[u8],
+) -> Result<(), Fail> {
+    let mut text = Vec::new(alloc);
+    if let Some(row) = &row {
+        push_reread(alloc, row, &mut text)?;
+    }
+    assert_eq!(rt; text.as_slice(), bytes);
+    Ok(())
 }
 
 /// Members in any order, and the bytes of their row; no byte where they are no row.
@@ -92,10 +109,8 @@ const NO_ROWS: &[&[u8]] = &[
 fn rows_and_their_bytes(rt: HostRuntime) -> Result<(), Fail> {
     let alloc = rt.alloc();
     for (members, bytes) in ROWS {
-        let row = row_of(alloc, members)?;
-        assert_eq!(rt; spelling(alloc, row)?.as_slice(), *bytes);
-        let read = decode(alloc, bytes)?;
-        assert_eq!(rt; spelling(alloc, read)?.as_slice(), *bytes);
+        expect_bytes(&rt, alloc, row_of(alloc, members)?, bytes)?;
+        expect_bytes(&rt, alloc, decode(alloc, bytes)?, bytes)?;
     }
     for bytes in NO_ROWS {
         assert!(rt; decode(alloc, bytes)?.is_none());

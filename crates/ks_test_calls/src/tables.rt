@@ -1,6 +1,6 @@
 //! Calls of processors and stores with their answers: of the left side of foreign-key joins, of the right side, of windows that come late,
 //! of stores.
-use crate::calls::{Call, Form};
+use crate::calls::{Asked, Call, Changed, Form};
 use ks_expr::JoinKind;
 
 /// `{"n":1}`, `{"n":2}`, `{"r":"eu"}` and `{"r":"us"}`.
@@ -23,9 +23,16 @@ const US_HASH: u128 = 0xe77c_a63a_ec1f_2367_fa54_3d7e_1906_14fc;
 pub const LEFT: &[(Call, &[u8])] = &[
     (
         Call::JoinAfter {
-            old: ONE,
-            new: TWO,
-            right: EU,
+            left: Changed {
+                key: "o1",
+                old: ONE,
+                new: TWO,
+            },
+            right: Changed {
+                key: "o1",
+                old: EU,
+                new: EU,
+            },
         },
         TWO,
     ),
@@ -33,9 +40,11 @@ pub const LEFT: &[(Call, &[u8])] = &[
         Call::Subscriptions {
             fk: Form::Field,
             part: None,
-            left: "o1",
-            old: b"",
-            new: EU,
+            left: Changed {
+                key: "o1",
+                old: b"",
+                new: EU,
+            },
         },
         b"eu \x00\x02\x8a\x26\x93\x40\xb8\x61\x16\x2c\x11\x66\x9c\x20\xb6\x0f\xac\xb3o1 ",
     ),
@@ -43,9 +52,11 @@ pub const LEFT: &[(Call, &[u8])] = &[
         Call::Subscriptions {
             fk: Form::Field,
             part: None,
-            left: "o1",
-            old: US,
-            new: US,
+            left: Changed {
+                key: "o1",
+                old: US,
+                new: US,
+            },
         },
         b"us \x00\x02\xe7\x7c\xa6\x3a\xec\x1f\x23\x67\xfa\x54\x3d\x7e\x19\x06\x14\xfco1 ",
     ),
@@ -53,9 +64,11 @@ pub const LEFT: &[(Call, &[u8])] = &[
         Call::Subscriptions {
             fk: Form::Field,
             part: None,
-            left: "o1",
-            old: US,
-            new: EU,
+            left: Changed {
+                key: "o1",
+                old: US,
+                new: EU,
+            },
         },
         b"us \x00\x00\x8a\x26\x93\x40\xb8\x61\x16\x2c\x11\x66\x9c\x20\xb6\x0f\xac\xb3o1 eu \x00\x02\x8a\x26\x93\x40\xb8\x61\x16\x2c\x11\x66\x9c\x20\xb6\x0f\xac\xb3o1 ",
     ),
@@ -63,9 +76,11 @@ pub const LEFT: &[(Call, &[u8])] = &[
         Call::Subscriptions {
             fk: Form::Field,
             part: None,
-            left: "o1",
-            old: US,
-            new: b"",
+            left: Changed {
+                key: "o1",
+                old: US,
+                new: b"",
+            },
         },
         b"us \x80\x01o1 ",
     ),
@@ -73,9 +88,11 @@ pub const LEFT: &[(Call, &[u8])] = &[
         Call::Subscriptions {
             fk: Form::Field,
             part: None,
-            left: "o1",
-            old: US,
-            new: ONE,
+            left: Changed {
+                key: "o1",
+                old: US,
+                new: ONE,
+            },
         },
         b"us \x00\x00\x37\xf2\x25\x4e\x3c\xe3\xe5\xe6\xc7\x77\xbc\x37\x5a\x8c\x46\xeco1 direct",
     ),
@@ -133,9 +150,11 @@ pub const FORMS: &[(Call, &[u8])] = &[
         Call::Subscriptions {
             fk: Form::Whole,
             part: None,
-            left: "c1",
-            old: US,
-            new: EU,
+            left: Changed {
+                key: "c1",
+                old: US,
+                new: EU,
+            },
         },
         b"c1 \x00\x02\x8a\x26\x93\x40\xb8\x61\x16\x2c\x11\x66\x9c\x20\xb6\x0f\xac\xb3c1 ",
     ),
@@ -143,9 +162,11 @@ pub const FORMS: &[(Call, &[u8])] = &[
         Call::Subscriptions {
             fk: Form::Before,
             part: None,
-            left: "c1/o1",
-            old: b"",
-            new: EU,
+            left: Changed {
+                key: "c1/o1",
+                old: b"",
+                new: EU,
+            },
         },
         b"c1 \x00\x02\x8a\x26\x93\x40\xb8\x61\x16\x2c\x11\x66\x9c\x20\xb6\x0f\xac\xb3c1/o1 ",
     ),
@@ -153,9 +174,11 @@ pub const FORMS: &[(Call, &[u8])] = &[
         Call::Subscriptions {
             fk: Form::Before,
             part: None,
-            left: "c1/o1/2",
-            old: US,
-            new: b"",
+            left: Changed {
+                key: "c1/o1/2",
+                old: US,
+                new: b"",
+            },
         },
         b"c1 \x80\x01c1/o1/2 ",
     ),
@@ -163,9 +186,11 @@ pub const FORMS: &[(Call, &[u8])] = &[
         Call::Subscriptions {
             fk: Form::Before,
             part: Some(3),
-            left: "/o1",
-            old: b"",
-            new: EU,
+            left: Changed {
+                key: "/o1",
+                old: b"",
+                new: EU,
+            },
         },
         b"direct",
     ),
@@ -173,9 +198,11 @@ pub const FORMS: &[(Call, &[u8])] = &[
         Call::Subscriptions {
             fk: Form::Before,
             part: Some(3),
-            left: "o1",
-            old: EU,
-            new: b"",
+            left: Changed {
+                key: "o1",
+                old: EU,
+                new: b"",
+            },
         },
         b"direct",
     ),
@@ -183,9 +210,11 @@ pub const FORMS: &[(Call, &[u8])] = &[
         Call::Subscriptions {
             fk: Form::Field,
             part: Some(3),
-            left: "o1",
-            old: US,
-            new: EU,
+            left: Changed {
+                key: "o1",
+                old: US,
+                new: EU,
+            },
         },
         b"us \x01\x00\x8a\x26\x93\x40\xb8\x61\x16\x2c\x11\x66\x9c\x20\xb6\x0f\xac\xb3o1\x00\x00\x00\x03 eu \x01\x02\x8a\x26\x93\x40\xb8\x61\x16\x2c\x11\x66\x9c\x20\xb6\x0f\xac\xb3o1\x00\x00\x00\x03 ",
     ),
@@ -193,9 +222,11 @@ pub const FORMS: &[(Call, &[u8])] = &[
         Call::Subscriptions {
             fk: Form::Field,
             part: Some(63),
-            left: "o1",
-            old: US,
-            new: b"",
+            left: Changed {
+                key: "o1",
+                old: US,
+                new: b"",
+            },
         },
         b"us \x81\x01o1\x00\x00\x00\x3f ",
     ),
@@ -205,10 +236,12 @@ pub const FORMS: &[(Call, &[u8])] = &[
 pub const RIGHT: &[(Call, &[u8])] = &[
     (
         Call::OnSubscription {
-            hash: Some(7),
-            instruction: 3,
-            left: "o1",
-            part: None,
+            asked: Asked {
+                hash: Some(7),
+                instruction: 3,
+                left: "o1",
+                part: None,
+            },
             right: b"",
         },
         b"no answer",
@@ -221,34 +254,46 @@ pub const RIGHT: &[(Call, &[u8])] = &[
     ),
     (
         Call::OnSubscription {
-            hash: Some(7),
-            instruction: 3,
-            left: "o1",
-            part: None,
+            asked: Asked {
+                hash: Some(7),
+                instruction: 3,
+                left: "o1",
+                part: None,
+            },
             right: EU,
         },
         b"\x00\x00\x00\x00\x00\x00\x00\x00\x00\x00\x00\x00\x00\x00\x00\x00\x07\x01\x01r\x01\x00\x00\x00\x02eu",
     ),
     (
         Call::OnSubscription {
-            hash: Some(8),
-            instruction: 2,
-            left: "a",
-            part: None,
+            asked: Asked {
+                hash: Some(8),
+                instruction: 2,
+                left: "a",
+                part: None,
+            },
             right: b"",
         },
         b"\x00\x00\x00\x00\x00\x00\x00\x00\x00\x00\x00\x00\x00\x00\x00\x00\x08",
     ),
     (
-        Call::OnRight { old: EU, new: US },
+        Call::OnRight {
+            right: Changed {
+                key: "c1",
+                old: EU,
+                new: US,
+            },
+        },
         b"a \x00\x00\x00\x00\x00\x00\x00\x00\x00\x00\x00\x00\x00\x00\x00\x00\x08\x01\x01r\x01\x00\x00\x00\x02us o1 \x00\x00\x00\x00\x00\x00\x00\x00\x00\x00\x00\x00\x00\x00\x00\x00\x07\x01\x01r\x01\x00\x00\x00\x02us ",
     ),
     (
         Call::OnSubscription {
-            hash: Some(9),
-            instruction: 0,
-            left: "o1",
-            part: None,
+            asked: Asked {
+                hash: Some(9),
+                instruction: 0,
+                left: "o1",
+                part: None,
+            },
             right: EU,
         },
         b"no answer",
@@ -256,26 +301,39 @@ pub const RIGHT: &[(Call, &[u8])] = &[
     (Call::Length, b"1"),
     (
         Call::OnSubscription {
-            hash: None,
-            instruction: 1,
-            left: "a",
-            part: None,
+            asked: Asked {
+                hash: None,
+                instruction: 1,
+                left: "a",
+                part: None,
+            },
             right: ONE,
         },
         b"\x80",
     ),
     (Call::Length, b"0"),
-    (Call::OnRight { old: US, new: b"" }, b""),
+    (
+        Call::OnRight {
+            right: Changed {
+                key: "c1",
+                old: US,
+                new: b"",
+            },
+        },
+        b"",
+    ),
 ];
 
 /// The right side with partitions that are named: the store keeps them, and each answer goes to its own.
 pub const NAMED: &[(Call, &[u8])] = &[
     (
         Call::OnSubscription {
-            hash: Some(7),
-            instruction: 2,
-            left: "abc/21",
-            part: Some(3),
+            asked: Asked {
+                hash: Some(7),
+                instruction: 2,
+                left: "abc/21",
+                part: Some(3),
+            },
             right: EU,
         },
         b"\x00\x00\x00\x00\x00\x00\x00\x00\x00\x00\x00\x00\x00\x00\x00\x00\x07\x01\x01r\x01\x00\x00\x00\x02euto 3",
@@ -288,44 +346,58 @@ pub const NAMED: &[(Call, &[u8])] = &[
     ),
     (
         Call::OnSubscription {
-            hash: Some(8),
-            instruction: 3,
-            left: "21/abc",
-            part: Some(0),
+            asked: Asked {
+                hash: Some(8),
+                instruction: 3,
+                left: "21/abc",
+                part: Some(0),
+            },
             right: b"",
         },
         b"no answer",
     ),
     (
         Call::OnSubscription {
-            hash: Some(9),
-            instruction: 2,
-            left: "o1",
-            part: None,
+            asked: Asked {
+                hash: Some(9),
+                instruction: 2,
+                left: "o1",
+                part: None,
+            },
             right: b"",
         },
         b"\x00\x00\x00\x00\x00\x00\x00\x00\x00\x00\x00\x00\x00\x00\x00\x00\x09",
     ),
     (
-        Call::OnRight { old: EU, new: US },
+        Call::OnRight {
+            right: Changed {
+                key: "c1",
+                old: EU,
+                new: US,
+            },
+        },
         b"21/abc \x00\x00\x00\x00\x00\x00\x00\x00\x00\x00\x00\x00\x00\x00\x00\x00\x08\x01\x01r\x01\x00\x00\x00\x02usto 0 abc/21 \x00\x00\x00\x00\x00\x00\x00\x00\x00\x00\x00\x00\x00\x00\x00\x00\x07\x01\x01r\x01\x00\x00\x00\x02usto 3 o1 \x00\x00\x00\x00\x00\x00\x00\x00\x00\x00\x00\x00\x00\x00\x00\x00\x09\x01\x01r\x01\x00\x00\x00\x02us ",
     ),
     (
         Call::OnSubscription {
-            hash: None,
-            instruction: 1,
-            left: "abc/21",
-            part: Some(3),
+            asked: Asked {
+                hash: None,
+                instruction: 1,
+                left: "abc/21",
+                part: Some(3),
+            },
             right: EU,
         },
         b"\x80to 3",
     ),
     (
         Call::OnSubscription {
-            hash: Some(8),
-            instruction: 0,
-            left: "21/abc",
-            part: Some(0),
+            asked: Asked {
+                hash: Some(8),
+                instruction: 0,
+                left: "21/abc",
+                part: Some(0),
+            },
             right: EU,
         },
         b"no answer",

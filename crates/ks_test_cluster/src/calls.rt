@@ -474,47 +474,7 @@ fn status(alloc: Global, cluster: &Cluster<Copying>) -> Result<String, AllocErro
     Ok(text)
 }
 
-/// Makes a call that writes, and answers with a text; None for a call that reads.
-fn write(
-    alloc: Global,
-    cluster: &mut Cluster<Copying>,
-    recs: &OneRecord,
-    call: &Call,
-) -> Result<Option<String>, AllocError>
-    requires { IsOurs cluster.old }
-    ensures { OnOk result (IsOurs cluster.new) }
-{
-    let told = match *call {
-        Call::Produce { topic } => produce(alloc, cluster, topic, &recs.rec)?,
-        Call::Init { w } => init(alloc, cluster, w)?,
-        Call::Add { w, epoch, topic } => add(alloc, cluster, w, epoch, topic)?,
-        Call::Append {
-            w,
-            epoch,
-            number,
-            topic,
-        } => append(alloc, cluster, w, epoch, number, topic, &recs.list)?,
-        Call::SendOffset {
-            w,
-            epoch,
-            generation,
-            offset,
-        } => send_offset(alloc, cluster, w, epoch, generation, offset)?,
-        Call::Abort { w, epoch } => abort(alloc, cluster, w, epoch)?,
-        Call::ExpireAndCommit { w, epoch } => expire_and_commit(alloc, cluster, w, epoch)?,
-        Call::MarkNext { w } => mark_next(alloc, cluster, w)?,
-        Call::Join { w } => join(alloc, cluster, w)?,
-        Call::Assign { w, generation } => assign(alloc, cluster, w, generation)?,
-        Call::Hold { w, position } => hold(alloc, cluster, w, position)?,
-        Call::Probe { w, generation } => probe(alloc, cluster, w, generation)?,
-        Call::Park { instance } => park(alloc, cluster, instance)?,
-        Call::Unpark { instance } => unpark(alloc, cluster, instance)?,
-        _ => return Ok(None),
-    };
-    Ok(Some(told))
-}
-
-/// Makes a call that reads, and answers with a text.
+// Makes a call that reads, and answers with a text.
 fn read(alloc: Global, cluster: &Cluster<Copying>, call: &Call) -> Result<String, AllocError>
     requires { IsOurs cluster.now }
 {
@@ -531,6 +491,22 @@ fn read(alloc: Global, cluster: &Cluster<Copying>, call: &Call) -> Result<String
     }
 }
 
+// Makes a call of the group, or one that reads, and answers with a text.
+fn ask(alloc: Global, cluster: &mut Cluster<Copying>, call: &Call) -> Result<String, AllocError>
+    requires { IsOurs cluster.old }
+    ensures { OnOk result (IsOurs cluster.new) }
+{
+    match *call {
+        Call::Join { w } => join(alloc, cluster, w),
+        Call::Assign { w, generation } => assign(alloc, cluster, w, generation),
+        Call::Hold { w, position } => hold(alloc, cluster, w, position),
+        Call::Probe { w, generation } => probe(alloc, cluster, w, generation),
+        Call::Park { instance } => park(alloc, cluster, instance),
+        Call::Unpark { instance } => unpark(alloc, cluster, instance),
+        _ => read(alloc, cluster, call),
+    }
+}
+
 /// Makes a call, and answers with a text.
 pub fn answer(
     alloc: Global,
@@ -541,8 +517,25 @@ pub fn answer(
     requires { IsOurs cluster.old }
     ensures { OnOk result (IsOurs cluster.new) }
 {
-    if let Some(told) = write(alloc, cluster, recs, call)? {
-        return Ok(told);
+    match *call {
+        Call::Produce { topic } => produce(alloc, cluster, topic, &recs.rec),
+        Call::Init { w } => init(alloc, cluster, w),
+        Call::Add { w, epoch, topic } => add(alloc, cluster, w, epoch, topic),
+        Call::Append {
+            w,
+            epoch,
+            number,
+            topic,
+        } => append(alloc, cluster, w, epoch, number, topic, &recs.list),
+        Call::SendOffset {
+            w,
+            epoch,
+            generation,
+            offset,
+        } => send_offset(alloc, cluster, w, epoch, generation, offset),
+        Call::Abort { w, epoch } => abort(alloc, cluster, w, epoch),
+        Call::ExpireAndCommit { w, epoch } => expire_and_commit(alloc, cluster, w, epoch),
+        Call::MarkNext { w } => mark_next(alloc, cluster, w),
+        _ => ask(alloc, cluster, call),
     }
-    read(alloc, cluster, call)
 }

@@ -175,73 +175,100 @@ fn record_at(ts: u64) -> RecordRef<'static> {
     }
 }
 
-fn append(
+fn list_of(alloc: Global, ts: u64) -> Result<SharedRecords, AllocError> {
+    let mut recs = RecordList::new(alloc);
+    recs.push(record_at(ts))?;
+    SharedRecords::of(alloc, recs)
+}
+
+fn push_plain(
+    alloc: Global,
+    part: &mut Part,
+    ts: u64,
+    text: &mut String,
+) -> Result<(), AllocError> {
+    let at = part.append_plain(Rec::of(alloc, record_at(ts))?)?;
+    write!(text, "{at}")
+}
+
+fn push_append(
     alloc: Global,
     part: &mut Part,
     producer: u8,
     epoch: u64,
-    number: u64,
-    ts: u64,
-) -> Result<String, AllocError> {
-    let mut recs = RecordList::new(alloc);
-    recs.push(record_at(ts))?;
-    match part.append(
-        producer,
-        epoch,
-        number,
-        TASK,
-        SharedRecords::of(alloc, recs)?,
-    )? {
-        Ok(first) => format!(in alloc; "{first}"),
-        Err(missed) => format!(in alloc; "the next number is {}", missed.expected),
+    record: (u64, u64),
+    text: &mut String,
+) -> Result<(), AllocError> {
+    let (number, ts) = record;
+    match part.append(producer, epoch, number, TASK, list_of(alloc, ts)?)? {
+        Ok(first) => write!(text, "{first}"),
+        Err(missed) => write!(text, "the next number is {}", missed.expected),
     }
 }
 
-fn read(alloc: Global, part: &Part, from: u64, max: u32) -> Result<String, AllocError> {
+fn push_mark(
+    part: &mut Part,
+    producer: u8,
+    epoch: u64,
+    commit: bool,
+    text: &mut String,
+) -> Result<(), AllocError> {
+    let at = part.mark(producer, epoch, commit)?;
+    write!(text, "{at}")
+}
+
+fn push_read(
+    alloc: Global,
+    part: &Part,
+    from: u64,
+    max: u32,
+    text: &mut String,
+) -> Result<(), AllocError> {
     let (recs, next) = part.read_committed(alloc, from, max)?;
-    let mut text = String::new(alloc);
     for (offset, rec) in &recs {
         write!(text, "{offset}: {}, ", rec.ts())?;
     }
-    write!(text, "to {next}")?;
-    Ok(text)
+    write!(text, "to {next}")
 }
 
-/// Makes a call that writes, and answers with its offset or refusal; None for one that reads.
-fn written(alloc: Global, part: &mut Part, call: &PartCall) -> Result<Option<String>, AllocError> {
-    let told = match *call {
-        PartCall::Plain { ts } => {
-            let at = part.append_plain(Rec::of(alloc, record_at(ts))?)?;
-            format!(in alloc; "{at}")?
-        }
+// Where the partition ends, and is stable.
+fn push_ends(part: &Part, text: &mut String) -> Result<(), AllocError> {
+    write!(text, ", end {}, stable {}", part.end(), part.stable())
+}
+
+/// Makes a call, and answers with its offset or refusal, or with what is read.
+fn push_answer(
+    alloc: Global,
+    part: &mut Part,
+    call: &PartCall,
+    text: &mut String,
+) -> Result<(), AllocError> {
+    match *call {
+        PartCall::Plain { ts } => push_plain(alloc, part, ts, text),
         PartCall::Append {
             producer,
             epoch,
             number,
             ts,
-        } => append(alloc, part, producer, epoch, number, ts)?,
+        } => push_append(alloc, part, producer, epoch, (number, ts), text),
         PartCall::Mark {
             producer,
             epoch,
             commit,
-        } => {
-            let at = part.mark(producer, epoch, commit)?;
-            format!(in alloc; "{at}")?
-        }
-        PartCall::Read { .. } => return Ok(None),
-    };
-    Ok(Some(told))
+        } => push_mark(part, producer, epoch, commit, text),
+        PartCall::Read { from, max } => push_read(alloc, part, from, max, text),
+    }
 }
 
 /// Makes a call, and answers with a text, after a call that writes with where the partition then ends and is stable.
 fn answer(alloc: Global, part: &mut Part, call: &PartCall) -> Result<String, AllocError> {
-    if let Some(told) = written(alloc, part, call)? {
-        return format!(in alloc; "{told}, end {}, stable {}", part.end(), part.stable());
-    }
+    let mut text = String::new(alloc);
+    push_answer(alloc, part, call, &mut text)?;
     match *call {
-        PartCall::Read { from, max } => read(alloc, part, from, max),
-        _ => Ok(String::new(alloc)),
+        PartCall::Read { .. } => {}
+        _ => push_ends(part, &mut text)?,
     }
+    Ok(text)
 }
 
 fn run_all<R: Abort>(rt: &R, alloc: Global, table: &[(PartCall, &str)]) -> Result<(), Fail> {

@@ -1,5 +1,5 @@
 //! What a report says of a cluster of one table, at the stages of one commit.
-ghost use Rattle.std.specs.Prelude.{◌≡◌, IfOk};
+ghost use Rattle.std.specs.Prelude.{◌≡◌, ◌∷◌, [], IfOk};
 ghost use Rattle.ks_plan.specs.Drafts.{draft_view};
 ghost use Rattle.ks_topo.specs.Topologies.{draft_of};
 ghost use Rattle.ks_test_cluster.specs.Ours.{IsOurs};
@@ -8,7 +8,7 @@ ghost use Rattle.ks_test_cluster.specs.Table.{table_draft};
 use crate::calls::fetch;
 use crate::commit::{decided, marked, produced, sent};
 use crate::copying::Copying;
-use crate::tables::record;
+use crate::tables::{OneRecord, record};
 use ks_cluster::Cluster;
 use ks_hash::Murmur3;
 use ks_plan::{Draft, NodeDraft, Op, TopicDraft};
@@ -88,30 +88,74 @@ fn told<R: Threads + Sync>(
 
 const BEHIND: &str = "settled false, pending 0, 0/0 committed 0 end 1";
 
+// The report tells this.
+fn expect<R: Threads + Sync + Abort>(
+    rt: &R,
+    alloc: Global,
+    cluster: &Cluster<Copying>,
+    topology: &Topology,
+    expected: &str,
+) -> Result<(), Fail>
+    requires ours { IsOurs cluster.now }
+    requires table { draft_of topology.now ≡ table_draft }
+{
+    let text = told(rt, alloc, cluster, topology)?;
+    assert_eq!(rt; text.as_str(), expected);
+    Ok(())
+}
+
+// What was read and isn't committed doesn't count.
+fn expect_behind<R: Threads + Sync + Abort>(
+    rt: &R,
+    alloc: Global,
+    cluster: Cluster<Copying>,
+    topology: &Topology,
+) -> Result<(), Fail>
+    requires ours { IsOurs cluster }
+    requires table { draft_of topology.now ≡ table_draft }
+{
+    expect(rt, alloc, &cluster, topology, BEHIND)?;
+    assert_eq!(rt; fetch(alloc, &cluster, 0, 0, 10)?.as_str(), "1 to 1");
+    expect(rt, alloc, &cluster, topology, BEHIND)
+}
+
+// The report on a cluster that goes then tells this.
+fn expect_last<R: Threads + Sync + Abort>(
+    rt: &R,
+    alloc: Global,
+    cluster: Cluster<Copying>,
+    topology: &Topology,
+    expected: &str,
+) -> Result<(), Fail>
+    requires ours { IsOurs cluster }
+    requires table { draft_of topology.now ≡ table_draft }
+{
+    expect(rt, alloc, &cluster, topology, expected)
+}
+
+// At each stage of a commit of this record.
+fn expect_stages<R: Threads + Sync + Abort>(
+    rt: &R,
+    alloc: Global,
+    topology: &Topology,
+    recs: &OneRecord,
+) -> Result<(), Fail>
+    requires table { draft_of topology.now ≡ table_draft }
+    requires one { recs.now.list ≡ recs.now.rec ∷ [] }
+{
+    let (rec, list) = (&recs.rec, &recs.list);
+    expect_behind(rt, alloc, produced(alloc, rec)?, topology)?;
+    let pending = "settled false, pending 1, 0/0 committed 0 end 1";
+    expect_last(rt, alloc, sent(alloc, rec, list)?, topology, pending)?;
+    let is_decided = "settled false, pending 1";
+    expect_last(rt, alloc, decided(alloc, rec, list)?, topology, is_decided)?;
+    let is_marked = "settled true, pending 0";
+    expect_last(rt, alloc, marked(alloc, rec, list)?, topology, is_marked)
+}
+
 #[test]
 fn a_report_at_each_stage_of_a_commit(rt: HostRuntime) -> Result<(), Fail> {
     let alloc = rt.alloc();
     let topology = topology(&rt, alloc)?;
-    let recs = record(alloc)?;
-    let cluster = produced(alloc, &recs.rec)?;
-    assert_eq!(rt; told(&rt, alloc, &cluster, &topology)?.as_str(), BEHIND);
-    // What was read and isn't committed doesn't count.
-    assert_eq!(rt; fetch(alloc, &cluster, 0, 0, 10)?.as_str(), "1 to 1");
-    assert_eq!(rt; told(&rt, alloc, &cluster, &topology)?.as_str(), BEHIND);
-    let cluster = sent(alloc, &recs.rec, &recs.list)?;
-    assert_eq!(rt;
-        told(&rt, alloc, &cluster, &topology)?.as_str(),
-        "settled false, pending 1, 0/0 committed 0 end 1"
-    );
-    let cluster = decided(alloc, &recs.rec, &recs.list)?;
-    assert_eq!(rt;
-        told(&rt, alloc, &cluster, &topology)?.as_str(),
-        "settled false, pending 1"
-    );
-    let cluster = marked(alloc, &recs.rec, &recs.list)?;
-    assert_eq!(rt;
-        told(&rt, alloc, &cluster, &topology)?.as_str(),
-        "settled true, pending 0"
-    );
-    Ok(())
+    expect_stages(&rt, alloc, &topology, &record(alloc)?)
 }

@@ -296,22 +296,27 @@ fn run_all<R: Abort>(
     Ok(cluster)
 }
 
+// A reply, as a line.
+fn push_reply(text: &mut String, reply: &Reply) -> Result<(), AllocError> {
+    match reply {
+        Reply::Done => writeln!(text, "done"),
+        Reply::Number(number) => writeln!(text, "{number}"),
+        Reply::Truth(truth) => writeln!(text, "{truth}"),
+        Reply::Mark(None) => writeln!(text, "no marker"),
+        Reply::Mark(Some((part, commit))) => writeln!(
+            text,
+            "{}/{} {commit}",
+            part.topic, part.part
+        ),
+        Reply::Refused(refused) => writeln!(text, "{refused}"),
+    }
+}
+
 /// The replies that a journal keeps, one a line.
 fn replies(alloc: Global, cluster: &Cluster<Copying>) -> Result<String, AllocError> {
     let mut text = String::new(alloc);
     for entry in cluster.journal() {
-        match &entry.reply {
-            Reply::Done => writeln!(text, "done")?,
-            Reply::Number(number) => writeln!(text, "{number}")?,
-            Reply::Truth(truth) => writeln!(text, "{truth}")?,
-            Reply::Mark(None) => writeln!(text, "no marker")?,
-            Reply::Mark(Some((part, commit))) => writeln!(
-                text,
-                "{}/{} {commit}",
-                part.topic, part.part
-            )?,
-            Reply::Refused(refused) => writeln!(text, "{refused}")?,
-        }
+        push_reply(&mut text, &entry.reply)?;
     }
     Ok(text)
 }

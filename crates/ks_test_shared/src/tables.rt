@@ -79,6 +79,54 @@ fn own<R: Wait>(
     }
 }
 
+fn write_marker<R: Wait>(
+    rt: &R,
+    alloc: Global,
+    shared: &Shared<Copying>,
+    pass: &mut Pass<SharedState<Copying>>,
+) -> Result<String, AllocError>
+    requires ours { IsOurs shared.now.growing.id pass.old }
+    ensures ours { IsOurs shared.now.growing.id pass.new }
+    ensures number { pass.new.number ≡ pass.old.number }
+{
+    match mark(rt, alloc, shared, pass)? {
+        Some((part, commit)) => format!(in alloc; "{}/{} {commit}", part.topic, part.part),
+        None => String::from_str(alloc, "none"),
+    }
+}
+
+fn park_fed<R: Wait>(
+    rt: &R,
+    alloc: Global,
+    shared: &Shared<Copying>,
+    pass: &mut Pass<SharedState<Copying>>,
+) -> Result<String, AllocError>
+    requires ours { IsOurs shared.now.growing.id pass.old }
+    ensures ours { IsOurs shared.now.growing.id pass.new }
+    ensures number { pass.new.number ≡ pass.old.number }
+{
+    let replica = feed(rt, alloc, shared, pass)?;
+    let position = replica.position(1);
+    park(rt, alloc, shared, replica, pass)?;
+    format!(in alloc; "parked at {position}")
+}
+
+fn take_back<R: Wait>(
+    rt: &R,
+    alloc: Global,
+    shared: &Shared<Copying>,
+    pass: &mut Pass<SharedState<Copying>>,
+) -> Result<String, AllocError>
+    requires ours { IsOurs shared.now.growing.id pass.old }
+    ensures ours { IsOurs shared.now.growing.id pass.new }
+    ensures number { pass.new.number ≡ pass.old.number }
+{
+    match unpark(rt, alloc, shared, pass)? {
+        Some(replica) => format!(in alloc; "at {}", replica.position(1)),
+        None => String::from_str(alloc, "none"),
+    }
+}
+
 fn answer<R: Wait>(
     rt: &R,
     alloc: Global,
@@ -92,20 +140,9 @@ fn answer<R: Wait>(
     ensures number { pass.new.number ≡ pass.old.number }
 {
     match call {
-        Call::Mark => match mark(rt, alloc, shared, pass)? {
-            Some((part, commit)) => format!(in alloc; "{}/{} {commit}", part.topic, part.part),
-            None => String::from_str(alloc, "none"),
-        },
-        Call::Park => {
-            let replica = feed(rt, alloc, shared, pass)?;
-            let position = replica.position(1);
-            park(rt, alloc, shared, replica, pass)?;
-            format!(in alloc; "parked at {position}")
-        }
-        Call::Unpark => match unpark(rt, alloc, shared, pass)? {
-            Some(replica) => format!(in alloc; "at {}", replica.position(1)),
-            None => String::from_str(alloc, "none"),
-        },
+        Call::Mark => write_marker(rt, alloc, shared, pass),
+        Call::Park => park_fed(rt, alloc, shared, pass),
+        Call::Unpark => take_back(rt, alloc, shared, pass),
         _ => own(rt, alloc, shared, call, last, pass),
     }
 }

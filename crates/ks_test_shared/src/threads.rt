@@ -9,6 +9,7 @@ use ks_row::{Rec, RecordRef};
 use ks_shared::{Shared, SharedState};
 use ks_test_cluster::copying::Copying;
 use std::alloc::{AllocError, Global};
+use std::process::Abort;
 use std::sync::Wait;
 use std::test::Fail;
 use std::thread::join_mut;
@@ -55,6 +56,17 @@ fn renew<R: Wait>(
     Ok(())
 }
 
+// The records are all there, in their order.
+fn expect_all<R: Abort>(rt: &R, recs: &[(u64, Rec)]) {
+    assert_eq!(rt; recs.len(), 100);
+    let mut expected = 0u64;
+    for (offset, rec) in recs {
+        assert_eq!(rt; *offset, expected);
+        assert_eq!(rt; rec.ts(), expected);
+        expected = expected.wrapping_add(1);
+    }
+}
+
 #[test]
 fn two_threads(rt: HostRuntime) -> Result<(), Fail> {
     let alloc = rt.alloc();
@@ -72,13 +84,7 @@ fn two_threads(rt: HostRuntime) -> Result<(), Fail> {
     fed?;
     renewed?;
     let recs = fetch(&rt, alloc, &shared, 0, &mut second)?.0;
-    assert_eq!(rt; recs.len(), 100);
-    let mut expected = 0u64;
-    for (offset, rec) in recs.as_slice() {
-        assert_eq!(rt; *offset, expected);
-        assert_eq!(rt; rec.ts(), expected);
-        expected = expected.wrapping_add(1);
-    }
+    expect_all(&rt, recs.as_slice());
     let locked = Locked {
         shared,
         first,

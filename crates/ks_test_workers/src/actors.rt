@@ -16,6 +16,9 @@ use std::alloc::{AllocError, Global};
 use std::sync::Wait;
 use std::sync::atomic::AtomicBool;
 
+/// How many writes each store of the workers' tasks holds back, and of the drain's.
+pub const CACHE: u32 = 2;
+
 /// A worker, and how many more turns and acts it has at most.
 #[derive(Drop)]
 pub struct Actor<W: Work, G: Gate> {
@@ -40,7 +43,7 @@ pub fn new_actor<W: Work, G: Gate>(
     ensures left { result.left ≡ 1000 }
 {
     gate.reset(number, None, 100);
-    let worker = Worker::new(alloc, number, instance, placing, gate, pass, 0);
+    let worker = Worker::new(alloc, number, instance, placing, gate, pass, CACHE);
     Actor { worker, left: 1000 }
 }
 

@@ -9,7 +9,7 @@ ghost use Rattle.ks_test_workers.specs.Pairs.{MayPlay, IsReady};
 
 use crate::actors::{Actor, new_actor};
 use crate::scenes::{Does, Move, Scene, Who};
-use crate::telling::told;
+use crate::telling::{lent, told};
 use ks_cluster::{Cluster, Work};
 use ks_edge::{Act, Gate, ScriptGate};
 use ks_growing::Pass;
@@ -58,13 +58,19 @@ fn acts_of(alloc: Global, moves: &[Move], who: Who) -> Result<Vec<Act>, AllocErr
     Ok(acts)
 }
 
-// Where the first worker is cut off.
-fn cuts_of(alloc: Global, scene: &Scene) -> Result<Vec<(u64, u32)>, AllocError> {
+// Where a worker is cut off: the first one where the scene says so.
+fn cuts_of(alloc: Global, scene: &Scene, who: Who) -> Result<Vec<(u64, u32)>, AllocError> {
     let mut cuts = Vec::new(alloc);
-    if let Some(cut) = scene.cut {
+    if let (Who::First, Some(cut)) = (who, scene.cut) {
         cuts.push(cut)?;
     }
     Ok(cuts)
+}
+
+// The gate of one of the workers.
+fn gate_of(alloc: Global, scene: &Scene, who: Who) -> Result<ScriptGate, AllocError> {
+    let acts = acts_of(alloc, scene.moves, who)?;
+    Ok(ScriptGate::new(acts, cuts_of(alloc, scene, who)?))
 }
 
 // The instance of the second worker; the first one's is 0.
@@ -88,28 +94,13 @@ fn enlist<W: Work>(
     ensures two { IfOk result (λ p. IsEnlisted p.two.worker.state × (p.two.left ≡ 1000)
         × (p.two.worker.placing ≡ scene.now.placing)) }
 {
-    let acts = acts_of(alloc, scene.moves, Who::First)?;
-    let cuts = cuts_of(alloc, scene)?;
-    let others = acts_of(alloc, scene.moves, Who::Second)?;
+    let one = gate_of(alloc, scene, Who::First)?;
+    let two = gate_of(alloc, scene, Who::Second)?;
     let (first, rest) = split_first(passes);
     let (second, _none) = split_first(rest);
     Ok(Pair {
-        one: new_actor(
-            alloc,
-            0,
-            0,
-            scene.placing,
-            ScriptGate::new(acts, cuts),
-            first,
-        ),
-        two: new_actor(
-            alloc,
-            1,
-            other_instance(scene),
-            scene.placing,
-            ScriptGate::new(others, Vec::new(alloc)),
-            second,
-        ),
+        one: new_actor(alloc, 0, 0, scene.placing, one, first),
+        two: new_actor(alloc, 1, other_instance(scene), scene.placing, two, second),
     })
 }
 
@@ -130,10 +121,16 @@ fn make_move<H: Hash128, R: Wait, W: Work, G: Gate>(
         ≡ pass_key actor.old.worker.state.session.client.pass }
 {
     match does {
-        Does::Turn(_) => actor.take_turn::<H, R>(rt, alloc, topology, shared)?,
-        Does::Act(act) => actor.perform::<H, R>(rt, alloc, topology, shared, act)?,
+        Does::Turn(_) => {
+            actor.take_turn::<H, R>(rt, alloc, topology, shared)?;
+            told(alloc, topology, &actor.worker.state)
+        }
+        Does::Act(act) => {
+            actor.perform::<H, R>(rt, alloc, topology, shared, act)?;
+            told(alloc, topology, &actor.worker.state)
+        }
+        Does::Lend(at_least) => lent(alloc, topology, &actor.worker.state, at_least),
     }
-    told(alloc, topology, &actor.worker.state)
 }
 
 // One of two workers does what a move says.

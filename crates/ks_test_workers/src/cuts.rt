@@ -1,13 +1,11 @@
 //! A commit that is cut off at each of its steps, and a later turn at its first.
-use crate::plays::play_job;
 use crate::scenes::{Does, Move, Scene, Who};
-use crate::workers::{LOST, ORDER, SHOWN, TOGETHER};
+use crate::workers::{LOST, TOGETHER, expect, play_order};
 use ks_edge::Act;
-use ks_hash::Murmur3;
 use std::test::Fail;
 
 /// How many steps the worker's turn, a further act and a commit have together.
-const STEPS: u32 = 32;
+const STEPS: u32 = 28;
 
 /// The worker reads both topics and is cut off, at the latest in its commit.
 const CUT: &[Move<'static>] = &[
@@ -79,10 +77,7 @@ fn a_commit_is_cut_off_at_each_step(rt: HostRuntime) -> Result<(), Fail> {
             lines: "",
             appends: 0,
         };
-        let Some(played) = play_job::<Murmur3, HostRuntime>(&rt, alloc, ORDER, &scene)? else {
-            panic!(rt)
-        };
-        assert_eq!(rt; played.text.as_slice(), SHOWN.as_bytes());
+        play_order(&rt, alloc, &scene)?;
     }
     Ok(())
 }
@@ -90,12 +85,5 @@ fn a_commit_is_cut_off_at_each_step(rt: HostRuntime) -> Result<(), Fail> {
 /// The steps count from 0 in each turn.
 #[test]
 fn a_later_turn_is_cut_off_at_its_first_step(rt: HostRuntime) -> Result<(), Fail> {
-    let alloc = rt.alloc();
-    let Some(played) = play_job::<Murmur3, HostRuntime>(&rt, alloc, ORDER, &CUT_LATER)? else {
-        panic!(rt)
-    };
-    assert_eq!(rt; played.lines.as_slice(), CUT_LATER.lines.as_bytes());
-    assert_eq!(rt; played.appends, CUT_LATER.appends);
-    assert_eq!(rt; played.text.as_slice(), SHOWN.as_bytes());
-    Ok(())
+    expect(&rt, rt.alloc(), &CUT_LATER)
 }

@@ -13,6 +13,7 @@ ghost use Rattle.ks_task.specs.Placing.{placed_by};
 ghost use Rattle.ks_settle.specs.Drained.{drain_worker};
 ghost use Rattle.ks_test_workers.specs.Jobs.{IsJobOf};
 
+use crate::actors::CACHE;
 use crate::crews::play;
 use crate::jobs::{Job, read_text};
 use crate::scenes::Scene;
@@ -59,7 +60,28 @@ fn count_appends(entries: &[Entry]) -> usize {
     appends
 }
 
-// Drains a cluster after its workers ended.
+// Drains a cluster: how many lists of records that appends, and its tables.
+fn drain_all<H: Hash128 + Sync, R: Threads + Wait + Sync, W: Work + Sync>(
+    rt: &R,
+    alloc: Global,
+    topology: &Topology,
+    cluster: &mut Cluster<W>,
+) -> Result<(usize, Vec<u8>), AllocError>
+    requires setup { setup_of W.plan cluster.old ≡ topology_setup (rules_of H.hash_of)
+        (plan_in topology.now) }
+    requires parts { HaveParts (plan_in topology.now) }
+    requires alone { IsGoodForAll (W.good cluster.old.work) (drain_worker ∷ [])
+        (everything drain_worker cluster.old.tasks) }
+    requires counts { cluster.old.counts ≡ map (parts_of_topic (plan_in topology.now))
+        (topics_of (plan_in topology.now)) }
+{
+    drain::<H, R, W>(rt, alloc, topology, cluster, Vec::new(alloc), CACHE)?;
+    let tables = tables(rt, alloc, topology, cluster)?;
+    let text = print_settled(rt, alloc, tables)?;
+    Ok((count_appends(cluster.journal()), text))
+}
+
+// What a cluster came to after its workers ended.
 fn end_play<H: Hash128 + Sync, R: Threads + Wait + Sync, W: Work + Sync>(
     rt: &R,
     alloc: Global,
@@ -75,10 +97,7 @@ fn end_play<H: Hash128 + Sync, R: Threads + Wait + Sync, W: Work + Sync>(
         (topics_of (plan_in topology.now)) }
 {
     let lines = lines(alloc, cluster.journal())?;
-    drain::<H, R, W>(rt, alloc, topology, &mut cluster, Vec::new(alloc), 0)?;
-    let appends = count_appends(cluster.journal());
-    let tables = tables(rt, alloc, topology, &cluster)?;
-    let text = print_settled(rt, alloc, tables)?;
+    let (appends, text) = drain_all::<H, R, W>(rt, alloc, topology, &mut cluster)?;
     Ok(Played {
         lines,
         appends,
@@ -131,15 +150,16 @@ fn play_read<H: Hash128 + Sync + Send, R: Threads + Wait + Sync + Abort>(
     Ok(Some(played))
 }
 
-/// The run of a scene over a job; none where the text is no job, or its topology has a fault.
+/// The run of a scene over a job; none where the text is no job, its topology has a fault, or the workers have no thread.
 pub fn play_job<H: Hash128 + Sync + Send, R: Threads + Wait + Sync + Abort>(
     rt: &R,
     alloc: Global,
     job: &str,
     scene: &Scene,
-) -> Result<Option<Played>, Fail>
-    requires threads { 1 ≤ scene.now.placing.threads }
-{
+) -> Result<Option<Played>, Fail> {
+    if scene.placing.threads == 0 {
+        return Ok(None);
+    }
     match read_text(alloc, job)? {
         Some(job) => play_read::<H, R>(rt, alloc, job, scene),
         None => Ok(None),

@@ -9,14 +9,16 @@ pub enum Who {
     Second,
 }
 
-/// A worker takes a turn that ends with this act; or does the act alone, outside of a turn.
+/// A worker takes a turn that ends with this act; or does the act alone, outside of a turn; or lends its tasks and replicas, which are asked
+/// for the order o1 at this position or a later one.
 #[derive(Clone, Copy)]
 pub enum Does {
     Turn(Act),
     Act(Act),
+    Lend(u64),
 }
 
-/// What a worker does, and what is told of it afterwards; where that is no text, nothing is looked at.
+/// What a worker does, and what is told of it afterwards, or what is answered; where that is no text, nothing is looked at.
 pub type Move<'a> = (Who, Does, &'a str);
 
 /// What two workers do one after another.

@@ -1,10 +1,14 @@
 //! Scenes of one and of two workers.
-use crate::plays::play_job;
+use crate::plays::{Played, play_job};
 use crate::scenes::{Does, Move, Scene, Who};
 use ks_assign::{Placing, Wants};
 use ks_edge::Act;
 use ks_hash::Murmur3;
+use std::alloc::Global;
+use std::process::Abort;
+use std::sync::Wait;
 use std::test::Fail;
+use std::thread::Threads;
 
 /// An order before its customer. Task 0_0 reads the orders (topic 1) and the responses (3), task 1_0 the customers (0) and the
 /// subscriptions (2).
@@ -48,9 +52,9 @@ const APART_WARM: Placing = Placing {
 /// What is told of a worker that lost all that it had.
 pub const LOST: &str = "no member, epoch 0, generation 0";
 
-/// The step of its first turn before which the first worker decides on its commit, once it has read both topics: the turn has 16 steps, the
+/// The step of its first turn before which the first worker decides on its commit, once it has read both topics: the turn has 12 steps, the
 /// further act 3, and the commit adds 3 partitions, appends to them, and sends the offsets of two tasks.
-const DECIDING: u32 = 27;
+const DECIDING: u32 = 23;
 
 /// One worker does each act: it restores its tasks after a crash, drops a dirty one and takes it anew, and commits all, so that the drain
 /// has nothing to do.
@@ -479,26 +483,91 @@ const MOVED: Scene<'static> = Scene {
     appends: 0,
 };
 
+/// Tasks and replicas are lent. A task answers for its own keys, where it has taken nothing since its commit; a replica that isn't fed has
+/// nothing, and is behind.
+const LENT: Scene<'static> = Scene {
+    moves: &[
+        (Who::First, Does::Turn(Act::Work(0)), ""),
+        (
+            Who::First,
+            Does::Lend(0),
+            "0_0 isn't clean and holds 1 0, 1_0 isn't 0_0 and holds 0 0, ",
+        ),
+        (Who::First, Does::Act(Act::Work(0)), ""),
+        (Who::First, Does::Act(Act::Commit), ""),
+        (
+            Who::First,
+            Does::Lend(1),
+            "0_0 has 5 at 1 and holds 0 0, 1_0 isn't 0_0 and holds 0 0, ",
+        ),
+        (
+            Who::First,
+            Does::Lend(2),
+            "0_0 is at 1 and holds 0 0, 1_0 isn't 0_0 and holds 0 0, ",
+        ),
+        (Who::First, Does::Act(Act::Probe), ""),
+        (Who::Second, Does::Turn(Act::Probe), ""),
+        (
+            Who::Second,
+            Does::Lend(0),
+            "replica 0_0 has nothing at 0, replica 1_0 isn't 0_0, ",
+        ),
+        (
+            Who::Second,
+            Does::Lend(1),
+            "replica 0_0 is at 0, replica 1_0 isn't 0_0, ",
+        ),
+        (Who::First, Does::Turn(Act::Pump), ""),
+        (Who::Second, Does::Turn(Act::Pump), ""),
+        (
+            Who::Second,
+            Does::Lend(2),
+            "replica 0_0 has 5 at 2, replica 1_0 isn't 0_0, ",
+        ),
+    ],
+    placing: APART_WARM,
+    cut: None,
+    lines: "",
+    appends: 3,
+};
+
+const SCENES: &[Scene<'static>] = &[
+    ALONE, TAKEN_OVER, OUTRUN, LEFT, LEFT_AFAR, UNDECIDED, MOVED, LENT,
+];
+
+/// Plays a scene over the order and its customer, whose tables the drain leaves at the latest.
+pub fn play_order<R: Threads + Wait + Sync + Abort>(
+    rt: &R,
+    alloc: Global,
+    scene: &Scene,
+) -> Result<Played, Fail> {
+    match play_job::<Murmur3, R>(rt, alloc, ORDER, scene)? {
+        Some(played) => {
+            assert_eq!(rt; played.text.as_slice(), SHOWN.as_bytes());
+            Ok(played)
+        }
+        None => panic!(rt),
+    }
+}
+
+/// Plays a scene, and looks at its lines and at what the drain appended.
+pub fn expect<R: Threads + Wait + Sync + Abort>(
+    rt: &R,
+    alloc: Global,
+    scene: &Scene,
+) -> Result<(), Fail> {
+    let played = play_order(rt, alloc, scene)?;
+    if !scene.lines.is_empty() {
+        assert_eq!(rt; played.lines.as_slice(), scene.lines.as_bytes());
+    }
+    assert_eq!(rt; played.appends, scene.appends);
+    Ok(())
+}
+
 #[test]
 fn scenes_of_workers(rt: HostRuntime) -> Result<(), Fail> {
-    let alloc = rt.alloc();
-    for scene in [
-        &ALONE,
-        &TAKEN_OVER,
-        &OUTRUN,
-        &LEFT,
-        &LEFT_AFAR,
-        &UNDECIDED,
-        &MOVED,
-    ] {
-        let Some(played) = play_job::<Murmur3, HostRuntime>(&rt, alloc, ORDER, scene)? else {
-            panic!(rt)
-        };
-        if !scene.lines.is_empty() {
-            assert_eq!(rt; played.lines.as_slice(), scene.lines.as_bytes());
-        }
-        assert_eq!(rt; played.appends, scene.appends);
-        assert_eq!(rt; played.text.as_slice(), SHOWN.as_bytes());
+    for scene in SCENES {
+        expect(&rt, rt.alloc(), scene)?;
     }
     Ok(())
 }
