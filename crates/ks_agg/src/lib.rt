@@ -4,7 +4,8 @@
 ghost use Rattle.std.specs.Prelude.{◌≡◌, ◌++◌, map, Option, Some, None, option_copied, option_map, IfOk, OnOk};
 ghost use Rattle.ks_query.specs.Aggregates.{stream_add, amount_in, table_apply, agg_row, table_parts, int_of, plus, minus, or_nothing, with_members, moved, share_under, same_share, deltas_of};
 
-use ks_row::{Change, FieldRef, Key, Name, Row, equal_bytes, equal_numbers, key_of_field};
+use ks_record::{Key, Name, equal_bytes, equal_numbers};
+use ks_row::{Change, FieldRef, Row, key_of_field};
 use ks_wire::{Agg, Delta};
 use std::alloc::{AllocError, Global};
 

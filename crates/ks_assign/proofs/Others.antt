@@ -2,9 +2,9 @@
 use Rattle.std.proofs.Common.{◌≡◌, ◌≢◌, ℕ, zero, suc, ◌+◌, ◌-◌, ◌≤◌, ◌==◌, ◌&&◌, ◌||◌, not, Bool, true, false, cond, min, nat_le, List, [], ◌∷◌, ◌++◌, length, take, refl, sym, ap, subst, ◌∙◌, arith, ◌⊎◌, inl, inr}
 use Rattle.std.specs.List.{list_all}
 use Rattle.std.proofs.lemmas.Bool.Decides.{eqb_tells}
-use Rattle.ks_row.specs.declared.record.TaskId.{TaskId}
+use Rattle.ks_record.specs.declared.record.TaskId.{TaskId}
 use Rattle.ks_assign.specs.declared.clients.Client.{Client}
-use Rattle.ks_row.specs.Parts.{same_task}
+use Rattle.ks_record.specs.Parts.{same_task}
 use Rattle.ks_assign.specs.Placement.{Places, is_spread, copies, each_once, has_instance, has_standbys, has_task, instances_apart, tasks_apart, times}
 use Rattle.ks_assign.specs.Steps.{all_others, others, tasks_of, wanted}
 use Rattle.ks_assign.proofs.Homes.{and_left, and_right, and_both, false_not_true}

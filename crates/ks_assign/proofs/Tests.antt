@@ -1,7 +1,7 @@
 -- Goodness is a test: the seven points are its seven parts.
 use Rattle.std.proofs.Common.{◌≡◌, ◌&&◌, true, List}
-use Rattle.ks_row.specs.declared.record.TaskId.{TaskId}
-use Rattle.ks_row.specs.declared.assignment.Assignment.{Assignment}
+use Rattle.ks_record.specs.declared.record.TaskId.{TaskId}
+use Rattle.ks_record.specs.declared.assignment.Assignment.{Assignment}
 use Rattle.ks_assign.specs.declared.clients.Client.{Client}
 use Rattle.ks_assign.specs.declared.clients.Held.{Held}
 use Rattle.ks_assign.specs.declared.clients.Wants.{Wants}

@@ -1,7 +1,7 @@
 -- What is told of one task is all that bears on who may run it
 use Rattle.std.proofs.Common.{◌≡◌, ℕ, ◌==◌, ◌&&◌, ◌||◌, not, cond, nat_le, List, [], ◌∷◌, refl, sym, ap, ◌∙◌, inl, inr}
-use Rattle.ks_row.specs.Parts.{same_task}
-use Rattle.ks_row.specs.declared.record.TaskId.{TaskId}
+use Rattle.ks_record.specs.Parts.{same_task}
+use Rattle.ks_record.specs.declared.record.TaskId.{TaskId}
 use Rattle.ks_assign.specs.Lag.{warm, some_warm}
 use Rattle.ks_assign.specs.Placement.{may_run}
 use Rattle.ks_assign.specs.Steps.{held_of}

@@ -2,10 +2,10 @@
 use Rattle.std.proofs.Common.{◌≡◌, ◌≢◌, ℕ, zero, suc, ◌+◌, ◌≤◌, ◌==◌, ◌&&◌, ◌||◌, not, Bool, true, false, cond, nat_le, List, [], ◌∷◌, ◌++◌, length, take, refl, sym, ap, subst, ◌∙◌, arith, inl, inr}
 use Rattle.std.specs.List.{list_all}
 use Rattle.std.proofs.lemmas.Bool.Decides.{eqb_tells, leb_tells}
-use Rattle.ks_row.specs.declared.record.TaskId.{TaskId}
+use Rattle.ks_record.specs.declared.record.TaskId.{TaskId}
 use Rattle.ks_assign.specs.declared.clients.Client.{Client}
 use Rattle.ks_assign.specs.declared.clients.Held.{Held}
-use Rattle.ks_row.specs.Parts.{same_task}
+use Rattle.ks_record.specs.Parts.{same_task}
 use Rattle.ks_assign.specs.Lag.{some_warm, warm}
 use Rattle.ks_assign.specs.Placement.{Places, all_cold, all_prepared, copies, has_instance, has_task, instances_apart, is_balanced, is_prepared, may_run, outweighs, stays, tasks_apart, times}
 use Rattle.ks_assign.specs.Steps.{all_wanted, tasks_of, wanted}

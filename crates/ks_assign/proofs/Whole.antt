@@ -2,12 +2,12 @@
 use Rattle.std.proofs.Common.{◌≡◌, ℕ, zero, suc, ◌-◌, ◌≤◌, ◌==◌, ◌&&◌, ◌||◌, true, false, cond, min, nat_lt, nat_le, List, [], ◌∷◌, length, take, refl, sym, ap, subst, ◌∙◌, arith, inl, inr}
 use Rattle.std.specs.List.{list_all}
 use Rattle.std.proofs.lemmas.Bool.Decides.{eqb_tells}
-use Rattle.ks_row.specs.declared.record.TaskId.{TaskId}
+use Rattle.ks_record.specs.declared.record.TaskId.{TaskId}
 use Rattle.ks_assign.specs.declared.clients.Client.{Client}
 use Rattle.ks_assign.specs.declared.clients.Held.{Held}
 use Rattle.ks_assign.specs.declared.clients.Wants.{Wants}
-use Rattle.ks_row.specs.declared.assignment.Assignment.{Assignment}
-use Rattle.ks_row.specs.Parts.{same_task}
+use Rattle.ks_record.specs.declared.assignment.Assignment.{Assignment}
+use Rattle.ks_record.specs.Parts.{same_task}
 use Rattle.ks_assign.specs.Placement.{Places, home, by_client, times, has_task, has_worker, has_instance, instances_apart, tasks_apart, each_once, all_known, places_tasks, runs_warm, is_balanced, has_standbys, all_cold, warms_up, all_prepared, prepares, all_even, AreClients, IsGood}
 use Rattle.ks_assign.specs.Steps.{IsPlan, all_home, all_others, all_wanted, tasks_of}
 use Rattle.ks_assign.proofs.Homes.{and_left, and_right, and_both, false_not_true}

@@ -1,8 +1,8 @@
 -- How far a client is behind with a task (KIP-441: the lag of the task's state).
 use Rattle.std.specs.Prelude.{ℕ, ◌-◌, ◌^◌, ◌==◌, ◌&&◌, min, max, sum, Bool, List, [], ◌∷◌, if◌then◌else◌, nat_le}
 use Rattle.std.specs.List.{list_any}
-use Rattle.ks_row.specs.Parts.{same_task}
-use Rattle.ks_row.specs.declared.record.TaskId.{TaskId}
+use Rattle.ks_record.specs.Parts.{same_task}
+use Rattle.ks_record.specs.declared.record.TaskId.{TaskId}
 use Rattle.ks_assign.specs.declared.clients.Client.{Client}
 use Rattle.ks_assign.specs.declared.clients.Held.{Held}
 

@@ -1,7 +1,7 @@
 -- What the words mean: a law on lags, and that goodness is a test.
 use Rattle.std.specs.Prelude.{◌≡◌, ◌↔◌, ℕ, true, nat_le, List, [], ◌∷◌}
-use Rattle.ks_row.specs.declared.assignment.Assignment.{Assignment}
-use Rattle.ks_row.specs.declared.record.TaskId.{TaskId}
+use Rattle.ks_record.specs.declared.assignment.Assignment.{Assignment}
+use Rattle.ks_record.specs.declared.record.TaskId.{TaskId}
 use Rattle.ks_assign.specs.Lag.{lags_of, warm}
 use Rattle.ks_assign.specs.Placement.{IsGood, is_good}
 use Rattle.ks_assign.specs.declared.clients.Client.{Client}

@@ -1,8 +1,8 @@
 -- What the steps of making an assignment keep. No promise rests on these words.
 use Rattle.std.specs.Prelude.{◌≡◌, ℕ, ◌+◌, ◌==◌, ◌&&◌, ◌||◌, not, Bool, true, if◌then◌else◌, nat_le, nat_lt, ◌<◌, take, length, List, [], ◌∷◌, ◌++◌, slice_index_or as get_or}
 use Rattle.std.specs.List.{list_all}
-use Rattle.ks_row.specs.Parts.{same_task}
-use Rattle.ks_row.specs.declared.record.TaskId.{TaskId}
+use Rattle.ks_record.specs.Parts.{same_task}
+use Rattle.ks_record.specs.declared.record.TaskId.{TaskId}
 use Rattle.ks_assign.specs.Placement.{Places, has_worker, home, by_client, load, copies, may_run, outweighs, runs_warm}
 use Rattle.ks_assign.specs.declared.clients.Client.{Client}
 use Rattle.ks_assign.specs.declared.clients.Held.{Held}

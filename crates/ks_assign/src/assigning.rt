@@ -11,7 +11,7 @@ use crate::points::{
     are_even, has_standbys, is_balanced, places_tasks, prepares, runs_warm, warms_up,
 };
 use crate::spreading::spread;
-use ks_row::{Assignment, Seq, TaskId};
+use ks_record::{Assignment, Seq, TaskId};
 use std::alloc::{AllocError, Global};
 
 /// Whether an assignment of the tasks to the clients is good (KIP-441), by the lags that are told and by what is wanted:

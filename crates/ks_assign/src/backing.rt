@@ -8,7 +8,7 @@ use crate::counting::{copies_at, home_of};
 use crate::loads::Loads;
 use crate::placing::first_worker;
 use crate::points::standby_count;
-use ks_row::TaskId;
+use ks_record::TaskId;
 use std::alloc::{AllocError, Global};
 
 // Adds the task at each client but its own, at most so many times.

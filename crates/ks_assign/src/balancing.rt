@@ -1,6 +1,6 @@
 //! Moves of tasks until no client has two more than another that may run one of them.
 ghost use Rattle.std.specs.Prelude.{◌≡◌, ◌≤◌, true, List, MatchOption};
-ghost use Rattle.ks_row.specs.declared.record.TaskId.{TaskId};
+ghost use Rattle.ks_record.specs.declared.record.TaskId.{TaskId};
 ghost use Rattle.ks_assign.specs.Placement.{by_client, stays, is_balanced, AreClients};
 ghost use Rattle.ks_assign.specs.Steps.{IsBetter, IsMove, IsPlan};
 
@@ -9,7 +9,7 @@ use crate::counting::home_of;
 use crate::lags::may_run;
 use crate::loads::Loads;
 use crate::placing::first_worker;
-use ks_row::TaskId;
+use ks_record::TaskId;
 
 // A worker of a client that has at least two tasks less than that of the task, and may run it.
 fn better_for(

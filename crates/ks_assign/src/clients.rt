@@ -1,5 +1,5 @@
 //! Who may run tasks, and what is wanted of an assignment.
-use ks_row::{Seq, TaskId};
+use ks_record::{Seq, TaskId};
 
 /// A client of the group: the workers of one instance. Kafka Streams: a client with its stream threads.
 #[derive(Drop)]

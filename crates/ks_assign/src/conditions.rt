@@ -5,7 +5,7 @@ ghost use Rattle.ks_assign.specs.Placement.{employs, workers_apart, has_instance
 
 use crate::clients::Client;
 use crate::counting::{is_known, is_worker};
-use ks_row::TaskId;
+use ks_record::TaskId;
 
 // Some client has the worker.
 fn employs(clients: &[Client], worker: u8) -> bool

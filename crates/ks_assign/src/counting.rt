@@ -3,7 +3,7 @@ ghost use Rattle.std.specs.Prelude.{◌≡◌, ◌≤◌, length};
 ghost use Rattle.ks_assign.specs.Placement.{has_task, has_worker, home, by_client, load, times, copies};
 
 use crate::clients::Client;
-use ks_row::TaskId;
+use ks_record::TaskId;
 
 // No client's instance.
 const NO_CLIENT: u16 = 256;

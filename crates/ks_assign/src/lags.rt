@@ -5,7 +5,7 @@ ghost use Rattle.ks_assign.specs.Placement.{may_run};
 ghost use Rattle.ks_assign.specs.Rows.{WarmIsSmallLag};
 
 use crate::clients::{Client, Held};
-use ks_row::TaskId;
+use ks_record::TaskId;
 
 // The sum of offsets; the greatest `u64` where it would be more.
 fn offset_sum(offsets: &[u64]) -> u64

@@ -11,13 +11,11 @@ mod lags;
 mod loads;
 mod placing;
 mod points;
-#[cfg(test)]
-mod rows;
 mod spreading;
 
 pub use assigning::{assign, check, good_is_a_test};
 pub use clients::{Client, Held, Placing, Wants};
 pub use conditions::{are_clients, are_tasks_apart};
 pub use counting::load_of;
-pub use ks_row::Assignment;
+pub use ks_record::Assignment;
 pub use lags::{client_lag, warm_is_small_lag};

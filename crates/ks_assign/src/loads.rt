@@ -5,7 +5,7 @@ ghost use Rattle.ks_assign.specs.Steps.{Counts};
 
 use crate::clients::Client;
 use crate::counting::home_of;
-use ks_row::TaskId;
+use ks_record::TaskId;
 use std::marker::Model;
 
 /// The places of a list by clients, with the number of those at each client at hand.

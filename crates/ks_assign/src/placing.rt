@@ -7,7 +7,7 @@ use crate::clients::{Client, Held};
 use crate::counting::home_of;
 use crate::lags::{is_warm, may_run};
 use crate::loads::Loads;
-use ks_row::TaskId;
+use ks_record::TaskId;
 use std::alloc::{AllocError, Global};
 
 /// The first worker of a client, which stands for the client until tasks are spread.

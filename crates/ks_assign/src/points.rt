@@ -7,7 +7,7 @@ use crate::clients::{Client, Held, Wants};
 use crate::counting::{copies_at, home_of, is_known, load_of, times_of};
 use crate::lags::{is_warm, may_run};
 use crate::loads::Loads;
-use ks_row::{Assignment, TaskId};
+use ks_record::{Assignment, TaskId};
 
 // Each task is active exactly once.
 fn are_each_once(tasks: &[TaskId], clients: &[Client], active: &[(TaskId, u8)]) -> bool

@@ -6,7 +6,7 @@ ghost use Rattle.ks_assign.specs.Steps.{all_least};
 
 use crate::clients::Client;
 use crate::counting::{is_worker, load_of};
-use ks_row::TaskId;
+use ks_record::TaskId;
 use std::alloc::{AllocError, Global};
 
 // The first worker with the fewest tasks.

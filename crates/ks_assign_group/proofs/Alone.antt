@@ -3,9 +3,9 @@ use Rattle.std.proofs.Common.{◌≡◌, ◌≤◌, ◌<◌, ◌+◌, ◌-◌, �
 use Rattle.std.specs.List.{list_all}
 use Rattle.std.proofs.Math.Nat.{div-le_self}
 use Rattle.std.proofs.lemmas.Bool.Decides.{eqb_tells, nat_tests}
-use Rattle.ks_row.specs.declared.record.TaskId.{TaskId}
-use Rattle.ks_row.specs.declared.assignment.Assignment.{Assignment}
-use Rattle.ks_row.specs.Parts.{same_task}
+use Rattle.ks_record.specs.declared.record.TaskId.{TaskId}
+use Rattle.ks_record.specs.declared.assignment.Assignment.{Assignment}
+use Rattle.ks_record.specs.Parts.{same_task}
 use Rattle.ks_assign.specs.declared.clients.Client.{Client}
 use Rattle.ks_assign.specs.declared.clients.Held.{Held}
 use Rattle.ks_assign.specs.declared.clients.Wants.{Wants}

@@ -1,15 +1,15 @@
 -- A good assignment names tasks of the cluster and workers 0 to 16.
 use Rattle.std.proofs.Common.{◌≡◌, ◌&&◌, ◌||◌, ℕ, not, Bool, true, false, cond, nat_le, nat_lt, List, [], ◌∷◌, inl, inr, refl, sym, ap, subst, ◌∙◌}
-use Rattle.ks_row.specs.declared.record.TaskId.{TaskId}
-use Rattle.ks_row.specs.declared.assignment.Assignment.{Assignment}
-use Rattle.ks_row.specs.Parts.{same_task}
+use Rattle.ks_record.specs.declared.record.TaskId.{TaskId}
+use Rattle.ks_record.specs.declared.assignment.Assignment.{Assignment}
+use Rattle.ks_record.specs.Parts.{same_task}
 use Rattle.ks_history.specs.State.{Setup, are_once, has_task as has}
 use Rattle.ks_history.specs.History.{are_places}
 use Rattle.ks_assign.proofs.Others.{same_tells}
 use Rattle.ks_assign.specs.declared.clients.Client.{Client}
 use Rattle.ks_assign.specs.declared.clients.Held.{Held}
 use Rattle.ks_assign.specs.declared.clients.Wants.{Wants}
-use Rattle.ks_row.specs.declared.record.PartId.{PartId}
+use Rattle.ks_record.specs.declared.record.PartId.{PartId}
 use Rattle.ks_assign.specs.Placement.{IsGood, is_good, Places, has_task, home, by_client, each_once, all_known, tasks_apart}
 use Rattle.ks_assign.proofs.Homes.{and_left, and_right, and_both, false_not_true}
 use Rattle.ks_assign.proofs.Even.{le_true}

@@ -18,8 +18,8 @@ use Rattle.ks_plan.specs.declared.node.Topic.TheVariants.{Input, Repartition}
 use Rattle.ks_plan.specs.Layout.{up_to, is_source_of, any_source_of, first_source_of, source_of, sub_of, sub_count, reads, kind_at, right_of, is_drained, input_topics, by_node, through_topics, changelogs_of, number_of}
 use Rattle.ks_plan.specs.Infos.{input_numbers, changelog_numbers, inputs_by_sub, changelogs_by_sub}
 use Rattle.ks_def_tasks.proofs.Agree.{kind-is}
-use Rattle.ks_law_quiescence.proofs.Fits.{Fits, NodeFits, EachFits}
-use Rattle.ks_law_quiescence.proofs.WellFormed.{well_formed_fits}
+use Rattle.ks_law_topology.proofs.Fits.{Fits, NodeFits, EachFits}
+use Rattle.ks_law_topology.proofs.WellFormed.{well_formed_fits}
 use Rattle.ks_law_topology.proofs.Labels.{sub_within}
 use Rattle.ks_plan.proofs.Numbers.{AtNode, all_nodes}
 use Rattle.ks_def_tasks.proofs.Numbered.{length_up_to, get_up_to, get_map}

@@ -1,10 +1,10 @@
 -- What a cluster tells of its group, as the assignor takes it: the clients that its members form, and how far each is behind with each
 -- task (KIP-441).
 use Rattle.std.specs.Prelude.{◌≡◌, ℕ, zero, suc, ◌/◌, ◌==◌, ◌&&◌, Bool, true, if◌then◌else◌, nat_le, List, [], ◌∷◌, ◌++◌, map}
-use Rattle.ks_row.specs.declared.record.PartId.{PartId}
-use Rattle.ks_row.specs.declared.record.TaskId.{TaskId}
-use Rattle.ks_row.specs.declared.assignment.Assignment.{Assignment}
-use Rattle.ks_row.specs.Parts.{same_part, same_task}
+use Rattle.ks_record.specs.declared.record.PartId.{PartId}
+use Rattle.ks_record.specs.declared.record.TaskId.{TaskId}
+use Rattle.ks_record.specs.declared.assignment.Assignment.{Assignment}
+use Rattle.ks_record.specs.Parts.{same_part, same_task}
 use Rattle.ks_history.specs.declared.journal.Status.{Status}
 use Rattle.ks_history.specs.Machine.{part_of}
 use Rattle.ks_assign.specs.declared.clients.Client.{Client}

@@ -1,8 +1,8 @@
 -- What a good assignment names, and what is good for one worker.
 use Rattle.std.specs.Prelude.{◌≡◌, ◌≤◌, ℕ, true, List, [], ◌∷◌, map}
-use Rattle.ks_row.specs.declared.record.PartId.{PartId}
-use Rattle.ks_row.specs.declared.record.TaskId.{TaskId}
-use Rattle.ks_row.specs.declared.assignment.Assignment.{Assignment}
+use Rattle.ks_record.specs.declared.record.PartId.{PartId}
+use Rattle.ks_record.specs.declared.record.TaskId.{TaskId}
+use Rattle.ks_record.specs.declared.assignment.Assignment.{Assignment}
 use Rattle.ks_history.specs.declared.journal.Status.{Status}
 use Rattle.ks_history.specs.State.{Setup, are_once}
 use Rattle.ks_history.specs.History.{are_places}

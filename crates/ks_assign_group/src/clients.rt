@@ -3,7 +3,7 @@ ghost use Rattle.std.specs.Prelude.{◌≡◌, ◌≤◌, IfOk};
 ghost use Rattle.ks_assign_group.specs.Groups.{is_at, workers_at, clients_of};
 
 use ks_assign::Client;
-use ks_row::Seq;
+use ks_record::Seq;
 use std::alloc::{AllocError, Global};
 
 // The greatest number of a worker.

@@ -7,7 +7,7 @@ ghost use Rattle.ks_assign_group.specs.Groups.{end_in, ends_at, positions_in, la
 
 use ks_assign::{Client, Held, client_lag};
 use ks_history::Status;
-use ks_row::{PartId, TaskId};
+use ks_record::{PartId, TaskId};
 use ks_topo::Topology;
 use std::alloc::{AllocError, Global};
 

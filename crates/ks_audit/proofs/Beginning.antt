@@ -2,11 +2,11 @@
 use Rattle.std.proofs.Common.{◌≡◌, ℕ, zero, suc, ◌+◌, ◌<◌, ◌||◌, Bool, true, List, [], ◌∷◌, ◌++◌, length, map, take, get_or, replicate, Option, None, refl, sym, ap, ap₂, subst, ◌∙◌, arith}
 use Rattle.std.proofs.lemmas.Bool.{or_right}
 use Rattle.std.proofs.lemmas.List.{take_more}
-use Rattle.ks_row.specs.Parts.{same_task}
+use Rattle.ks_record.specs.Parts.{same_task}
 use Rattle.ks_history.proofs.Names.{same_task-refl}
 use Rattle.ks_audit_commit.specs.declared.audited.AuditedTask.{AuditedTask}
 use Rattle.ks_audit_commit.specs.Judging.{IsAudited, name_of}
-use Rattle.ks_row.specs.declared.record.TaskId.{TaskId}
+use Rattle.ks_record.specs.declared.record.TaskId.{TaskId}
 use Rattle.ks_plan.specs.declared.node.TopicInfo.{TopicInfo}
 use Rattle.ks_plan.specs.declared.node.Topic.{Topic}
 use Rattle.ks_plan.specs.Drafts.{DraftView}
@@ -28,7 +28,7 @@ use Rattle.ks_audit_entry.specs.Outcomes.{FindsAllGood}
 use Rattle.ks_audit_ledger.specs.Accounts.{blank}
 use Rattle.ks_audit_ledger.specs.Ledgers.{IsLedger}
 use Rattle.ks_audit_ledger.proofs.Keeping.{ledger_starts}
-use Rattle.ks_audit.specs.declared.played.Played.{Played}
+use Rattle.ks_audit.specs.declared.replay.Played.{Played}
 use Rattle.ks_audit.specs.declared.audit.Audit.{Audit}
 use Rattle.ks_task.specs.declared.work.TaskWork.{TaskWork}
 use Rattle.ks_audit.specs.Playing.{IsPlayed, AreAudited, names_in}

@@ -2,7 +2,7 @@
 use Rattle.std.proofs.Common.{◌≡◌, ℕ, ◌<◌, ◌≤◌, Bool, true, false, List, [], ◌∷◌, ◌++◌, length, get_or, Option, Some, None, IfSome, refl, sym, ap, ap₂, subst, ◌∙◌, arith}
 use Rattle.std.specs.Prelude.{◌↔◌, ⊤, Result, Ok, IfOk}
 use Rattle.std.proofs.lemmas.Bool.{true≢false}
-use Rattle.ks_row.specs.declared.record.TaskId.{TaskId}
+use Rattle.ks_record.specs.declared.record.TaskId.{TaskId}
 use Rattle.ks_plan.specs.Drafts.{DraftView}
 use Rattle.ks_plan.specs.Plan.{Plan, plan_of}
 use Rattle.ks_def_tasks.specs.Messages.{Rules}
@@ -30,7 +30,7 @@ use Rattle.ks_audit.specs.declared.fault.AuditFault.{AuditFault}
 use Rattle.ks_audit.specs.declared.fault.AuditFault.TheVariants.{NotJournal, NotLegal, NotFaithful}
 use Rattle.ks_audit.specs.declared.fault.LineStop.{LineStop}
 use Rattle.ks_audit.specs.declared.fault.LineStop.TheVariants.{Fault, Memory}
-use Rattle.ks_audit.specs.declared.played.Played.{Played}
+use Rattle.ks_audit.specs.declared.replay.Played.{Played}
 use Rattle.ks_audit.specs.Audited.{IsPlaced, IsLineOf, IsTaken, IsFirstUnfaithful, IsRefused}
 use Rattle.ks_audit.specs.Playing.{MayJudge, HasOpen, JudgesAll, AreJudged, IsFirstOf, commit_at, names_in}
 use Rattle.ks_audit.specs.Entries.{IsSource, IsReady, IsCommitStop, IsPlayedBy, IsReadyBy, MakesEntry, GoesOn, IsHeldUp, PlaysEntry, IsWrong, IsStopped}

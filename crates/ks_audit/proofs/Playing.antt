@@ -3,7 +3,7 @@ use Rattle.std.proofs.Common.{◌≡◌, ℕ, ◌<◌, ◌≤◌, Bool, true, fa
 use Rattle.std.specs.Global.{Vec}
 use Rattle.std.specs.Prelude.{◌↔◌}
 use Rattle.std.proofs.lemmas.Bool.{true≢false}
-use Rattle.ks_row.specs.declared.record.TaskId.{TaskId}
+use Rattle.ks_record.specs.declared.record.TaskId.{TaskId}
 use Rattle.ks_plan.specs.Drafts.{DraftView}
 use Rattle.ks_plan.specs.Plan.{Plan, plan_of}
 use Rattle.ks_def_tasks.specs.Messages.{Rules}
@@ -26,7 +26,7 @@ use Rattle.ks_audit_ledger.specs.Accounts.{blank, owner_of}
 use Rattle.ks_audit_ledger.specs.Ledgers.{IsLedger}
 use Rattle.ks_audit_ledger.proofs.Keeping.{owner_small}
 use Rattle.ks_audit_commit.specs.declared.audited.AuditedTask.{AuditedTask}
-use Rattle.ks_audit.specs.declared.played.Played.{Played}
+use Rattle.ks_audit.specs.declared.replay.Played.{Played}
 use Rattle.ks_audit.specs.Audited.{IsFirstUnfaithful}
 use Rattle.ks_audit.specs.Playing.{IsPlayed, IsFirstOf, commit_at, names_in}
 use Rattle.ks_audit.specs.Entries.{IsOpenAt, IsReady, MayKeep, IsPlayedBy, IsReadyBy, MakesEntry, GoesOn}

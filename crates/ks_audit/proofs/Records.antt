@@ -3,10 +3,10 @@ use Rattle.std.proofs.Common.{◌≡◌, ℕ, ◌<◌, ◌≤◌, ◌^◌, Bool,
 use Rattle.std.specs.List.{AllByRecursion}
 use Rattle.std.proofs.lemmas.Bool.{and_parts, leb-true}
 use Rattle.ks_row.specs.Spelling.{FitsRow, spelling}
-use Rattle.ks_row.specs.Texts.{IsKey, key_from}
+use Rattle.ks_record.specs.Texts.{IsKey, key_from}
 use Rattle.ks_row.specs.Reading.{row_from}
-use Rattle.ks_row.specs.declared.record.PartId.{PartId}
-use Rattle.ks_row.specs.Records.{Record as Rec}
+use Rattle.ks_record.specs.declared.record.PartId.{PartId}
+use Rattle.ks_record.specs.Records.{Record as Rec}
 use Rattle.ks_row.proofs.Spelled.{key_takes, row_takes}
 use Rattle.ks_expr.specs.Eval.{Row}
 use Rattle.ks_plan.specs.Plan.{Plan}

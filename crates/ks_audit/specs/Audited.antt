@@ -1,8 +1,8 @@
 -- What the audit says of a line of a journal, in the state that the lines before it leave.
 use Rattle.std.specs.Prelude.{◌≡◌, ◌⊎◌, ℕ, true, List, [], ◌∷◌, ◌++◌, Option, Some, None, ⊤}
-use Rattle.ks_row.specs.Records.{Record as Rec}
-use Rattle.ks_row.specs.declared.record.PartId.{PartId}
-use Rattle.ks_row.specs.declared.record.TaskId.{TaskId}
+use Rattle.ks_record.specs.Records.{Record as Rec}
+use Rattle.ks_record.specs.declared.record.PartId.{PartId}
+use Rattle.ks_record.specs.declared.record.TaskId.{TaskId}
 use Rattle.ks_plan.specs.Plan.{Plan}
 use Rattle.ks_plan.specs.declared.node.Topic.TheVariants.{Input as InputTopic}
 use Rattle.ks_def_tasks.specs.Messages.{Rules}

@@ -18,7 +18,7 @@ use Rattle.ks_audit.specs.declared.fault.AuditFault.{AuditFault}
 use Rattle.ks_audit.specs.declared.fault.AuditFault.TheVariants.{NotJournal, NotLegal, NotFaithful}
 use Rattle.ks_audit.specs.declared.fault.LineStop.{LineStop}
 use Rattle.ks_audit.specs.declared.fault.LineStop.TheVariants.{Fault, Memory}
-use Rattle.ks_audit.specs.declared.played.Played.{Played}
+use Rattle.ks_audit.specs.declared.replay.Played.{Played}
 use Rattle.ks_audit.specs.declared.audit.Audit.{Audit}
 use Rattle.ks_audit.specs.Audited.{IsLineOf, IsTaken, IsRefused}
 use Rattle.ks_audit.specs.Entries.{IsPlayedBy, PlaysEntry}

@@ -1,6 +1,6 @@
 -- One entry more of a journal: what is kept beside the cluster once it is played, and why it isn't.
 use Rattle.std.specs.Prelude.{◌≡◌, ℕ, ◌<◌, Bool, true, false, List, [], ◌∷◌, ◌++◌, Option, Some, None, ⊤, length, get_or, is_some}
-use Rattle.ks_row.specs.declared.record.TaskId.{TaskId}
+use Rattle.ks_record.specs.declared.record.TaskId.{TaskId}
 use Rattle.ks_plan.specs.Drafts.{DraftView}
 use Rattle.ks_plan.specs.Plan.{Plan, plan_of}
 use Rattle.ks_topo.specs.Places.{HasPlaces}
@@ -25,7 +25,7 @@ use Rattle.ks_audit.specs.declared.fault.AuditFault.{AuditFault}
 use Rattle.ks_audit.specs.declared.fault.AuditFault.TheVariants.{NotJournal, NotLegal, NotFaithful}
 use Rattle.ks_audit.specs.declared.fault.LineStop.{LineStop}
 use Rattle.ks_audit.specs.declared.fault.LineStop.TheVariants.{Fault, Memory}
-use Rattle.ks_audit.specs.declared.played.Played.{Played}
+use Rattle.ks_audit.specs.declared.replay.Played.{Played}
 use Rattle.ks_audit.specs.Audited.{IsPlaced, IsFirstUnfaithful}
 use Rattle.ks_audit.specs.Playing.{names_in, IsPlayed, AreAudited, AreJudged, IsFirstOf, commit_at}
 

@@ -16,21 +16,21 @@ ghost use Rattle.ks_audit.specs.Inputs.{AreInputs};
 ghost use Rattle.ks_audit.specs.Audits.{IsAudit, IsFaulty, IsLineStop, PlaysLine, TakesLine, journal_of, plan_by};
 
 use crate::fault::{AuditFault, LineStop};
-use crate::played::Played;
+use crate::replay::Played;
 use ks_audit_commit::AuditedTask;
 use ks_audit_entry::Conditions;
 use ks_audit_ledger::new_ledger;
 use ks_cluster::{Cluster, Work};
-use ks_hash::Hash128;
 use ks_history::Entry;
 use ks_journal_line::read_line;
 use ks_task::TaskWork;
+use ks_task_processing::Processing;
 use ks_topo::{TopicInfo, Topology};
 use std::alloc::{AllocError, Global};
 
 /// An audit of a journal over a topology: what is kept of its lines so far, and the first fault.
 #[derive(Drop)]
-pub struct Audit<'a, H: Hash128> {
+pub struct Audit<'a, H: Processing> {
     topology: &'a Topology,
     played: Played<TaskWork<'a, H>>,
     fault: Option<AuditFault>,
@@ -75,7 +75,7 @@ fn find_entry(alloc: Global, text: &[u8]) -> Result<Option<Entry>, AllocError>
 }
 
 // Plays the entry of a line.
-fn play_line<H: Hash128, W: Work>(
+fn play_line<H: Processing, W: Work>(
     alloc: Global,
     topology: &Topology,
     played: &mut Played<W>,
@@ -102,7 +102,7 @@ fn play_line<H: Hash128, W: Work>(
 }
 
 // What is kept of the empty journal, by these works.
-fn begin<H: Hash128, W: Work>(
+fn begin<H: Processing, W: Work>(
     alloc: Global,
     topology: &Topology,
     work: W,
@@ -139,7 +139,7 @@ fn begin<H: Hash128, W: Work>(
     })
 }
 
-impl<'a, H: Hash128> Audit<'a, H> {
+impl<'a, H: Processing> Audit<'a, H> {
     /// An audit of the empty journal, where each node has a partition and each input topic 1 to 64. Want of memory is the one error.
     pub fn new(alloc: Global, topology: &'a Topology) -> Result<Audit<'a, H>, AllocError>
         requires parts { HaveParts (plan_in topology.now) }

@@ -1,7 +1,7 @@
 //! Why a line of a journal is refused.
 ghost use Rattle.std.specs.Prelude.{◌≡◌};
 
-use ks_row::TaskId;
+use ks_record::TaskId;
 use std::alloc::AllocError;
 
 /// Why a line of a journal is refused.

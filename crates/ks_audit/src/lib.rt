@@ -2,11 +2,11 @@
 #![tactic(auto)]
 
 mod audit;
+mod commits;
 mod fault;
-mod judging;
 pub mod laws;
 mod placing;
-mod played;
+mod replay;
 
 pub use audit::Audit;
 pub use fault::AuditFault;

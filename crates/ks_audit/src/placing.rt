@@ -1,8 +1,8 @@
 //! Whether a record that was produced is an input record at its place.
 ghost use Rattle.std.specs.Prelude.{◌≡◌, ◌<◌, ◌↔◌, ◌&&◌, true, ℕ, List, IfOk, length, option_copied};
 ghost use Rattle.ks_law_kinds.specs.OfKind.{is_in_range, is_given, may_have, spells};
-ghost use Rattle.ks_row.specs.Spelling.{IsBytes};
-ghost use Rattle.ks_row.specs.Texts.{key_from};
+ghost use Rattle.ks_record.specs.Bytes.{IsBytes};
+ghost use Rattle.ks_record.specs.Texts.{key_from};
 ghost use Rattle.ks_row.specs.Reading.{row_from};
 ghost use Rattle.ks_plan.specs.declared.node.Topic.TheVariants.{Input as InputTopic};
 ghost use Rattle.ks_topo.specs.Topologies.{plan_in};
@@ -11,7 +11,8 @@ ghost use Rattle.ks_def_tasks.specs.Tasks.{part_of_key};
 ghost use Rattle.ks_def_tasks.specs.Rules.{rules_of};
 ghost use Rattle.ks_audit.specs.Audited.{IsInputAt};
 
-use ks_row::{Key, PartId, Rec, decode};
+use ks_record::{Key, PartId, Rec};
+use ks_row::decode;
 use ks_topo::Topology;
 use std::alloc::{AllocError, Global};
 

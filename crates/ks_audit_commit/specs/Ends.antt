@@ -1,8 +1,8 @@
 -- Where a task's decided records end in each partition to which it sends, beside what a transaction has for it.
 use Rattle.std.specs.Prelude.{ℕ, suc, ◌+◌, ◌&&◌, Bool, true, false, not, if◌then◌else◌, nat_le, nat_lt, List, [], ◌∷◌, ◌++◌, Option, Some, None, length, set}
-use Rattle.ks_row.specs.declared.record.PartId.{PartId}
-use Rattle.ks_row.specs.declared.record.TaskId.{TaskId}
-use Rattle.ks_row.specs.Parts.{same_part, same_task}
+use Rattle.ks_record.specs.declared.record.PartId.{PartId}
+use Rattle.ks_record.specs.declared.record.TaskId.{TaskId}
+use Rattle.ks_record.specs.Parts.{same_part, same_task}
 use Rattle.ks_law_restore.specs.Views.{is_empty}
 use Rattle.ks_audit_ledger.specs.declared.account.Sent.{Sent}
 

@@ -1,6 +1,6 @@
 -- A task that takes again what a commit names, in the state before that commit.
 use Rattle.std.specs.Prelude.{◌≡◌, ◌⊎◌, ℕ, ◌<◌, ◌≤◌, ◌==◌, Bool, true, false, nat_le, List, [], ◌∷◌}
-use Rattle.ks_row.specs.Records.{Record as Rec}
+use Rattle.ks_record.specs.Records.{Record as Rec}
 use Rattle.ks_plan.specs.Drafts.{DraftView}
 use Rattle.ks_history.specs.declared.journal.Entry.{Entry}
 use Rattle.ks_history.specs.Partition.{stable, below}

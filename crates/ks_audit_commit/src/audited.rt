@@ -21,11 +21,11 @@ use crate::ends::{is_behind, move_ends};
 use crate::ordering::{may_go_on, pass_all, take_order};
 use ks_audit_ledger::{Open, Sent};
 use ks_cluster::{Cluster, Work};
-use ks_hash::Hash128;
 use ks_history::Pending;
-use ks_row::{PartId, TaskId};
+use ks_record::{PartId, TaskId};
 use ks_standby::Replica;
 use ks_task::Task;
+use ks_task_processing::Processing;
 use ks_topo::Topology;
 use std::alloc::{AllocError, Global};
 
@@ -49,7 +49,7 @@ fn first_offsets(alloc: Global, inputs: &[u16]) -> Result<Vec<(u16, u64)>, Alloc
 
 // A task at rest takes what is pending; false where that can't be done. Want of memory is the one error; after it, and where it is false,
 // the task is to be dropped.
-fn take_pending<H: Hash128, W: Work>(
+fn take_pending<H: Processing, W: Work>(
     alloc: Global,
     topology: &Topology,
     cluster: &Cluster<W>,
@@ -64,7 +64,7 @@ fn take_pending<H: Hash128, W: Work>(
         (setup_of W.plan cluster.now) cluster.now.journal pending.now done task.new) }
 {
     // The journal is a history: a task at rest follows it.
-    let _journal = cluster.journal();
+    cluster.is_history();
     let inputs = topology.inputs(pending.task.sub);
     if !may_go_on(task, inputs, pending.offsets.as_slice()) {
         return Ok(false);
@@ -126,7 +126,7 @@ impl AuditedTask {
 
     /// Whether a commit is faithful for this task, which has these offsets pending in it: the task takes what they name. Want of memory is
     /// the one error; after it, and where the commit isn't faithful, the task is to be dropped.
-    pub fn judge<H: Hash128, W: Work>(
+    pub fn judge<H: Processing, W: Work>(
         &mut self,
         alloc: Global,
         topology: &Topology,
@@ -147,7 +147,7 @@ impl AuditedTask {
             → Judges (draft_of topology.now) (setup_of W.plan cluster.now) cluster.now.journal w
             pending.now b self.old self.new) }
     {
-        let _journal = cluster.journal();
+        cluster.is_history();
         let sent = open.sent.as_slice();
         if !is_behind(self.task.id(), self.ends.as_slice(), sent) {
             return Ok(false);
@@ -162,7 +162,8 @@ impl AuditedTask {
     pub fn rest(&mut self, open: &Open) -> Result<(), AllocError>
         ensures name { OnOk result ((d : DraftView) → IsTaskOf d self.old.task
             → name_of self.new ≡ name_of self.old) }
-        ensures rests { OnOk result ((d : DraftView) (setup : Setup) (journal : List Entry) (w epoch : ℕ)
+        ensures rests { OnOk result ((d : DraftView) (setup : Setup) (journal : List Entry)
+            (w epoch : ℕ)
             (p : PendingOffsets) → MayRest d setup journal w epoch open.now p self.old
             → IsAudited d setup (journal ++ commit_of w epoch ∷ []) self.new) }
     {

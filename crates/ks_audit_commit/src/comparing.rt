@@ -1,12 +1,12 @@
 //! What a task made, compared with what a transaction sent for it.
 ghost use Rattle.std.specs.Prelude.{◌≡◌, ◌≤◌, IfSome, drop, length, option_map, option_copied};
-ghost use Rattle.ks_row.specs.Records.{record_seen};
+ghost use Rattle.ks_record.specs.Records.{record_seen};
 ghost use Rattle.ks_law_restore.specs.Views.{is_empty, names_part};
 ghost use Rattle.ks_audit_commit.specs.Ends.{is_sent_by};
 ghost use Rattle.ks_audit_commit.specs.Comparing.{same_bytes, same_record, behind, is_sent_to, left_behind, are_sent, outputs_are_sent, is_output, sent_are_outputs, are_made};
 
 use ks_audit_ledger::Sent;
-use ks_row::{PartId, RecordRef, SharedRecords, TaskId, equal_bytes};
+use ks_record::{PartId, RecordRef, SharedRecords, TaskId, equal_bytes};
 
 fn is_same_bytes(a: Option<&[u8]>, b: Option<&[u8]>) -> bool
     ensures { result ≡ same_bytes (option_copied a.entry) (option_copied b.entry) }

@@ -4,7 +4,7 @@ ghost use Rattle.ks_audit_commit.specs.Ends.{end_in, end_place, with_end, first_
 
 use crate::comparing::is_sent_by;
 use ks_audit_ledger::Sent;
-use ks_row::{PartId, TaskId};
+use ks_record::{PartId, TaskId};
 use std::alloc::AllocError;
 
 // One past the last decided record in a partition; 0 where there is none.

@@ -13,9 +13,9 @@ ghost use Rattle.ks_audit_commit.specs.Judging.{IsTaking, TakesNamed, TakesOrder
 
 use crate::taking::{pass_to, take_run};
 use ks_cluster::{Cluster, Work};
-use ks_hash::Hash128;
 use ks_history::Pending;
 use ks_task::Task;
+use ks_task_processing::Processing;
 use ks_topo::Topology;
 use std::alloc::{AllocError, Global};
 
@@ -35,7 +35,8 @@ fn offset_of(offsets: &[(u16, u64)], topic: u16) -> Option<u64>
 
 // Whether an offset is named for an input, at or past which the task stands no further.
 fn is_ahead(task: &Task, topic: u16, offsets: &[(u16, u64)]) -> bool
-    ensures { result ≡ is_ahead (offset_named topic offsets.now) ((task_view task.now).inputs topic) }
+    ensures { result ≡ is_ahead (offset_named topic offsets.now)
+        ((task_view task.now).inputs topic) }
 {
     match offset_of(offsets, topic) {
         Some(upto) => task.input_position(topic) <= upto,
@@ -68,7 +69,7 @@ pub fn may_go_on(task: &Task, inputs: &[u16], offsets: &[(u16, u64)]) -> bool
 }
 
 // A task takes a run of an order: so many records of a topic, each below the offset that is named for it.
-fn take_named<H: Hash128, W: Work>(
+fn take_named<H: Processing, W: Work>(
     alloc: Global,
     topology: &Topology,
     cluster: &Cluster<W>,
@@ -95,7 +96,7 @@ fn take_named<H: Hash128, W: Work>(
 
 /// A task that has taken nothing takes all records that a pending order names, in that order; false where they aren't there below the
 /// pending offsets. Want of memory is the one error; after it, and where it is false, the task is to be dropped.
-pub fn take_order<H: Hash128, W: Work>(
+pub fn take_order<H: Processing, W: Work>(
     alloc: Global,
     topology: &Topology,
     cluster: &Cluster<W>,
@@ -121,7 +122,7 @@ pub fn take_order<H: Hash128, W: Work>(
 }
 
 // A task goes on to the offset that is pending for an input.
-fn pass_one<H: Hash128, W: Work>(
+fn pass_one<H: Processing, W: Work>(
     alloc: Global,
     topology: &Topology,
     cluster: &Cluster<W>,
@@ -133,7 +134,8 @@ fn pass_one<H: Hash128, W: Work>(
     requires made { IsSetup (setup_of W.plan cluster.now) }
     requires taking { IsTaking (draft_of topology.now) (setup_of W.plan cluster.now)
         cluster.now.journal pending.now task.old }
-    requires input { has_topic topic ((setup_of W.plan cluster.now).plan.inputs pending.now.task.sub)
+    requires input { has_topic topic ((setup_of W.plan cluster.now).plan.inputs
+        pending.now.task.sub)
         ≡ true }
     ensures { IfOk result (λ done. PassesOne (draft_of topology.now) (setup_of W.plan cluster.now)
         cluster.now.journal pending.now topic done task.old task.new) }
@@ -146,7 +148,7 @@ fn pass_one<H: Hash128, W: Work>(
 
 /// A task that took a pending order goes on to the pending offset of each of its inputs; false where a record stands before one, or one
 /// isn't stable. Want of memory is the one error; after it, and where it is false, the task is to be dropped.
-pub fn pass_all<H: Hash128, W: Work>(
+pub fn pass_all<H: Processing, W: Work>(
     alloc: Global,
     topology: &Topology,
     cluster: &Cluster<W>,

@@ -11,14 +11,14 @@ ghost use Rattle.ks_task.specs.Tasks.{task_view, IsTaskOf};
 ghost use Rattle.ks_audit_commit.specs.Taking.{IsTaker, HasMet, TakesOne, PassesTo, TakesRun, is_clear};
 
 use ks_cluster::{Cluster, Work};
-use ks_hash::Hash128;
-use ks_row::{PartId, Rec};
+use ks_record::{PartId, Rec};
 use ks_task::Task;
+use ks_task_processing::Processing;
 use ks_topo::Topology;
 use std::alloc::{AllocError, Global};
 
 // Takes a record, if it stands before this offset.
-fn take_below<H: Hash128>(
+fn take_below<H: Processing>(
     alloc: Global,
     topology: &Topology,
     task: &mut Task,
@@ -43,7 +43,7 @@ fn take_below<H: Hash128>(
 
 /// A task takes the next readable record of an input, if one stands before this offset; false, and it is as it was, where none does. Want
 /// of memory is the one error; then the task is to be dropped.
-pub fn take_one<H: Hash128, W: Work>(
+pub fn take_one<H: Processing, W: Work>(
     alloc: Global,
     topology: &Topology,
     cluster: &Cluster<W>,
@@ -82,7 +82,7 @@ fn is_clear(recs: &[(u64, Rec)], next: u64, upto: u64) -> bool
 
 /// A task passes on to this offset of an input, at or past which it stands; false, and it is as it was, where a readable record stands
 /// before, or the offset isn't stable. Want of memory is the one error; then the task is as it was.
-pub fn pass_to<H: Hash128, W: Work>(
+pub fn pass_to<H: Processing, W: Work>(
     alloc: Global,
     topology: &Topology,
     cluster: &Cluster<W>,
@@ -114,7 +114,7 @@ pub fn pass_to<H: Hash128, W: Work>(
 
 /// A task takes so many records of an input, each below this offset; false where there aren't so many, and then it has taken those that
 /// there are. Want of memory is the one error; then the task is to be dropped.
-pub fn take_run<H: Hash128, W: Work>(
+pub fn take_run<H: Processing, W: Work>(
     alloc: Global,
     topology: &Topology,
     cluster: &Cluster<W>,

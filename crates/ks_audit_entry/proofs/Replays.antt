@@ -1,7 +1,7 @@
 -- A request that was made, and a reply that was compared.
 use Rattle.std.proofs.Common.{◌≡◌, Bool, true, List, ◌∷◌, [], ◌++◌, sym, ap, ◌∙◌, append-nil}
 use Rattle.std.specs.Prelude.{ℕ, ◌↔◌}
-use Rattle.ks_row.specs.declared.assignment.Assignment.{Assignment}
+use Rattle.ks_record.specs.declared.assignment.Assignment.{Assignment}
 use Rattle.ks_history.specs.declared.journal.Entry.{Entry}
 use Rattle.ks_history.specs.declared.journal.Reply.{Reply}
 use Rattle.ks_history.specs.declared.journal.Request.{Request}

@@ -1,6 +1,6 @@
 //! Whether a request meets its conditions.
 ghost use Rattle.std.specs.Prelude.{◌≡◌, ◌&&◌, ℕ, List, IfOk, true, false, length, nat_le, if◌then◌else◌};
-ghost use Rattle.ks_row.specs.declared.record.TaskId.{TaskId};
+ghost use Rattle.ks_record.specs.declared.record.TaskId.{TaskId};
 ghost use Rattle.ks_history.specs.Machine.{TaskPlan, has_topic};
 ghost use Rattle.ks_history.specs.State.{has_task, IsSetup, IsPart};
 ghost use Rattle.ks_history.specs.History.{are_places, are_tasks, are_offsets, names_topic};
@@ -9,7 +9,7 @@ ghost use Rattle.ks_audit_entry.specs.Conditions.{is_part, is_worker, are_assign
 
 use ks_cluster::{Cluster, Work};
 use ks_history::Request;
-use ks_row::{Assignment, PartId, TaskId};
+use ks_record::{Assignment, PartId, TaskId};
 use std::alloc::{AllocError, Global};
 
 /// What a cluster was made with.

@@ -10,7 +10,7 @@ use crate::replies::{
 };
 use ks_cluster::{Cluster, Work};
 use ks_history::{Entry, Reply, Request};
-use ks_row::{Assignment, PartId, Rec, SharedRecords, TaskId};
+use ks_record::{Assignment, PartId, Rec, SharedRecords, TaskId};
 use std::alloc::{AllocError, Global};
 
 #[tactic(auto, using(crate::proofs::Replays::replayed_by))]

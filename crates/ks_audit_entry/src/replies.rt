@@ -4,7 +4,7 @@ ghost use Rattle.ks_history.specs.declared.journal.Reply.TheVariants.{Done, Numb
 ghost use Rattle.ks_cluster.specs.Replies.{done_or, number_or, truth_or};
 
 use ks_history::Reply;
-use ks_row::{PartId, Refused};
+use ks_record::{PartId, Refused};
 
 fn is_refused(reply: &Reply, refused: Refused) -> bool
     ensures { (result ≡ true) ↔ (reply.now ≡ Refuse refused) }

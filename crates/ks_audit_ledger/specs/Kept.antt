@@ -1,6 +1,6 @@
 -- All that an account tells of a journal.
 use Rattle.std.specs.Prelude.{◌≡◌, ℕ, true, cond, List, Some}
-use Rattle.ks_row.specs.declared.record.TaskId.{TaskId}
+use Rattle.ks_record.specs.declared.record.TaskId.{TaskId}
 use Rattle.ks_history.specs.declared.journal.Entry.{Entry}
 use Rattle.ks_history.specs.declared.transaction.Pending.{Pending}
 use Rattle.ks_history.specs.State.{Setup, has_task}

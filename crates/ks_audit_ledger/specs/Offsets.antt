@@ -1,8 +1,8 @@
 -- What an account tells of the offsets of a transaction's records.
 use Rattle.std.specs.Prelude.{◌≡◌, ℕ, ◌&&◌, cond, if◌then◌else◌, List, [], ◌∷◌, ◌++◌}
-use Rattle.ks_row.specs.declared.record.PartId.{PartId}
-use Rattle.ks_row.specs.declared.record.TaskId.{TaskId}
-use Rattle.ks_row.specs.Parts.{same_part, same_task}
+use Rattle.ks_record.specs.declared.record.PartId.{PartId}
+use Rattle.ks_record.specs.declared.record.TaskId.{TaskId}
+use Rattle.ks_record.specs.Parts.{same_part, same_task}
 use Rattle.ks_history.specs.declared.journal.Entry.{Entry}
 use Rattle.ks_history.specs.Partition.{Logged}
 use Rattle.ks_history.specs.State.{Setup}

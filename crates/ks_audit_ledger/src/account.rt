@@ -1,6 +1,6 @@
 //! What a producer has put into its undecided transaction.
 use ks_history::Pending;
-use ks_row::{PartId, Seq, SharedRecords, TaskId};
+use ks_record::{PartId, Seq, SharedRecords, TaskId};
 
 /// Records that an accepted append put into a partition, the first of them at this offset.
 #[derive(Drop)]

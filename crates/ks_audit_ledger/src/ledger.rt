@@ -8,7 +8,7 @@ ghost use Rattle.ks_audit_ledger.specs.Ledgers.{is_decidable, ledger_after};
 use crate::account::{Account, Open, Sent};
 use ks_group::new_pending;
 use ks_history::{Entry, Pending, Reply, Request};
-use ks_row::{PartId, Seq, SharedRecords, TaskId};
+use ks_record::{PartId, Seq, SharedRecords, TaskId};
 use std::alloc::{AllocError, Global};
 use std::mem;
 

@@ -1,7 +1,7 @@
 -- The first records of a changelog that a task's store takes, and one more.
 use Rattle.std.proofs.Common.{◌≡◌, ℕ, ◌+◌, ◌<◌, List, [], ◌∷◌, ◌++◌, length, get_or, take, refl, sym, ap, ap₂, ◌∙◌, arith}
 use Rattle.std.proofs.lemmas.List.{get_or-map, length-map, take_more}
-use Rattle.ks_row.specs.Records.{Record as Rec}
+use Rattle.ks_record.specs.Records.{Record as Rec}
 use Rattle.ks_store.specs.Restored.{records_of}
 use Rattle.ks_store.proofs.Applied.{latest_from-append}
 use Rattle.ks_cache.specs.Lists.{Pairs, cached_with, cached_after}

@@ -1,8 +1,8 @@
 -- The two ways in which a task's store is kept.
 use Rattle.ks_cache.specs.Cached.{map_of}
 use Rattle.ks_cache.specs.Kept.{Kept, kept_plain}
-use Rattle.ks_cache.specs.declared.kept.Holding.{Holding}
-use Rattle.ks_cache.specs.declared.kept.Holding.TheVariants.{Plain, Cached}
+use Rattle.ks_cache.specs.declared.task_store.Holding.{Holding}
+use Rattle.ks_cache.specs.declared.task_store.Holding.TheVariants.{Plain, Cached}
 
 abbrev pub kept_of : Holding → Kept
 kept_of (Plain store) = kept_plain store

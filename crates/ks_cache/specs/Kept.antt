@@ -1,7 +1,7 @@
 -- A task's store as its map, the list of what is held back, and how much that may be (Kafka Streams: a CachingKeyValueStore over a
 -- KeyValueStore).
 use Rattle.std.specs.Prelude.{ℕ, [], List, Option}
-use Rattle.ks_row.specs.Records.{Record as Rec}
+use Rattle.ks_record.specs.Records.{Record as Rec}
 use Rattle.ks_def_runs.specs.Bytes.{Store, empty_store}
 use Rattle.ks_def_runs.specs.FinMap as map
 use Rattle.ks_history.specs.Machine.{applied, latest_from}

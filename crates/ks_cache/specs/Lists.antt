@@ -1,7 +1,7 @@
 -- The cached list: the writes since the last flush that a bounded cache holds, the newest first, and what it has written through (Kafka
 -- Streams: record caches).
 use Rattle.std.specs.Prelude.{ℕ, ◌==◌, not, List, [], ◌∷◌, take, drop, Option, Some, None}
-use Rattle.ks_row.specs.Records.{Record as Rec}
+use Rattle.ks_record.specs.Records.{Record as Rec}
 use Rattle.std.specs.List.{starts_with}
 use Rattle.std.specs.Ordering.{eq_by_cmp}
 use Rattle.std.specs.FinMap.Entries.{where_key}

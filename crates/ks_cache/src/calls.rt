@@ -4,8 +4,8 @@ ghost use Rattle.ks_store.specs.Calls.{reply_to, replies_to, after_calls, store_
 ghost use Rattle.ks_cache.specs.Cached.{map_of};
 ghost use Rattle.ks_cache.specs.Calls.{cached_by, below_by, cached_by_all, below_by_all};
 
-use crate::cached::CachedStore;
-use ks_row::{Blob, Seq};
+use crate::cached_store::CachedStore;
+use ks_record::{Blob, Seq};
 use ks_store::{KvStore, StoreCall, StoreReply};
 use std::alloc::{AllocError, Global};
 

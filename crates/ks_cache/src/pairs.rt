@@ -8,7 +8,7 @@ ghost use Rattle.ks_cache.specs.Lists.{overlaid, without, put_cached, put_throug
 
 use ks_store::KvStore;
 use lru::LruCache;
-use std::alloc::{AllocError, Global};
+use std::alloc::AllocError;
 
 /// Pairs in the order of their writing, the newest first.
 pub type Cache = LruCache<Vec<u8>, Vec<u8>>;

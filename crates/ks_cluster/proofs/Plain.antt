@@ -1,10 +1,10 @@
 -- A producer as its parts are kept: each word of a step over a producer is one over these parts.
 use Rattle.std.proofs.Common.{◌≡◌, ◌≢◌, ℕ, ◌<◌, Bool, true, false, cond, eqb, List, [], ◌∷◌, ◌++◌, length, set, get_or, Option, Some, None, refl, sym, ap, ◌∙◌, subst, ⊎_elim}
 use Rattle.std.proofs.lemmas.Bool.Decides.{eqb_tells}
-use Rattle.ks_row.specs.declared.record.PartId.{PartId}
-use Rattle.ks_row.specs.declared.record.TaskId.{TaskId}
-use Rattle.ks_row.specs.declared.assignment.Marker.{Marker}
-use Rattle.ks_row.specs.declared.assignment.Refused.{Refused}
+use Rattle.ks_record.specs.declared.record.PartId.{PartId}
+use Rattle.ks_record.specs.declared.record.TaskId.{TaskId}
+use Rattle.ks_record.specs.declared.assignment.Marker.{Marker}
+use Rattle.ks_record.specs.declared.assignment.Refused.{Refused}
 use Rattle.ks_history.specs.declared.transaction.Pending.{Pending}
 use Rattle.ks_history.specs.declared.transaction.Transaction.{Transaction}
 use Rattle.ks_history.specs.declared.transaction.Producer.{Producer}

@@ -1,7 +1,7 @@
 -- The parked pairs of an instance and a task as a list.
 use Rattle.std.specs.Prelude.{ℕ, ◌==◌, ◌&&◌, ◌||◌, Bool, false, if◌then◌else◌, List, [], ◌∷◌}
-use Rattle.ks_row.specs.Parts.{same_task}
-use Rattle.ks_row.specs.declared.record.TaskId.{TaskId}
+use Rattle.ks_record.specs.Parts.{same_task}
+use Rattle.ks_record.specs.declared.record.TaskId.{TaskId}
 
 -- a task is parked at an instance
 abbrev pub is_parked_in : ℕ → TaskId → List (ℕ × TaskId) → Bool

@@ -1,9 +1,9 @@
 -- Which assignments are good, and journals in which each assignment that was taken is good (KIP-441: tasks are placed by what the members hold and by the ends of the changelogs).
 use Rattle.std.specs.Prelude.{◌≡◌, ℕ, Bool, true, List, ◌∷◌, ◌++◌}
 use mathlib.Core.List.{IsPrefix}
-use Rattle.ks_row.specs.declared.record.PartId.{PartId}
-use Rattle.ks_row.specs.declared.record.TaskId.{TaskId}
-use Rattle.ks_row.specs.declared.assignment.Assignment.{Assignment}
+use Rattle.ks_record.specs.declared.record.PartId.{PartId}
+use Rattle.ks_record.specs.declared.record.TaskId.{TaskId}
+use Rattle.ks_record.specs.declared.assignment.Assignment.{Assignment}
 use Rattle.ks_history.specs.declared.journal.Request.TheVariants.{Assign}
 use Rattle.ks_history.specs.declared.journal.Reply.TheVariants.{Truth}
 use Rattle.ks_history.specs.declared.journal.Entry.{Entry}

@@ -1,6 +1,6 @@
 -- Outcomes as replies.
 use Rattle.std.specs.Prelude.{ℕ, Bool, Result, Ok, Err}
-use Rattle.ks_row.specs.declared.assignment.Refused.{Refused}
+use Rattle.ks_record.specs.declared.assignment.Refused.{Refused}
 use Rattle.ks_history.specs.declared.journal.Reply.{Reply}
 use Rattle.ks_history.specs.declared.journal.Reply.TheVariants.{Done, Number, Truth, Refused as Refuse}
 

@@ -14,7 +14,7 @@ use crate::work::Work;
 use ks_group::Group;
 use ks_history::Pending;
 use ks_log::{Batch, Log};
-use ks_row::{Assignment, PartId, Rec, Refused, Seq, SharedRecords, TaskId};
+use ks_record::{Assignment, PartId, Rec, Refused, Seq, SharedRecords, TaskId};
 use ks_txn::Txns;
 use std::alloc::{AllocError, Global};
 

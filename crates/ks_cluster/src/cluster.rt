@@ -20,7 +20,7 @@ use crate::work::Work;
 use ks_group::{copy_assignment, copy_held, new_pending};
 use ks_history::{Entry, Journal, Reply, Request, Status};
 use ks_log::{copy, ends_in};
-use ks_row::{Assignment, PartId, Rec, Refused, Seq, SharedRecords, TaskId};
+use ks_record::{Assignment, PartId, Rec, Refused, Seq, SharedRecords, TaskId};
 use std::alloc::{AllocError, Global};
 use std::marker::Model;
 use std::mem;
@@ -470,6 +470,17 @@ impl<W: Work> Cluster<W> {
         ensures few { records_in (setup_of W.plan self.now) self.now.journal < 2 ^ 48 }
     {
         self.journal.as_slice()
+    }
+
+    /// That the journal is legal and faithful, that each assignment in it that was taken is good by the work, and that it has fewer
+    /// than 2^48 records: facts for who calls it. It does nothing.
+    pub fn is_history(&self)
+        ensures history { IsHistory (setup_of W.plan self.now) self.now.journal }
+        ensures placed { ArePlaced (W.good self.now.work) (setup_of W.plan self.now)
+            self.now.journal }
+        ensures few { records_in (setup_of W.plan self.now) self.now.journal < 2 ^ 48 }
+    {
+        let _journal = self.journal();
     }
 
     /// The journal alone: legal, faithful, with good assignments and fewer than 2^48 records.

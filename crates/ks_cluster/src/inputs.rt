@@ -5,7 +5,7 @@ ghost use Rattle.ks_cluster.specs.Moves.{first_rows};
 
 use crate::work::Work;
 use ks_group::TaskInputs;
-use ks_row::TaskId;
+use ks_record::TaskId;
 use std::alloc::{AllocError, Global};
 
 /// Each task beside the topics that it reads.

@@ -12,5 +12,5 @@ mod work;
 
 pub use cluster::Cluster;
 pub use ks_history::{Entry, Journal, Reply, Request, Status};
-pub use ks_row::Refused;
+pub use ks_record::Refused;
 pub use work::Work;

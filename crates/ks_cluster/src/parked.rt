@@ -2,7 +2,7 @@
 ghost use Rattle.std.specs.Prelude.{◌≡◌, IfOk};
 ghost use Rattle.ks_cluster.specs.ParkedPairs.{is_parked_in, unparked_in};
 
-use ks_row::TaskId;
+use ks_record::TaskId;
 use std::alloc::{AllocError, Global};
 
 /// Whether a task is parked at an instance: whether the two stand together among parked pairs.

@@ -3,7 +3,7 @@ ghost use Rattle.std.specs.Prelude.{◌≡◌};
 ghost use Rattle.ks_cluster.specs.Replies.{done_or, number_or, truth_or};
 
 use ks_history::Reply;
-use ks_row::Refused;
+use ks_record::Refused;
 
 /// The reply to a request that answers nothing, or its refusal.
 pub fn done(outcome: &Result<(), Refused>) -> Reply

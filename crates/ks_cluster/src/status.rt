@@ -8,7 +8,7 @@ ghost use Rattle.ks_cluster.specs.Statuses.{ends_on, ends_if, changelogs_on};
 use crate::work::Work;
 use ks_group::copy_assignment;
 use ks_log::Log;
-use ks_row::{Assignment, PartId, TaskId};
+use ks_record::{Assignment, PartId, TaskId};
 use std::alloc::{AllocError, Global};
 
 /// Members again: a copy with its own memory.
@@ -125,7 +125,7 @@ pub fn changelog_ends<W: Work>(
     ensures { IfOk result (λ made. made.items
         ≡ changelogs_on (setup_from (W.plan work.now) [] tasks.now) log.now 0 counts.now) }
 {
-    let mut made = Vec::new(alloc);
+    let mut made = Vec::with_capacity(alloc, counts.len().saturating_mul(4))?;
     for (i, count) in counts.iter().enumerate() {
         let Ok(topic) = u16::try_from(i) else {
             return Err(AllocError);

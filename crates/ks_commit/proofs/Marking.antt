@@ -1,9 +1,9 @@
 -- A decision, and the markers that are written after it.
 use Rattle.std.proofs.Common.{◌≡◌, ℕ, Bool, true, false, cond, ◌||◌, List, [], ◌∷◌, ◌++◌, Option, Some, None, refl, sym, ap, ◌∙◌, arith}
 use Rattle.std.specs.Prelude.{◌==◌}
-use Rattle.ks_row.specs.declared.record.PartId.{PartId}
-use Rattle.ks_row.specs.declared.assignment.Marker.{Marker}
-use Rattle.ks_row.specs.Parts.{same_part}
+use Rattle.ks_record.specs.declared.record.PartId.{PartId}
+use Rattle.ks_record.specs.declared.assignment.Marker.{Marker}
+use Rattle.ks_record.specs.Parts.{same_part}
 use Rattle.ks_history.specs.declared.partition.Slot.TheVariants.{Mark}
 use Rattle.ks_history.specs.declared.journal.Request.TheVariants.{Decide}
 use Rattle.ks_history.specs.declared.transaction.Transaction.{Transaction}

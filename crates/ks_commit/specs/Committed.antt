@@ -1,9 +1,9 @@
 -- What a worker's commit of several tasks' work makes of a cluster (KIP-98, KIP-447).
 use Rattle.std.specs.Prelude.{◌≡◌, ℕ, ◌==◌, ◌≤◌, Bool, true, false, if◌then◌else◌, ◌||◌, Some, None, List, [], ◌∷◌}
 use Rattle.std.specs.List.{All}
-use Rattle.ks_row.specs.Records.{Record as Rec}
-use Rattle.ks_row.specs.declared.record.PartId.{PartId}
-use Rattle.ks_row.specs.declared.record.TaskId.{TaskId}
+use Rattle.ks_record.specs.Records.{Record as Rec}
+use Rattle.ks_record.specs.declared.record.PartId.{PartId}
+use Rattle.ks_record.specs.declared.record.TaskId.{TaskId}
 use Rattle.ks_history.specs.declared.journal.Entry.{Entry}
 use Rattle.ks_history.specs.Machine.{TaskPlan}
 use Rattle.ks_history.specs.State.{State, Setup, IsPart, has_task, are_once, pending_of, committed_with}

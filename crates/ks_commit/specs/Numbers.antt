@@ -1,7 +1,7 @@
 -- Counts by partition.
 use Rattle.std.specs.Prelude.{ℕ, if◌then◌else◌, List, [], ◌∷◌}
-use Rattle.ks_row.specs.declared.record.PartId.{PartId}
-use Rattle.ks_row.specs.Parts.{same_part}
+use Rattle.ks_record.specs.declared.record.PartId.{PartId}
+use Rattle.ks_record.specs.Parts.{same_part}
 
 -- without a partition
 abbrev pub without : PartId → List (PartId × ℕ) → List (PartId × ℕ)

@@ -10,7 +10,7 @@ ghost use Rattle.ks_cluster.specs.Placed.{IsGoodAt};
 ghost use Rattle.ks_cluster.specs.View.{setup_of, state_of, AddsEntry};
 
 use ks_cluster::{Cluster, Work};
-use ks_row::{Assignment, PartId, SharedRecords, TaskId};
+use ks_record::{Assignment, PartId, SharedRecords, TaskId};
 use std::alloc::{AllocError, Global};
 
 /// Takes a partition into the transaction.

@@ -13,7 +13,7 @@ use crate::publisher::Publisher;
 use crate::sending::send_all;
 use crate::work::Frozen;
 use ks_cluster::{Cluster, Work};
-use ks_row::{PartId, Seq};
+use ks_record::{PartId, Seq};
 use std::alloc::{AllocError, Global};
 
 /// A task's own partitions among its outputs.

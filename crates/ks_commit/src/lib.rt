@@ -12,5 +12,6 @@ mod work;
 
 pub use committing::commit;
 pub use markers::write_markers;
+pub use numbers::{number_at, with_next_number};
 pub use publisher::Publisher;
 pub use work::Frozen;

@@ -3,11 +3,11 @@ ghost use Rattle.std.specs.Prelude.{◌≡◌, IfOk};
 ghost use Rattle.ks_commit.specs.Alone.{number_in};
 ghost use Rattle.ks_commit.specs.Numbers.{renumber};
 
-use ks_row::PartId;
+use ks_record::PartId;
 use std::alloc::{AllocError, Global};
 
 /// The number of a partition; 0 where none stands.
-pub fn number(numbers: &[(PartId, u64)], part: PartId) -> u64
+pub fn number_at(numbers: &[(PartId, u64)], part: PartId) -> u64
     ensures { result ≡ number_in part numbers.now }
 {
     for pair in numbers {

@@ -11,7 +11,7 @@ ghost use Rattle.ks_commit.specs.Everything.{everything, IsGoodForAll};
 
 use crate::accepted::{assign, committed};
 use ks_cluster::{Cluster, Work};
-use ks_row::{Assignment, PartId, Seq, TaskId};
+use ks_record::{Assignment, PartId, Seq, TaskId};
 use std::alloc::{AllocError, Global};
 
 /// A worker that publishes: its epoch, its generation, and how many records of its epoch it has put into each partition.
@@ -61,7 +61,7 @@ impl Publisher {
         ensures started { IfOk result (λ p. Started W.plan cluster.old cluster.new worker) }
         ensures err { OnErr result (Longer worker 0 cluster.old cluster.new) }
     {
-        let _journal = cluster.journal();
+        cluster.is_history();
         let epoch = cluster.init(alloc, worker)?;
         let generation = cluster.join(alloc, worker)?;
         let all = all_active(alloc, worker, tasks)?;

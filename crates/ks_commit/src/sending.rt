@@ -9,11 +9,11 @@ ghost use Rattle.ks_commit.specs.Work.{work_view};
 ghost use Rattle.ks_commit.specs.Committed.{works_of, IsSending, IsSame, IsOfCluster, EachOf};
 
 use crate::accepted::{add, append, send_offsets};
-use crate::numbers::{number, with_next_number};
+use crate::numbers::{number_at, with_next_number};
 use crate::publisher::Publisher;
 use crate::work::Frozen;
 use ks_cluster::{Cluster, Work};
-use ks_row::{PartId, SharedRecords, TaskId};
+use ks_record::{PartId, SharedRecords, TaskId};
 use std::alloc::{AllocError, Global};
 
 /// Takes a partition into the transaction, and puts records of a task there.
@@ -37,7 +37,7 @@ fn put<W: Work>(
     ensures err { OnErr result (Longer publisher.old.worker 0 cluster.old cluster.new) }
 {
     let (worker, epoch) = (publisher.worker, publisher.epoch);
-    let before = number(publisher.numbers.as_slice(), part);
+    let before = number_at(publisher.numbers.as_slice(), part);
     add(alloc, cluster, worker, epoch, part)?;
     append(alloc, cluster, worker, epoch, before, task, part, recs)?;
     let ends = cluster.ends(alloc, &[part])?;

@@ -1,5 +1,5 @@
 //! The work of a task, as a transaction publishes it.
-use ks_row::{PartId, Seq, SharedRecords, TaskId};
+use ks_record::{PartId, Seq, SharedRecords, TaskId};
 
 /// The work of a task since its last commit.
 #[derive(Drop)]

@@ -11,7 +11,7 @@ use Rattle.std.specs.FinMap.Entries.{put, by_order, below_all, is_sorted}
 use Rattle.std.proofs.lemmas.Bool.{true≢false}
 use Rattle.std.proofs.lemmas.Bool.Decides.{Decides-eqb}
 use Rattle.std.proofs.lemmas.Slice.Eq.{starts_is}
-use Rattle.ks_row.specs.Texts.{IsKey, key_from}
+use Rattle.ks_record.specs.Texts.{IsKey, key_from}
 use Rattle.ks_row.specs.Reading.{◌>>=◌}
 use Rattle.ks_row.proofs.Fields.{wide32, bytes_again, number_again}
 use Rattle.ks_row.proofs.Spelled.{key_again}

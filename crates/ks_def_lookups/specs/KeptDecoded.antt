@@ -1,6 +1,6 @@
 -- What the store of the right side keeps is the task machine's subscription store, read from the same bytes.
 use Rattle.std.specs.Prelude.{◌≡◌, ℕ, true}
-use Rattle.ks_row.specs.Texts.{IsKey}
+use Rattle.ks_record.specs.Texts.{IsKey}
 use Rattle.ks_def_runs.specs.FinMap as fin
 use Rattle.ks_plan.specs.Plan.{Plan}
 use Rattle.ks_plan.specs.declared.node.Topic.TheVariants.{HashChangelog}

@@ -1,6 +1,6 @@
 -- What a task's decoded stores have, looked up in their bytes.
 use Rattle.std.specs.Prelude.{◌≡◌, ℕ, List, [], Option, Some, None, cond}
-use Rattle.ks_row.specs.Texts.{IsKey, key_from}
+use Rattle.ks_record.specs.Texts.{IsKey, key_from}
 use Rattle.ks_row.specs.Reading.{◌>>=◌}
 use Rattle.ks_plan.specs.Plan.{Plan, is_windowed}
 use Rattle.ks_plan.specs.Layout.{kind_at, number_of}

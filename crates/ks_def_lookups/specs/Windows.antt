@@ -1,7 +1,7 @@
 -- What a windowed count makes of one item over a store of bytes: the greatest timestamp, and the count of each window.
 -- Kafka Streams developer guide, "Windowing", on grace periods.
 use Rattle.std.specs.Prelude.{ℕ, ◌+◌, List, [], ◌∷◌, ◌++◌, Option, Some, None, cond, fold, nat_eq}
-use Rattle.ks_row.specs.Records.{Record as Rec}
+use Rattle.ks_record.specs.Records.{Record as Rec}
 use Rattle.ks_row.specs.Reading.{◌>>=◌}
 use Rattle.ks_def_runs.specs.Bytes.{Store}
 use Rattle.ks_def_runs.specs.FinMap as fin

@@ -1,6 +1,6 @@
 -- Pairs of keys and values that are bytes.
 use Rattle.std.specs.Prelude.{ℕ, List, [], ◌∷◌}
-use Rattle.ks_row.specs.Spelling.{IsBytes}
+use Rattle.ks_record.specs.Bytes.{IsBytes}
 
 -- all keys and values are bytes
 abbrev pub ArePairs : List (List ℕ × List ℕ) → Type 0

@@ -12,7 +12,7 @@ use Rattle.std.specs.Cmp.{IsTotalOrder, nat_cmp_total, then_total}
 use Rattle.std.specs.Cmp.Lexicographic.{nat_list_cmp_total}
 use Rattle.std.specs.FinMap.{IsAntisymmetric, slice_cmp-IsAntisymmetric, nat_cmp-IsAntisymmetric}
 use Rattle.std.specs.FinMap.Entries.{put, by_order}
-use Rattle.ks_row.specs.Texts.{IsKey}
+use Rattle.ks_record.specs.Texts.{IsKey}
 use Rattle.ks_row.specs.Reading.{◌>>=◌}
 use Rattle.ks_wire.specs.declared.values.Agg.{Agg}
 use Rattle.ks_wire.specs.Spelling.{window_key, agg_bytes, time_key, time_bytes}

@@ -11,7 +11,7 @@ use Rattle.ks_plan.specs.Layout.{kind_at, right_of, up_to, drain_order, parts_of
 use Rattle.ks_def_runs.specs.FinMap as map
 use Rattle.ks_query.specs.Streams.{Input}
 use Rattle.ks_def_runs.specs.Run.{RunState, run}
-use Rattle.ks_row.specs.declared.record.TaskId.{TaskId}
+use Rattle.ks_record.specs.declared.record.TaskId.{TaskId}
 use Rattle.ks_def_tasks.specs.Messages.{Place, shown, Item, Store, Rules}
 use Rattle.ks_query.specs.Windows.{WindowKey}
 use Rattle.ks_query.specs.Aggregates.{agg_row}

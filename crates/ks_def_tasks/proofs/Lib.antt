@@ -15,3 +15,4 @@ pub mod Counts
 pub mod Windowed
 pub mod Drain
 pub mod Examples
+pub mod Itself

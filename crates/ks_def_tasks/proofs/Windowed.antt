@@ -2,9 +2,9 @@
 use Rattle.std.proofs.Common.{◌≡◌, ℕ, ◌+◌, ◌<◌, Bool, true, false, cond, nat_eq, List, [], ◌∷◌, ◌++◌, map, Option, Some, None, refl, sym, ap, ap₂, subst, ◌∙◌, arith, zero, suc}
 use Rattle.std.specs.Prelude.{slice_get}
 use Rattle.std.proofs.lemmas.Bool.Decides.{Decides-eqb}
-use Rattle.ks_row.specs.Records.{Record as Rec}
-use Rattle.ks_row.specs.declared.record.PartId.{PartId}
-use Rattle.ks_row.specs.declared.record.TaskId.{TaskId}
+use Rattle.ks_record.specs.Records.{Record as Rec}
+use Rattle.ks_record.specs.declared.record.PartId.{PartId}
+use Rattle.ks_record.specs.declared.record.TaskId.{TaskId}
 use Rattle.ks_row.specs.Reading.{◌>>=◌}
 use Rattle.ks_wire.specs.declared.values.Agg.{Agg}
 use Rattle.ks_wire.specs.Spelling.{time_key}
@@ -25,7 +25,7 @@ use Rattle.ks_def_tasks.specs.Messages.{Message, Store, Rules}
 use Rattle.ks_def_tasks.specs.Windowed.{Counted, greater, count_item, count_group}
 use Rattle.ks_def_tasks.specs.Step.{Arrival, Values, item_into, value_at, values_from, value_changes, counted_at, olds_at, news_at}
 use Rattle.ks_def_tasks.specs.Bytes.{ByteStores, byte_step, is_own, is_own_number, rec_of, keep_all, map_from, counts_from, time_of, pairs_of, own_bytes, stored_from}
-use Rattle.ks_row.specs.Texts.{key_from}
+use Rattle.ks_record.specs.Texts.{key_from}
 use Rattle.ks_def_tasks.specs.Laws.{IsTakenBy, AreBytes, FitsCount}
 use Rattle.ks_def_tasks.proofs.Picked.{own_logged}
 use Rattle.ks_def_tasks.proofs.Agree.{st, a, decoded, items, key, olds, news, at_own, store_is, kind-is}

@@ -5,13 +5,13 @@
 use Rattle.std.specs.Prelude.{ℕ, List, [], ◌∷◌, map, fold, Option, Some, None, Bool, false, ◌||◌, ◌==◌, ◌&&◌, cond, nat_eq, nat_lt, option_map, is_none}
 use Rattle.std.specs.List.{filter}
 use Rattle.std.specs.declared.cmp.Ordering.{Ordering}
-use Rattle.ks_row.specs.Texts.{key_from}
+use Rattle.ks_record.specs.Texts.{key_from}
 use Rattle.ks_row.specs.Spelling.{spelling}
 use Rattle.ks_row.specs.Reading.{◌>>=◌, row_from}
-use Rattle.ks_row.specs.Records.{Record as Rec}
-use Rattle.ks_row.specs.declared.record.PartId.{PartId}
-use Rattle.ks_row.specs.declared.record.TaskId.{TaskId}
-use Rattle.ks_row.specs.Parts.{same_part}
+use Rattle.ks_record.specs.Records.{Record as Rec}
+use Rattle.ks_record.specs.declared.record.PartId.{PartId}
+use Rattle.ks_record.specs.declared.record.TaskId.{TaskId}
+use Rattle.ks_record.specs.Parts.{same_part}
 use Rattle.ks_def_runs.specs.FinMap as fin
 use Rattle.ks_def_runs.specs.FinMap.{FinMap}
 use Rattle.ks_def_runs.specs.Bytes.{by_bytes, Store as ByteStore, empty_store as no_bytes}

@@ -1,6 +1,6 @@
 -- Rows of one left key with one hash: what a join on a foreign key cannot tell apart (KIP-213 compares rows by a hash alone).
 use Rattle.std.specs.Prelude.{◌≡◌, ◌≢◌, ℕ, ◌⊎◌, List, [], ◌∷◌, Some, cond, slice_get}
-use Rattle.ks_row.specs.declared.record.TaskId.{TaskId}
+use Rattle.ks_record.specs.declared.record.TaskId.{TaskId}
 use Rattle.ks_expr.specs.declared.terms.JoinKind.{JoinKind}
 use Rattle.ks_expr.specs.declared.terms.Fk.{Fk}
 use Rattle.ks_expr.specs.Terms.{Set}

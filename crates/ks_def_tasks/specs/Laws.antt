@@ -1,16 +1,16 @@
 -- Laws over every run of the machine of every plan.
 use Rattle.std.specs.Prelude.{◌≡◌, ℕ, ◌≤◌, length, List, [], Option, Some, None, true, false, nat_eq, slice_get, ◌∷◌, ◌<◌, ◌^◌, IfSome, Bool}
 use Rattle.std.specs.List.{filter}
-use Rattle.ks_row.specs.Spelling.{IsBytes}
+use Rattle.ks_record.specs.Bytes.{IsBytes}
 use Rattle.ks_wire.specs.Spelling.{FitsKeys}
 use Rattle.ks_wire.specs.Values.{IsPart}
 use Rattle.ks_def_tasks.specs.Messages.Message.{Asked}
-use Rattle.ks_row.specs.Records.{Record as Rec}
-use Rattle.ks_row.specs.declared.record.PartId.{PartId}
-use Rattle.ks_row.specs.Parts.{same_task}
+use Rattle.ks_record.specs.Records.{Record as Rec}
+use Rattle.ks_record.specs.declared.record.PartId.{PartId}
+use Rattle.ks_record.specs.Parts.{same_task}
 use Rattle.ks_plan.specs.Infos.{input_numbers}
 use Rattle.ks_def_tasks.specs.Bytes.{ByteStores, byte_step, is_own_number, has_number, reader_number, keep_all, records_at, message_in, stored_from, stored_bytes, store_from, table_from, hashes_from, counts_from, time_of, spelled, is_sent}
-use Rattle.ks_row.specs.declared.record.TaskId.{TaskId}
+use Rattle.ks_record.specs.declared.record.TaskId.{TaskId}
 use Rattle.ks_plan.specs.Plan.{Plan, Kind, Window, is_windowed}
 use Rattle.ks_plan.specs.declared.node.Topic.{Topic}
 use Rattle.ks_plan.specs.declared.node.Topic.TheVariants.{Changelog, HashChangelog}
@@ -18,7 +18,7 @@ use Rattle.ks_plan.specs.Layout.{sub_of, topic_at, reads, number_of}
 use Rattle.ks_def_runs.specs.FinMap as fin
 use Rattle.ks_query.specs.Streams.{Key, StreamItem}
 use Rattle.ks_query.specs.Windows.{windows}
-use Rattle.ks_row.specs.Texts.{IsKey}
+use Rattle.ks_record.specs.Texts.{IsKey}
 use Rattle.ks_plan.specs.Drafts.{Name}
 use Rattle.ks_plan.specs.Plan.Kind.{Windowed}
 use Rattle.ks_def_tasks.specs.Windowed.{greater}

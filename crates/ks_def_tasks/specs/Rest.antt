@@ -1,6 +1,6 @@
 -- Runs that have come to rest, and what their tables are compared with.
 use Rattle.std.specs.Prelude.{◌≡◌, ℕ, ◌<◌, ◌^◌, [], length, Option, option_map, false}
-use Rattle.ks_row.specs.declared.record.TaskId.{TaskId}
+use Rattle.ks_record.specs.declared.record.TaskId.{TaskId}
 use Rattle.ks_plan.specs.Plan.{Plan}
 use Rattle.ks_plan.specs.Layout.{sub_of, before_of, spread_of}
 use Rattle.ks_def_runs.specs.Run.{RunState}

@@ -9,8 +9,8 @@ use Rattle.ks_plan.specs.declared.node.Topic.TheVariants.{Input as InputTopic, C
 use Rattle.ks_def_runs.specs.FinMap as map
 use Rattle.ks_def_runs.specs.Run.{Machine, Outcome}
 use Rattle.ks_query.specs.Streams.{Input}
-use Rattle.ks_row.specs.declared.record.TaskId.{TaskId}
-use Rattle.ks_row.specs.Parts.{same_task}
+use Rattle.ks_record.specs.declared.record.TaskId.{TaskId}
+use Rattle.ks_record.specs.Parts.{same_task}
 use Rattle.ks_def_tasks.specs.Messages.{Place, same_place, Item, Store, Rules}
 use Rattle.ks_def_tasks.specs.Messages.Message.{Given}
 use Rattle.ks_def_tasks.specs.Step.To.{ByKey, Named}

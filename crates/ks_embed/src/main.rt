@@ -5,9 +5,9 @@ ghost use Rattle.std.specs.Prelude.{◌≡◌, ℕ, List, Some, None, IfOk};
 ghost use Rattle.std.specs.Io.KnownBytes.{Appends};
 ghost use Rattle.ks_hash.specs.Murmur3.{murmur3_of};
 ghost use Rattle.ks_def_tasks.specs.Rules.{rules_of};
-ghost use Rattle.ks_run.specs.Commands.{placing_by};
-ghost use Rattle.ks_run.specs.Told.Wanted.{nothing};
-ghost use Rattle.ks_run.specs.Journals.{IsSettledRun};
+ghost use Rattle.ks_run_verdict.specs.Commands.{placing_by};
+ghost use Rattle.ks_run_verdict.specs.Told.Wanted.{nothing};
+ghost use Rattle.ks_run_verdict.specs.Journals.{IsSettledRun};
 
 mod crashing;
 

@@ -7,7 +7,7 @@ use Rattle.std.proofs.lemmas.Bool.Decides.{Decides-eqb}
 use Rattle.std.proofs.lemmas.List.{length-take, get_or-drop}
 use Rattle.std.proofs.lemmas.Slice.Eq.{starts_is}
 use Rattle.std.proofs.lemmas.Str.{IsUtf8-take, IsCharBoundary-start}
-use Rattle.ks_row.specs.Texts.{IsKey, IsName, key_from}
+use Rattle.ks_record.specs.Texts.{IsKey, IsName, key_from}
 use Rattle.ks_row.proofs.Spelled.{key_again}
 use Rattle.ks_expr.specs.Keys.{place_in, front_to, front_of}
 

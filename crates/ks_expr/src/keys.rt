@@ -1,10 +1,11 @@
 //! The front part of a key, and the foreign key of a left row.
 ghost use Rattle.std.specs.Prelude.{◌≡◌, ◌≤◌, ◌<◌, length, IfOk, IfSome, Some, None, List, ℕ, option_map, option_copied};
-ghost use Rattle.ks_row.specs.Texts.{IsKey, IsName};
+ghost use Rattle.ks_record.specs.Texts.{IsKey, IsName};
 ghost use Rattle.ks_expr.specs.Keys.{place_in, front_of as front, spread_part as part_of, fk_of as foreign_key};
 
 use crate::terms::Fk;
-use ks_row::{Key, Name, Row, key_of_field};
+use ks_record::{Key, Name};
+use ks_row::{Row, key_of_field};
 use std::alloc::{AllocError, Global};
 
 // How many bytes stand before the first place of a text that isn't empty.

@@ -9,7 +9,8 @@ ghost use Rattle.ks_expr.specs.Values.{place_for, is_named};
 
 use crate::evaluation::eval;
 use crate::terms::Proj;
-use ks_row::{FieldRef, Name, Row, is_below};
+use ks_record::Name;
+use ks_row::{FieldRef, Row, is_below};
 use std::alloc::{AllocError, Global};
 
 // A field of a name, both where they stand.

@@ -1,5 +1,5 @@
 //! What nodes of a topology compute: expressions, predicates and projections.
-use ks_row::{Name, Seq, Text};
+use ks_record::{Name, Seq, Text};
 
 /// Which keys a join has a row for: those that both sides have, those of the left side, or those of at least one side.
 #[derive(Clone, Copy, PartialEq, Eq, Debug)]

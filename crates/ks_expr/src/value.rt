@@ -6,7 +6,8 @@ ghost use Rattle.ks_row.specs.Spelling.{FitsField};
 ghost use Rattle.ks_expr.specs.Values.{field_seen, found, number_in};
 ghost use Rattle.ks_expr.specs.Eval.{of_numbers, same_field, field_below, side_field};
 
-use ks_row::{FieldRef, Name, Row, equal_bytes, is_below};
+use ks_record::{Name, equal_bytes};
+use ks_row::{FieldRef, Row, is_below};
 
 /// A field without its own memory.
 #[derive(Clone, Copy)]
@@ -46,7 +47,8 @@ impl<'a> Value<'a> {
 
     /// The sum, wrapping round; none where one is a text.
     pub fn plus(self, other: Value<'a>) -> Option<Value<'a>>
-        ensures value { found result ≡ of_numbers (int_wrapping_add w64) (Some (field_seen self.entry))
+        ensures value { found result ≡ of_numbers (int_wrapping_add w64)
+            (Some (field_seen self.entry))
             (Some (field_seen other.entry)) }
         ensures fits { IfSome (found result) FitsField }
     {
@@ -55,7 +57,8 @@ impl<'a> Value<'a> {
 
     /// The difference, wrapping round; none where one is a text.
     pub fn minus(self, other: Value<'a>) -> Option<Value<'a>>
-        ensures value { found result ≡ of_numbers (int_wrapping_sub w64) (Some (field_seen self.entry))
+        ensures value { found result ≡ of_numbers (int_wrapping_sub w64)
+            (Some (field_seen self.entry))
             (Some (field_seen other.entry)) }
         ensures fits { IfSome (found result) FitsField }
     {
@@ -64,7 +67,8 @@ impl<'a> Value<'a> {
 
     /// The product, wrapping round; none where one is a text.
     pub fn times(self, other: Value<'a>) -> Option<Value<'a>>
-        ensures value { found result ≡ of_numbers (int_wrapping_mul w64) (Some (field_seen self.entry))
+        ensures value { found result ≡ of_numbers (int_wrapping_mul w64)
+            (Some (field_seen self.entry))
             (Some (field_seen other.entry)) }
         ensures fits { IfSome (found result) FitsField }
     {
@@ -82,7 +86,7 @@ impl<'a> Value<'a> {
         }
     }
 
-    /// Of one kind and less.
+    /// Whether both are of one kind and this one is less: a smaller number, or a text that stands before by bytes. Takes no memory.
     pub fn is_below(self, other: Value<'a>) -> bool
         ensures { result ≡ field_below (field_seen self.entry) (field_seen other.entry) }
     {

@@ -12,7 +12,8 @@ ghost use Rattle.ks_fk_left.specs.Asked.{row_hash, told, asked, set_by};
 
 use ks_expr::{Fk, JoinKind, Proj, fk_of};
 use ks_hash::Hash128;
-use ks_row::{Change, Key, Row, equal_bytes};
+use ks_record::{Key, equal_bytes};
+use ks_row::{Change, Row};
 use ks_table_ops::join_rows;
 use ks_wire::{Response, Subscription};
 use std::alloc::{AllocError, Global};
@@ -100,7 +101,7 @@ fn hash_of_row<H: Hash128>(row: Option<&Row>) -> Option<u128>
 
 /// What a changed left row asks of the right side, by foreign key, the old one first; and whether the result is set at once,
 /// since no answer will come: where the new row has no foreign key, or the deleted one had none. Each subscription names this partition,
-/// at most 63, if any.
+/// at most 63, if any. Rows are hashed by H. Want of memory is the one error.
 pub fn subscriptions<H: Hash128>(
     alloc: Global,
     fk: &Fk,
@@ -162,7 +163,8 @@ pub fn is_answer_to(hash: Option<u128>, response: &Response) -> bool
     }
 }
 
-/// What a response does to the result of the join, by the present left row.
+/// What a response does to the result of the join: nothing where its hash isn't that of the present left row (it is stale), else the result is
+/// the join of this row with the row that it brings. Want of memory is the one error.
 pub fn respond<H: Hash128>(
     alloc: Global,
     kind: JoinKind,

@@ -10,7 +10,8 @@ ghost use Rattle.ks_def_tasks.specs.Messages.{subscription_of, instruction_of};
 ghost use Rattle.ks_def_tasks.specs.Foreign.{subscribed, answer_to, answer_all};
 ghost use Rattle.ks_def_lookups.specs.Kept.{kept_in, kept_under};
 
-use ks_row::{Blob, Change, Key, Row};
+use ks_record::{Blob, Key};
+use ks_row::{Change, Row};
 use ks_store::KvStore;
 use ks_wire::{
     Response, Subscriber, Subscription, read_subscriber, read_subscription_key, write_subscriber,

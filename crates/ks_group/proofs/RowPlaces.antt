@@ -1,7 +1,7 @@
 -- Where the row of each task stands.
 use Rattle.std.proofs.Common.{◌≡◌, ℕ, suc, ◌<◌, ◌≤◌, Bool, true, false, cond, List, [], ◌∷◌, length, map, get_or, refl, sym, ap, ◌∙◌, arith}
-use Rattle.ks_row.specs.declared.record.TaskId.{TaskId}
-use Rattle.ks_row.specs.Parts.{same_task}
+use Rattle.ks_record.specs.declared.record.TaskId.{TaskId}
+use Rattle.ks_record.specs.Parts.{same_task}
 use Rattle.ks_history.specs.declared.transaction.Pending.{Pending}
 use Rattle.ks_group.specs.Committed.{offsets_of, row_with}
 use Rattle.ks_group.specs.Places.{row_place, task_number, ArePlaces}

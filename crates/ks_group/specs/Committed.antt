@@ -1,7 +1,7 @@
 -- The committed offsets: each task, in the order of the tasks, beside the committed offset of each of its inputs.
 use Rattle.std.specs.Prelude.{ℕ, if◌then◌else◌, Some, None, List, [], ◌∷◌, map}
-use Rattle.ks_row.specs.declared.record.TaskId.{TaskId}
-use Rattle.ks_row.specs.Parts.{same_task}
+use Rattle.ks_record.specs.declared.record.TaskId.{TaskId}
+use Rattle.ks_record.specs.Parts.{same_task}
 use Rattle.ks_history.specs.State.{pending_of, offset_in}
 use Rattle.ks_history.specs.declared.transaction.Pending.{Pending}
 

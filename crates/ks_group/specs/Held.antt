@@ -1,6 +1,6 @@
 -- The positions that workers hold as one list, each beside its worker.
 use Rattle.std.specs.Prelude.{ℕ, ◌+◌, ◌==◌, ◌&&◌, if◌then◌else◌, nat_le, nat_lt, List, [], ◌∷◌, ◌++◌, map}
-use Rattle.ks_row.specs.declared.record.TaskId.{TaskId}
+use Rattle.ks_record.specs.declared.record.TaskId.{TaskId}
 
 -- those of one worker
 abbrev pub held_by : ℕ → List (TaskId × ℕ) → List (ℕ × TaskId × ℕ)

@@ -1,6 +1,6 @@
 -- A new group, and how calls that may be refused answer.
 use Rattle.std.specs.Prelude.{◌≡◌, Option, Some, None, Result, Ok, Err, List, [], map, replicate}
-use Rattle.ks_row.specs.declared.assignment.Refused.{Refused}
+use Rattle.ks_record.specs.declared.assignment.Refused.{Refused}
 use Rattle.ks_group.specs.declared.committed.TaskInputs.{TaskInputs}
 use Rattle.ks_group.specs.Committed.{none_committed}
 use Rattle.ks_group.specs.Group.{GroupView}

@@ -1,7 +1,7 @@
 -- Where the row of each task stands among the rows.
 use Rattle.std.specs.Prelude.{◌≡◌, ℕ, suc, ◌+◌, ◌*◌, ◌<◌, if◌then◌else◌, List, [], ◌∷◌, length, get_or}
-use Rattle.ks_row.specs.declared.record.TaskId.{TaskId}
-use Rattle.ks_row.specs.Parts.{same_task}
+use Rattle.ks_record.specs.declared.record.TaskId.{TaskId}
+use Rattle.ks_record.specs.Parts.{same_task}
 
 -- where a task's row stands, or how many rows there are
 abbrev pub row_place : TaskId → List (TaskId × List (ℕ × ℕ)) → ℕ

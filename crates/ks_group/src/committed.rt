@@ -6,7 +6,7 @@ ghost use Rattle.ks_group.specs.Places.{row_place};
 
 use crate::places::{places_of, task_number};
 use ks_history::Pending;
-use ks_row::TaskId;
+use ks_record::TaskId;
 use std::alloc::{AllocError, Global};
 use std::marker::Model;
 
@@ -26,7 +26,7 @@ pub struct TaskOffsets {
 
 impl Model for TaskOffsets {
     ghost use Rattle.std.specs.Prelude.{ℕ, List};
-    ghost use Rattle.ks_row.specs.declared.record.TaskId.{TaskId};
+    ghost use Rattle.ks_record.specs.declared.record.TaskId.{TaskId};
 
     ghost Value = { TaskId × List (ℕ × ℕ) };
 
@@ -134,7 +134,7 @@ pub struct Offsets {
 
 impl Model for Offsets {
     ghost use Rattle.std.specs.Prelude.{ℕ, List};
-    ghost use Rattle.ks_row.specs.declared.record.TaskId.{TaskId};
+    ghost use Rattle.ks_record.specs.declared.record.TaskId.{TaskId};
     ghost use Rattle.ks_group.specs.Places.{ArePlaces};
 
     ghost Value = { List (TaskId × List (ℕ × ℕ)) };

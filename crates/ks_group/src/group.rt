@@ -12,7 +12,7 @@ use crate::committed::{Offsets, TaskInputs};
 use crate::held::{remove_held, with_held};
 use crate::pending::{late_with, pend_in, unstable_refusal};
 use ks_history::Pending;
-use ks_row::{Assignment, Refused, Seq, TaskId};
+use ks_record::{Assignment, Refused, Seq, TaskId};
 use std::alloc::{AllocError, Global};
 use std::marker::Model;
 use std::mem;

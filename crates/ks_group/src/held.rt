@@ -2,7 +2,7 @@
 ghost use Rattle.std.specs.Prelude.{◌≡◌, ◌++◌, ◌≤◌, IfOk, OnOk};
 ghost use Rattle.ks_group.specs.Held.{held_by, held_between, held_without, held_with};
 
-use ks_row::TaskId;
+use ks_record::TaskId;
 use std::alloc::{AllocError, Global};
 
 /// Puts the positions of one worker behind those that are there.

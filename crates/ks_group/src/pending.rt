@@ -5,7 +5,7 @@ ghost use Rattle.ks_history.specs.Step.{with_late};
 ghost use Rattle.ks_group.specs.Pending.{counts_for, is_pending, unstable_in, pending_place, is_at};
 
 use ks_history::Pending;
-use ks_row::{Refused, Seq, TaskId};
+use ks_record::{Refused, Seq, TaskId};
 use std::alloc::{AllocError, Global};
 use std::mem;
 

@@ -1,11 +1,11 @@
 //! Where the row of each task stands, in a table by the tasks' numbers.
 ghost use Rattle.std.specs.Prelude.{◌≡◌, ◌<◌, ◌^◌, ℕ, if◌then◌else◌, length, get_or, IfOk, OnOk};
-ghost use Rattle.ks_row.specs.declared.record.TaskId.{TaskId as Task};
-ghost use Rattle.ks_row.specs.Parts.{same_task};
+ghost use Rattle.ks_record.specs.declared.record.TaskId.{TaskId as Task};
+ghost use Rattle.ks_record.specs.Parts.{same_task};
 ghost use Rattle.ks_group.specs.Places.{task_number, ArePlaces};
 
 use crate::committed::TaskOffsets;
-use ks_row::TaskId;
+use ks_record::TaskId;
 use std::alloc::{AllocError, Global};
 
 /// The number of a task among all that there may be.

@@ -71,6 +71,11 @@ abbrev pub TakesThis : {T E F : Type 0} → (T → List E) → (E → Bool) → 
 TakesThis journal reserved frame m m' value = (m'.1 ≡ (0, Some value) ∷ []) × (m'.0 ≡ view_with_value (journal value) m.0) × IsPrefix m.0.seen (journal value) × (m.0.frame ≡ Some (frame value))
     × (m.0.number ≡ 0 → filter reserved (journal value) ≡ filter reserved m.0.seen)
 
+-- the seat took some value out
+pub record TakesSome {T E F : Type 0} (journal : T → List E) (reserved : E → Bool) (frame : T → F) (m m' : Me (Option T) (View E F)) : Type 0 where
+  pub value : T
+  pub takes : TakesThis journal reserved frame m m' value
+
 -- where the turn was free the seat has it now, and the value; else nothing changes
 abbrev pub TakesValue : {T E F : Type 0} → (T → List E) → (E → Bool) → (T → F) → Step (Option T) → Me (Option T) (View E F) → ℕ → Me (Option T) (View E F) → Type 0
 TakesValue {T} journal reserved frame st m turn m' = (turn ≡ 0 → (value : T) × TakesThis journal reserved frame m m' value) × (turn ≢ 0 → m' ≡ m)

@@ -1,7 +1,7 @@
 // Taking the value out and putting it back, over the seat of a pass.
 ghost use Rattle.std.specs.Prelude.{◌≡◌, ◌≢◌, [], ◌∷◌, length, filter, None, Some};
 ghost use mathlib.Core.List.{IsPrefix};
-ghost use Rattle.ks_growing.specs.Steps.{IsFree, IsHolding, view_with_value, view_without_value};
+ghost use Rattle.ks_growing.specs.Steps.{IsFree, IsHolding, TakesSome, view_with_value, view_without_value};
 
 use crate::journaled::Journaled;
 use crate::steps::{Count, Enter, Leave};
@@ -12,8 +12,33 @@ use std::sync::Wait;
 // How often a thread tries to take the turn before it sleeps.
 const TRIES: u32 = 100;
 
-// Waits for the turn, and takes the value out. A thread that may have slept takes the turn as 2, never as
-// 1: others may sleep still, and who leaves a turn of 1 wakes nobody.
+// Waits for the turn, with which the value is the seat's. A thread that may have slept takes the turn as 2, never
+// as 1: others may sleep still, and who leaves a turn of 1 wakes nobody.
+fn take_turn<T: Journaled, R: Wait>(rt: &R, table: &SharedTable<T>, seat: &mut PassSeat<T>)
+    requires size { (table.now.table_id.words ≡ 3) × (table.now.table_id.slots ≡ 1) }
+    requires own { seat.old.table_id ≡ table.now.table_id }
+    requires free { IsFree seat.old.me }
+    ensures same { (seat.new.table_id ≡ seat.old.table_id) × (seat.new.id ≡ seat.old.id) }
+    ensures took { TakesSome T.journal T.reserved T.frame seat.old.me seat.new.me }
+{
+    'tries: for _ in 0..TRIES {
+        let turn = table.compare_exchange::<Enter<T>>(seat, TURN, 0, 1);
+        if turn == 0 {
+            return;
+        }
+        hint::spin_loop();
+    }
+    'sleeps: for _ in rt.forever() {
+        let found = table.swap::<Enter<T>>(seat, TURN, 2);
+        if found == 0 {
+            return;
+        }
+        table.park(rt, TURN, 2);
+    }
+    unreachable!()
+}
+
+// Waits for the turn, and takes the value out.
 pub(crate) fn enter_seat<T: Journaled, R: Wait>(
     rt: &R,
     table: &SharedTable<T>,
@@ -33,21 +58,8 @@ pub(crate) fn enter_seat<T: Journaled, R: Wait>(
     ensures reserved { seat.old.me.0.number ≡ 0
         → filter T.reserved (T.journal result) ≡ filter T.reserved seat.old.me.0.seen }
 {
-    'tries: for _ in 0..TRIES {
-        let turn = table.compare_exchange::<Enter<T>>(seat, TURN, 0, 1);
-        if turn == 0 {
-            return table.exchange(seat, VALUE, None).unwrap();
-        }
-        hint::spin_loop();
-    }
-    'sleeps: for _ in rt.forever() {
-        let found = table.swap::<Enter<T>>(seat, TURN, 2);
-        if found == 0 {
-            return table.exchange(seat, VALUE, None).unwrap();
-        }
-        table.park(rt, TURN, 2);
-    }
-    unreachable!()
+    take_turn(rt, table, seat);
+    table.exchange(seat, VALUE, None).unwrap()
 }
 
 // Writes the number of the value's entries, while the seat holds it.

@@ -2,9 +2,9 @@
 use Rattle.std.proofs.Common.{◌≡◌, true, refl, subst}
 use Rattle.std.specs.Prelude.{◌==◌}
 use Rattle.std.proofs.lemmas.Bool.{and_parts, and_from, eqb-true, eq-eqb}
-use Rattle.ks_row.specs.declared.record.PartId.{PartId}
-use Rattle.ks_row.specs.declared.record.TaskId.{TaskId}
-use Rattle.ks_row.specs.Parts.{same_part, same_task}
+use Rattle.ks_record.specs.declared.record.PartId.{PartId}
+use Rattle.ks_record.specs.declared.record.TaskId.{TaskId}
+use Rattle.ks_record.specs.Parts.{same_part, same_task}
 use Rattle.ks_def_runs.specs.Run.{HasNames}
 use Rattle.ks_history.specs.Machine.{TaskPlan, network}
 

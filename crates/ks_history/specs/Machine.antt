@@ -2,10 +2,10 @@
 use Rattle.std.specs.Prelude.{◌≡◌, ◌≤◌, ℕ, Bool, ◌==◌, ◌||◌, true, false, List, [], ◌∷◌, ◌++◌, Option, None, Some, take, drop, cond}
 use Rattle.ks_def_runs.specs.Bytes.{Store, empty_store, by_bytes}
 use Rattle.ks_def_runs.specs.Table.{write}
-use Rattle.ks_row.specs.Records.{Record as Rec}
-use Rattle.ks_row.specs.declared.record.PartId.{PartId}
-use Rattle.ks_row.specs.declared.record.TaskId.{TaskId}
-use Rattle.ks_row.specs.Parts.{same_part, same_task}
+use Rattle.ks_record.specs.Records.{Record as Rec}
+use Rattle.ks_record.specs.declared.record.PartId.{PartId}
+use Rattle.ks_record.specs.declared.record.TaskId.{TaskId}
+use Rattle.ks_record.specs.Parts.{same_part, same_task}
 use Rattle.ks_history.specs.Partition.{Logged}
 use Rattle.ks_def_runs.specs.Run.{Machine, Outcome, Taken, local, sent_to}
 

@@ -1,9 +1,9 @@
 -- A partition: a list of plain records, sent records and markers, each at one offset, from 0. Next marker, completed records,
 -- the last stable offset and what a reader of committed records gets are those of KIP-98.
 use Rattle.std.specs.Prelude.{ℕ, suc, ◌+◌, ◌==◌, ◌&&◌, Bool, true, false, if◌then◌else◌, nat_le, nat_lt, max, take, length, cond, Option, Some, None, List, [], ◌∷◌}
-use Rattle.ks_row.specs.Records.{Record as Rec}
-use Rattle.ks_row.specs.declared.record.TaskId.{TaskId}
-use Rattle.ks_row.specs.Parts.{same_task}
+use Rattle.ks_record.specs.Records.{Record as Rec}
+use Rattle.ks_record.specs.declared.record.TaskId.{TaskId}
+use Rattle.ks_record.specs.Parts.{same_task}
 use Rattle.ks_def_runs.specs.Run.{same_sender}
 use Rattle.ks_history.specs.declared.partition.Slot.{Slot}
 use Rattle.ks_history.specs.declared.partition.Slot.TheVariants.{Plain, Sent, Mark}

@@ -1,10 +1,10 @@
 -- What a journal commits, as the steps of one run.
 use Rattle.std.specs.Prelude.{true, false, List, [], ◌∷◌, ◌++◌, Option, Some, None, cond, map}
-use Rattle.ks_row.specs.Records.{Record as Rec}
-use Rattle.ks_row.specs.declared.record.PartId.{PartId}
-use Rattle.ks_row.specs.declared.record.TaskId.{TaskId}
-use Rattle.ks_row.specs.declared.assignment.Refused.{Refused}
-use Rattle.ks_row.specs.Parts.{same_part}
+use Rattle.ks_record.specs.Records.{Record as Rec}
+use Rattle.ks_record.specs.declared.record.PartId.{PartId}
+use Rattle.ks_record.specs.declared.record.TaskId.{TaskId}
+use Rattle.ks_record.specs.declared.assignment.Refused.{Refused}
+use Rattle.ks_record.specs.Parts.{same_part}
 use Rattle.ks_history.specs.declared.journal.Request.{Request}
 use Rattle.ks_history.specs.declared.journal.Request.TheVariants.{Produce, Init, Add, Append, SendOffsets, Decide, MarkNext, Join, Expire, Hold, Probe, Assign, Park, Unpark}
 use Rattle.ks_history.specs.declared.journal.Entry.{Entry}

@@ -1,6 +1,6 @@
 -- A settled cluster: all that was produced has been taken, and its commits are complete.
 use Rattle.std.specs.Prelude.{◌≡◌, ℕ, ◌≤◌, true, None, []}
-use Rattle.ks_row.specs.declared.record.TaskId.{TaskId}
+use Rattle.ks_record.specs.declared.record.TaskId.{TaskId}
 use Rattle.ks_history.specs.Machine.{part_of, has_topic}
 use Rattle.ks_history.specs.State.{State, Setup, has_task}
 use Rattle.ks_history.specs.Reads.{end_of}

@@ -1,9 +1,9 @@
 -- What a cluster knows at one moment.
 use Rattle.std.specs.Prelude.{◌≡◌, ℕ, ◌+◌, ◌==◌, ◌<◌, ◌≤◌, ◌&&◌, ◌||◌, Bool, true, false, if◌then◌else◌, nat_lt, Option, Some, None, List, [], ◌∷◌, ◌++◌, length, slice_index}
-use Rattle.ks_row.specs.declared.record.PartId.{PartId}
-use Rattle.ks_row.specs.declared.record.TaskId.{TaskId}
-use Rattle.ks_row.specs.declared.assignment.Assignment.{Assignment}
-use Rattle.ks_row.specs.Parts.{same_part, same_task, part_lt, task_lt}
+use Rattle.ks_record.specs.declared.record.PartId.{PartId}
+use Rattle.ks_record.specs.declared.record.TaskId.{TaskId}
+use Rattle.ks_record.specs.declared.assignment.Assignment.{Assignment}
+use Rattle.ks_record.specs.Parts.{same_part, same_task, part_lt, task_lt}
 use Rattle.ks_history.specs.declared.partition.Slot.{Slot}
 use Rattle.ks_history.specs.declared.transaction.Pending.{Pending}
 use Rattle.ks_history.specs.declared.transaction.Producer.{Producer}

@@ -1,5 +1,5 @@
 //! Requests, replies and journals.
-use ks_row::{Assignment, PartId, Rec, Refused, Seq, SharedRecords, TaskId};
+use ks_record::{Assignment, PartId, Rec, Refused, Seq, SharedRecords, TaskId};
 
 /// A request that changes the cluster, and is kept in its journal.
 #[derive(Drop)]

@@ -1,5 +1,5 @@
 //! What a partition holds.
-use ks_row::{Rec, TaskId};
+use ks_record::{Rec, TaskId};
 
 /// One offset of a partition.
 #[derive(Drop)]

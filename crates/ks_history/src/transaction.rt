@@ -1,5 +1,5 @@
 //! Producers and their transactions.
-use ks_row::{Marker, PartId, Seq, TaskId};
+use ks_record::{Marker, PartId, Seq, TaskId};
 
 /// The offsets that a transaction would commit for a task.
 #[derive(Drop)]

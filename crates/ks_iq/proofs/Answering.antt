@@ -4,8 +4,8 @@ use Rattle.ks_history.specs.Partition.{recs, below}
 use Rattle.ks_history.specs.Machine.{latest}
 use Rattle.ks_history.specs.Faithful.{decided}
 use Rattle.std.specs.Prelude.{Result, Ok, Err, nat_lt, IfOk}
-use Rattle.ks_row.specs.Parts.{same_task}
-use Rattle.ks_row.specs.declared.record.TaskId.{TaskId}
+use Rattle.ks_record.specs.Parts.{same_task}
+use Rattle.ks_record.specs.declared.record.TaskId.{TaskId}
 use Rattle.ks_plan.specs.Drafts.{DraftView}
 use Rattle.ks_plan.specs.Plan.{plan_of, is_stream, is_windowed}
 use Rattle.ks_plan.specs.Layout.{kind_at}

@@ -13,8 +13,8 @@ use Rattle.ks_plan.specs.declared.node.Topic.TheVariants.{Changelog}
 use Rattle.ks_plan.specs.Faults.{fault_of}
 use Rattle.ks_history.specs.State.{Setup, has_task}
 use Rattle.ks_def_tasks.specs.Rules.{HaveParts}
-use Rattle.ks_task_step.specs.Steps.{part_in}
-use Rattle.ks_law_quiescence.proofs.WellFormed.{well_formed_fits}
+use Rattle.ks_task_processing.specs.Steps.{part_in}
+use Rattle.ks_law_topology.proofs.WellFormed.{well_formed_fits}
 use Rattle.ks_law_settled.proofs.Tasks.{has_node_task}
 use Rattle.ks_settle_tables.proofs.Named.{kinds_all}
 use Rattle.ks_iq.specs.declared.ask.Ask.{Ask}

@@ -1,8 +1,8 @@
 -- What a store that is lent answers, by the place that was found.
 use Rattle.std.proofs.Common.{◌≡◌, ℕ, ◌<◌, ◌≤◌, Bool, true, false, cond, List, Option, Some, None, refl, sym, ap, ap₂, ◌∙◌, lt-ltb, le-ltb}
 use Rattle.std.specs.Prelude.{Result, Ok, Err, option_and_then}
-use Rattle.ks_row.specs.Parts.{same_task}
-use Rattle.ks_row.specs.declared.record.TaskId.{TaskId}
+use Rattle.ks_record.specs.Parts.{same_task}
+use Rattle.ks_record.specs.declared.record.TaskId.{TaskId}
 use Rattle.ks_def_runs.specs.Bytes.{Store}
 use Rattle.ks_def_runs.specs.FinMap as fin
 use Rattle.ks_plan.specs.Drafts.{DraftView, op_view}

@@ -1,7 +1,7 @@
 -- A reader's replicas: the first one of a task, and what its being fed does to all positions.
 use Rattle.std.proofs.Common.{◌≡◌, ℕ, zero, suc, ◌+◌, ◌<◌, ◌≤◌, Bool, true, false, cond, List, [], ◌∷◌, ◌++◌, length, get_or, set, drop, refl, sym, ap, subst, ◌∙◌, arith, add-one}
-use Rattle.ks_row.specs.declared.record.TaskId.{TaskId}
-use Rattle.ks_row.specs.Parts.{same_task}
+use Rattle.ks_record.specs.declared.record.TaskId.{TaskId}
+use Rattle.ks_record.specs.Parts.{same_task}
 use Rattle.ks_history.proofs.Names.{same_task-is, same_task-refl}
 use Rattle.ks_standby.specs.declared.replica.Replica.{Replica}
 use Rattle.ks_standby.specs.Replicas.{replica_view}

@@ -13,7 +13,7 @@ use Rattle.ks_plan.specs.Layout.{kind_at, topics_of, spread_of_topic}
 use Rattle.ks_plan.specs.Infos.{NodePlace, node_place, place_in, store_of, built_view, info_of, topic_infos}
 use Rattle.ks_plan.specs.declared.node.TopicInfo.{TopicInfo}
 use Rattle.ks_expr.specs.Keys.{spread_part}
-use Rattle.ks_task_step.specs.Steps.{part_in}
+use Rattle.ks_task_processing.specs.Steps.{part_in}
 use Rattle.ks_law_settled.specs.Folded as folded
 use Rattle.ks_settle_tables.specs.Rows.{row_by, node_named, counts_windows}
 use Rattle.ks_iq.specs.declared.ask.Ask.{Ask}

@@ -1,9 +1,9 @@
 -- What an ask is of, and what a store that is lent answers to it (Kafka Streams: interactive queries; KIP-535: reads of standby replicas).
 use Rattle.std.specs.Prelude.{◌≡◌, ℕ, Bool, true, false, List, length, Option, Some, None, Result, Ok, Err, option_map, option_and_then, cond, nat_lt}
 use Rattle.std.specs.Bool.{Decides}
-use Rattle.ks_row.specs.Parts.{same_task}
-use Rattle.ks_row.specs.declared.record.TaskId.{TaskId}
-use Rattle.ks_row.specs.declared.record.PartId.{PartId}
+use Rattle.ks_record.specs.Parts.{same_task}
+use Rattle.ks_record.specs.declared.record.TaskId.{TaskId}
+use Rattle.ks_record.specs.declared.record.PartId.{PartId}
 use Rattle.ks_def_runs.specs.Bytes.{Store}
 use Rattle.ks_def_runs.specs.FinMap as fin
 use Rattle.ks_plan.specs.Drafts.{DraftView}
@@ -20,7 +20,7 @@ use Rattle.ks_query.specs.Streams.{Key}
 use Rattle.ks_query.specs.Aggregates.{agg_row}
 use Rattle.ks_law_settled.specs.Folded as folded
 use Rattle.ks_history.specs.Follows.{ReplicaView, TaskView}
-use Rattle.ks_task_step.specs.Steps.{part_in}
+use Rattle.ks_task_processing.specs.Steps.{part_in}
 use Rattle.ks_task.specs.Tasks.{IsClean}
 use Rattle.ks_iq.specs.declared.ask.Ask.{Ask}
 use Rattle.ks_iq.specs.declared.answer.Answer.{Answer}

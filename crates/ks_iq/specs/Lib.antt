@@ -3,3 +3,4 @@ pub mod Codes
 pub mod Places
 pub mod Reads
 pub mod Readers
+pub mod Answered

@@ -1,5 +1,5 @@
 //! What is asked.
-use ks_row::{Key, Name};
+use ks_record::{Key, Name};
 
 /// A key of a node's store, and the start of a window exactly where the node is a windowed count.
 #[derive(Drop)]

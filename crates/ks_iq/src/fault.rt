@@ -2,7 +2,7 @@
 ghost use Rattle.std.specs.Prelude.{◌≡◌};
 ghost use Rattle.ks_iq.specs.Codes.{fault_code};
 
-use ks_row::TaskId;
+use ks_record::TaskId;
 
 /// Why an ask has no answer, in the order in which it is tested.
 #[derive(Clone, Copy, PartialEq, Eq, Debug)]

@@ -13,7 +13,7 @@ ghost use Rattle.ks_iq.specs.Readers.{MayCallThrough, IsFedOnce, IsFedTo};
 
 use ks_cluster::Work;
 use ks_growing::Pass;
-use ks_row::{PartId, Rec};
+use ks_record::{PartId, Rec};
 use ks_shared::{Shared, SharedState};
 use ks_standby::Replica;
 use ks_task::MOST_FED;

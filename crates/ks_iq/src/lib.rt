@@ -6,7 +6,7 @@ mod ask;
 mod fault;
 mod feeding;
 mod laws;
-mod lent;
+mod lent_store;
 mod place;
 mod reader;
 
@@ -14,6 +14,6 @@ pub use answer::Answer;
 pub use ask::Ask;
 pub use fault::IqFault;
 pub use laws::reads_last;
-pub use lent::{active, stale};
+pub use lent_store::{active, stale};
 pub use place::{Place, find_place};
 pub use reader::Reader;

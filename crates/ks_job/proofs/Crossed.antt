@@ -4,13 +4,13 @@ use denote.Param.SendFields.{declared_send, variants_send}
 use denote.Struct.Tuple.{Tuple}
 use Rattle.std.specs.Prelude.{[], ◌∷◌}
 use Rattle.std.proofs.Crossing.{crosses}
-use Rattle.ks_row.proofs.lists.Blob.TheSendSync.{the_send as blob_send}
-use Rattle.ks_row.proofs.texts.Name.TheSendSync.{the_send as name_send}
-use Rattle.ks_row.proofs.texts.Text.TheSendSync.{the_send as text_send}
-use Rattle.ks_row.proofs.lists.Seq.TheSendSync.{the_send as seq_send}
-use Rattle.ks_row.proofs.record.Rec.TheSendSync.{the_send as rec_send}
-use Rattle.ks_row.specs.contracts.lists.Seq as Seq
-use Rattle.ks_row.specs.contracts.texts.Name as Name
+use Rattle.ks_record.proofs.lists.Blob.TheSendSync.{the_send as blob_send}
+use Rattle.ks_record.proofs.texts.Name.TheSendSync.{the_send as name_send}
+use Rattle.ks_record.proofs.texts.Text.TheSendSync.{the_send as text_send}
+use Rattle.ks_record.proofs.lists.Seq.TheSendSync.{the_send as seq_send}
+use Rattle.ks_record.proofs.record.Rec.TheSendSync.{the_send as rec_send}
+use Rattle.ks_record.specs.contracts.lists.Seq as Seq
+use Rattle.ks_record.specs.contracts.texts.Name as Name
 use Rattle.ks_expr.proofs.terms.Expr.TheLaws.TheKnot.{crosses as expr_crosses}
 use Rattle.ks_expr.proofs.terms.Pred.TheLaws.TheKnot.{crosses as pred_crosses}
 use Rattle.ks_expr.specs.contracts.terms.Expr as Expr

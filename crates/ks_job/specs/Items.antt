@@ -1,6 +1,6 @@
 -- What a job's lines give, without the places of the boxes in them.
 use Rattle.std.specs.Prelude.{◌≡◌, ℕ, List, ◌++◌, map}
-use Rattle.ks_row.specs.Records.{Record as Rec}
+use Rattle.ks_record.specs.Records.{Record as Rec}
 use Rattle.ks_plan.specs.Drafts.{DraftView, draft_view}
 use Rattle.ks_job.specs.declared.judge.JobItem.{JobItem}
 use Rattle.ks_job.specs.declared.judge.JobItem.TheVariants as items

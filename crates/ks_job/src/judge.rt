@@ -10,7 +10,7 @@ use crate::place::Place;
 use ks_job_record::{Input, JobKind, LineError, read_input, read_plain, too_many};
 use ks_job_topology::{copy_names, read_topology};
 use ks_plan::Draft;
-use ks_row::{Name, Rec, Seq};
+use ks_record::{Name, Rec, Seq};
 use serde_json::Value;
 use std::alloc::{AllocError, Global};
 use std::str;

@@ -1,7 +1,7 @@
 //! Where reading stands.
 ghost use Rattle.std.specs.Prelude.{◌≤◌, ◌+◌};
 
-use ks_row::{Name, Seq};
+use ks_record::{Name, Seq};
 
 /// Where reading stands at the start of a line.
 #[derive(Drop)]

@@ -3,7 +3,7 @@ ghost use Rattle.std.specs.Prelude.{◌≡◌, IfOk, true};
 ghost use Rattle.ks_job.specs.Lines.{spot};
 
 use crate::place::Place;
-use ks_row::{Name, Seq};
+use ks_record::{Name, Seq};
 use std::alloc::{AllocError, Global};
 
 /// A copy of these names. `Err` only where memory ran out.

@@ -1,6 +1,6 @@
 -- The front and the end of a plain line.
 use Rattle.std.proofs.Common.{◌≡◌, ℕ, ◌<◌, ◌≤◌, nat_le, cond, List, ◌∷◌, ◌++◌, length, Some, None, codes, decimal, refl, sym, ap, ◌∙◌, arith, ne_eqb, le-leb}
-use Rattle.ks_row.specs.Texts.{key_of}
+use Rattle.ks_record.specs.Texts.{key_of}
 use Rattle.ks_job_record.specs.Record.{number_of}
 use Rattle.ks_job_record.specs.Plain.{IsQuoted, IsDigits}
 use Rattle.ks_job_record.specs.PlainLines.{IsFront, IsEnd}

@@ -12,7 +12,7 @@ use Rattle.serde_json.specs.Data.{unsigned, Data, number, string, object}
 use Rattle.serde_json.specs.Read.{read}
 use Rattle.serde_json.specs.Find.{of_integer}
 use Rattle.ks_row.specs.Rows.{Member, row_of, rises, names_of}
-use Rattle.ks_row.specs.Texts.{key_of, name_of, text_of as text_within}
+use Rattle.ks_record.specs.Texts.{key_of, name_of, text_of as text_within}
 use Rattle.ks_row.specs.Spelling.{spelling, FitsField, FitsMember}
 use Rattle.ks_row.specs.declared.row.Field.{Field}
 use Rattle.ks_row.specs.declared.row.Field.TheVariants.{Int, Text}

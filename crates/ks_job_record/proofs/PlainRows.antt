@@ -2,7 +2,7 @@
 use Rattle.std.proofs.Common.{◌≡◌, ℕ, suc, ◌+◌, ◌≤◌, List, [], ◌∷◌, ◌++◌, length, insert, Some, None, Ordering, Less, Equal, Greater, refl, sym, ap, ◌∙◌, arith, append_assoc, Bool, true, false, cond, pos, ◌==◌, nat_le}
 use Rattle.std.specs.Prelude.{is_some}
 use Rattle.std.specs.Str.{is_utf8}
-use Rattle.ks_row.specs.Texts.{name_from}
+use Rattle.ks_record.specs.Texts.{name_from}
 use Rattle.ks_row.specs.declared.row.Field.{Field}
 use Rattle.ks_row.specs.declared.row.Field.TheVariants.{Int}
 use Rattle.std.specs.Ordering.{nat_cmp, match_ordering}

@@ -1,6 +1,6 @@
 -- The front and the end of a plain line.
 use Rattle.std.specs.Prelude.{◌≡◌, ℕ, ◌≤◌, List, ◌++◌, Option, Some, None, true, codes}
-use Rattle.ks_row.specs.Texts.{key_of}
+use Rattle.ks_record.specs.Texts.{key_of}
 use Rattle.ks_job_record.specs.declared.record.Input.{Input}
 use Rattle.ks_job_record.specs.Record.{number_of}
 use Rattle.ks_job_record.specs.Plain.{is_plain, end_text}

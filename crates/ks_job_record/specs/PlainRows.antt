@@ -4,7 +4,7 @@ use Rattle.std.specs.Ordering.{nat_cmp, match_ordering}
 use Rattle.std.specs.Cmp.Lexicographic.{slice_cmp}
 use Rattle.std.specs.List.{AllByRecursion}
 use Rattle.ks_row.specs.Rows.{Member}
-use Rattle.ks_row.specs.Texts.{name_of, text_of}
+use Rattle.ks_record.specs.Texts.{name_of, text_of}
 use Rattle.ks_row.specs.declared.row.Field.{Field}
 use Rattle.ks_row.specs.declared.row.Field.TheVariants.{Int, Text}
 use Rattle.ks_job_record.specs.Plain.{members_text, member_text, is_plain, IsPlainField}

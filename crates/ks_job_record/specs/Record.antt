@@ -3,7 +3,7 @@ use Rattle.std.specs.Prelude.{ℕ, ◌+◌, ℤ, pos, negsuc, List, [], ◌∷�
 use Rattle.serde_json.specs.Data.{Data, null, boolean, number, string, array, object, Members, no_members, member}
 use Rattle.serde_json.specs.Find.{get}
 use Rattle.ks_row.specs.Rows.{Member, row_of}
-use Rattle.ks_row.specs.Texts.{key_of, name_of, text_of as text_within}
+use Rattle.ks_record.specs.Texts.{key_of, name_of, text_of as text_within}
 use Rattle.ks_row.specs.Spelling.{spelling}
 use Rattle.ks_row.specs.declared.row.Field.{Field}
 use Rattle.ks_row.specs.declared.row.Field.TheVariants.{Int, Text}

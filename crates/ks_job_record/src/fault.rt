@@ -3,7 +3,7 @@ ghost use Rattle.std.specs.Prelude.{◌≡◌, IfOk};
 ghost use Rattle.ks_job_record.specs.declared.fault.JobKind.TheVariants.{TooMany, BadShape, BadNumber, UnknownTopic};
 ghost use Rattle.ks_job_record.specs.declared.fault.LineError.TheVariants.{Memory};
 
-use ks_row::Blob;
+use ks_record::Blob;
 use std::alloc::{AllocError, AllocFailed, Global};
 
 /// What is wrong with a line.

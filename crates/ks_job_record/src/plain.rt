@@ -9,7 +9,8 @@ ghost use Rattle.ks_job_record.specs.Says.{Says};
 
 use crate::pieces::{Plain, after, behind, split_digits, split_member, split_quoted};
 use crate::record::{Input, topic_number};
-use ks_row::{Blob, FieldRef, Name, Rec, RecordRef, Row, is_below, is_name, is_text};
+use ks_record::{Blob, Name, Rec, RecordRef};
+use ks_row::{FieldRef, Row, is_below, is_name, is_text};
 use std::alloc::{AllocError, Global};
 use std::str;
 

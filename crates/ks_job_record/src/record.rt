@@ -8,10 +8,11 @@ ghost use Rattle.ks_job_record.specs.Record.{place_of, number_of, topic_from, ke
 
 use crate::fault::{LineError, bad_number, bad_shape, too_many, unknown_topic};
 use crate::members::{Form, read_integer, read_member, read_object, read_text};
-use ks_row::{Blob, Field, Name, Rec, RecordRef, Row, Text};
+use ks_record::{Blob, Name, Rec, RecordRef, Text};
+use ks_row::{Field, Row};
 use serde_json::Value;
 use serde_json::value::Map;
-use std::alloc::{AllocError, Global};
+use std::alloc::Global;
 
 /// A record for a topic, which is given by its number.
 #[derive(Drop)]

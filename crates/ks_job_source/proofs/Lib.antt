@@ -2,3 +2,4 @@ pub mod Machines
 pub mod Taking
 pub mod Opened
 pub mod Opens
+pub mod Counts

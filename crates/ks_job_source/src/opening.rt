@@ -14,7 +14,7 @@ use crate::stop::JobStop;
 use ks_edge::Source;
 use ks_job::{JobItem, JobReader};
 use ks_topo::Draft;
-use std::alloc::{AllocError, Global};
+use std::alloc::Global;
 use std::thread::Threads;
 
 /// A job whose topology was read, and is well formed.

@@ -3,7 +3,7 @@ use Rattle.std.specs.Prelude.{ℕ, ◌==◌, ℤ, List, [], ◌∷◌, ◌++◌,
 use Rattle.std.specs.List.{list_all}
 use Rattle.serde_json.specs.Data.{Data, Members, no_members, member, Items, no_items, item}
 use Rattle.serde_json.specs.Find.{get, as_str, as_array, as_object}
-use Rattle.ks_row.specs.Texts.{name_of}
+use Rattle.ks_record.specs.Texts.{name_of}
 use Rattle.ks_expr.specs.declared.terms.JoinKind.{JoinKind}
 use Rattle.ks_expr.specs.declared.terms.JoinKind.TheVariants.{Inner, Left, Outer}
 use Rattle.ks_expr.specs.declared.terms.Expr.{Expr}
@@ -17,9 +17,9 @@ use Rattle.ks_job_record.specs.declared.members.Kind.{Kind}
 use Rattle.ks_job_record.specs.declared.members.Kind.TheVariants.{Stream, Table, Filter, MapValues, SelectKey, Count, Sum, WindowedCount, Join, FkJoin}
 use Rattle.ks_job_record.specs.Gives.{◌>>=◌, some_or}
 use Rattle.ks_job_record.specs.Members.{same, object_of, member_of, text_of, integer_of, integer_from}
-use Rattle.ks_job_topology.specs.Exprs.{limited}
-use Rattle.ks_job_topology.specs.Foreign.{fk_from}
-use Rattle.ks_job_topology.specs.Tests.{where_of}
+use Rattle.ks_job_expr.specs.Exprs.{limited}
+use Rattle.ks_job_expr.specs.Foreign.{fk_from}
+use Rattle.ks_job_expr.specs.Tests.{where_of}
 use Rattle.ks_job_topology.specs.Labels.{is_word_byte}
 
 -- the operations, by their words

@@ -2,7 +2,7 @@
 use Rattle.std.specs.Prelude.{ℕ, ◌&&◌, ℤ, pos, List, Option, Some, None, option_map, option_and_then, Result, Ok, Err, codes, int_lt, if◌then◌else◌}
 use Rattle.serde_json.specs.Data.{Data, Members, no_members, member}
 use Rattle.serde_json.specs.Find.{as_str, as_object}
-use Rattle.ks_row.specs.Texts.{name_of}
+use Rattle.ks_record.specs.Texts.{name_of}
 use Rattle.ks_plan.specs.declared.draft.TopicDraft.{TopicDraft}
 use Rattle.ks_job_record.specs.declared.fault.JobKind.{JobKind}
 use Rattle.ks_job_record.specs.declared.fault.JobKind.TheVariants.{BadShape}

@@ -3,7 +3,7 @@ use Rattle.std.specs.Prelude.{ℕ, ◌==◌, ◌&&◌, ◌||◌, List, [], ◌�
 use Rattle.std.specs.List.{list_all}
 use Rattle.serde_json.specs.Data.{Data, Members, no_members, member, Items, no_items, item}
 use Rattle.serde_json.specs.Find.{as_str, as_array, as_object}
-use Rattle.ks_row.specs.Texts.{name_of}
+use Rattle.ks_record.specs.Texts.{name_of}
 use Rattle.ks_job_record.specs.declared.fault.JobKind.{JobKind}
 use Rattle.ks_job_record.specs.declared.fault.JobKind.TheVariants.{BadShape}
 use Rattle.ks_job_record.specs.declared.members.Form.TheVariants as form

@@ -6,7 +6,7 @@ ghost use Rattle.ks_job_topology.specs.Nodes.{blob_from, name_from, by_from, int
 
 use ks_expr::JoinKind;
 use ks_job_record::{LineError, bad_shape, blob_of, read_integer, read_text};
-use ks_row::{Blob, Name};
+use ks_record::{Blob, Name};
 use serde_json::Value;
 use std::alloc::Global;
 

@@ -8,15 +8,14 @@ ghost use Rattle.ks_job_record.specs.Gives.{Gives};
 ghost use Rattle.ks_job_topology.specs.Nodes.{kind_of, op_from, node_name_from, filter_from, map_from, key_op_from, count_from, sum_from, windowed_from, join_from, fk_join_from, body_from, node_from, nodes_from, nodes_of};
 
 use crate::field::{read_blob, read_by, read_integer_if, read_join_kind, read_name_of};
-use crate::foreign::read_fk;
 use crate::labels::all_words;
-use crate::pred::read_where;
 use crate::set::read_set;
+use ks_job_expr::{read_fk, read_where};
 use ks_job_record::{
     Form, Kind, LineError, bad_shape, read_integer_of, read_member, read_object, read_text,
 };
 use ks_plan::{NodeDraft, Op};
-use ks_row::Name;
+use ks_record::Name;
 use serde_json::Value;
 use std::alloc::Global;
 

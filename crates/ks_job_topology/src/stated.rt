@@ -6,7 +6,7 @@ ghost use Rattle.ks_job_topology.specs.Stated.{parts_from, only_two_of, stated_i
 
 use ks_job_record::{LineError, bad_shape, read_integer};
 use ks_plan::TopicDraft;
-use ks_row::Name;
+use ks_record::Name;
 use serde_json::Value;
 use std::alloc::{AllocError, Global};
 

@@ -10,7 +10,7 @@ use crate::node::read_nodes;
 use crate::stated::read_spread;
 use ks_job_record::{Form, LineError, bad_shape, blob_of, read_member, read_object, read_text};
 use ks_plan::{Draft, TopicDraft};
-use ks_row::{Blob, Name, Seq};
+use ks_record::{Blob, Name, Seq};
 use serde_json::Value;
 use serde_json::value::Map;
 use std::alloc::{AllocError, Global};

@@ -2,10 +2,10 @@
 use Rattle.std.proofs.Common.{◌≡◌, ℕ, List, [], ◌∷◌, true, false, codes, Some, None, refl}
 use Rattle.std.specs.Fmt.{digits}
 use Rattle.json.specs.Print.{escape_byte}
-use Rattle.ks_row.specs.Records.{Record as Rec}
-use Rattle.ks_row.specs.declared.record.PartId.{PartId}
-use Rattle.ks_row.specs.declared.record.TaskId.{TaskId}
-use Rattle.ks_row.specs.declared.assignment.Refused.TheVariants.{Fenced, NoTransaction, OldGeneration, NotAssigned, MarkersWaiting, BadAssignment}
+use Rattle.ks_record.specs.Records.{Record as Rec}
+use Rattle.ks_record.specs.declared.record.PartId.{PartId}
+use Rattle.ks_record.specs.declared.record.TaskId.{TaskId}
+use Rattle.ks_record.specs.declared.assignment.Refused.TheVariants.{Fenced, NoTransaction, OldGeneration, NotAssigned, MarkersWaiting, BadAssignment}
 use Rattle.ks_history.specs.declared.journal.Request.{Request}
 use Rattle.ks_history.specs.declared.journal.Request.TheVariants.{Produce, Init, Add, Append, SendOffsets, Decide, MarkNext, Join, Expire, Hold, Probe, Assign, Park, Unpark}
 use Rattle.ks_history.specs.declared.journal.Reply.{Reply}

@@ -7,7 +7,7 @@ use crate::values::{
     push_number, push_pairs, push_places, push_positions, push_rec, push_recs, push_task,
     push_truth,
 };
-use ks_row::{Assignment, PartId, Rec, SharedRecords, TaskId};
+use ks_record::{Assignment, PartId, Rec, SharedRecords, TaskId};
 use std::alloc::AllocError;
 
 pub(crate) fn number_field(out: &mut Vec<u8>, number: u64) -> Result<(), AllocError>

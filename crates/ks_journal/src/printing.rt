@@ -5,7 +5,7 @@ ghost use Rattle.ks_journal.specs.Lines.{entry_text, line_text, journal_text};
 use crate::replies::push_reply;
 use crate::requests::{push_arguments, push_name};
 use ks_history::{Entry, Journal};
-use ks_row::Blob;
+use ks_record::Blob;
 use std::alloc::{AllocError, Global};
 
 fn push_entry(out: &mut Vec<u8>, entry: &Entry) -> Result<(), AllocError>

@@ -1,13 +1,13 @@
 //! The end of a line: the reply.
 ghost use Rattle.std.specs.Prelude.{◌≡◌, ◌++◌, Some, OnOk};
 ghost use Rattle.serde_json.specs.Written.{compact_text};
-ghost use Rattle.ks_row.specs.declared.assignment.Refused.TheVariants.{AlreadyDecided, NoTransaction, NotAssigned, BadAssignment};
+ghost use Rattle.ks_record.specs.declared.assignment.Refused.TheVariants.{AlreadyDecided, NoTransaction, NotAssigned, BadAssignment};
 ghost use Rattle.ks_journal.specs.Lines.{owner_data, refusal_text, mark_data, reply_data};
 
 use crate::fields::{number_field, part_fields};
 use crate::values::{push_null, push_number, push_pair, push_task, push_truth};
 use ks_history::Reply;
-use ks_row::{PartId, Refused, TaskId};
+use ks_record::{PartId, Refused, TaskId};
 use std::alloc::AllocError;
 
 fn push_owner(out: &mut Vec<u8>, owner: Option<u8>) -> Result<(), AllocError>

@@ -9,7 +9,7 @@ use crate::fields::{
 };
 use crate::values::push_plain;
 use ks_history::Request;
-use ks_row::{Assignment, PartId, Rec, TaskId};
+use ks_record::{Assignment, PartId, Rec, TaskId};
 use std::alloc::AllocError;
 
 fn name_of(request: &Request) -> &'static str

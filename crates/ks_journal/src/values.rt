@@ -4,10 +4,10 @@ ghost use Rattle.std.specs.Char.{digit_char};
 ghost use Rattle.serde_json.specs.Data.{null, boolean, string};
 ghost use Rattle.serde_json.specs.Written.{compact_text, comma_if};
 ghost use Rattle.json.specs.Print.{escape};
-ghost use Rattle.ks_row.specs.Records.{record_seen};
+ghost use Rattle.ks_record.specs.Records.{record_seen};
 ghost use Rattle.ks_journal.specs.Lines.{hex, bytes_data, rec_data, task_data, pair_data, place_data, recs_data, pairs_data, places_data};
 
-use ks_row::{RecordRef, SharedRecords, TaskId};
+use ks_record::{RecordRef, SharedRecords, TaskId};
 use std::alloc::AllocError;
 
 // One digit.

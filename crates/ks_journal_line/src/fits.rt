@@ -1,12 +1,12 @@
 //! That the numbers of an entry are within their types, as facts for what follows. Each call reads what it is given, and does nothing.
 ghost use Rattle.std.specs.Prelude.{◌^◌, ◌<◌, length, option_copied};
 ghost use Rattle.std.specs.List.{AllByRecursion};
-ghost use Rattle.ks_row.specs.Spelling.{IsBytes};
-ghost use Rattle.ks_row.specs.Records.{record_seen, rec_of_list};
+ghost use Rattle.ks_record.specs.Bytes.{IsBytes};
+ghost use Rattle.ks_record.specs.Records.{record_seen, rec_of_list};
 ghost use Rattle.ks_journal.specs.Fits.{FitsTask, FitsPart, FitsBytes, FitsRec, FitsPair, FitsPlace, FitsRequest, FitsRefusal, FitsReply};
 
 use ks_history::{Reply, Request};
-use ks_row::{PartId, Rec, RecordRef, Refused, SharedRecords, TaskId};
+use ks_record::{PartId, Rec, RecordRef, Refused, SharedRecords, TaskId};
 
 fn task_fits(task: TaskId)
     ensures { FitsTask task }

@@ -8,7 +8,7 @@ use crate::values::{
     read_held, read_pair, read_place, read_rec, take_bool, take_part, take_task, take_u8, take_u64,
 };
 use ks_history::Request;
-use ks_row::{Assignment, Rec, RecordList, Seq, SharedRecords, TaskId};
+use ks_record::{Assignment, Rec, RecordList, Seq, SharedRecords, TaskId};
 use serde_json::Value;
 use std::alloc::{AllocError, Global};
 

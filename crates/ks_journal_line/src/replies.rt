@@ -6,7 +6,7 @@ ghost use Rattle.ks_journal.specs.Reading.{first, owner_in, refusal_at, refusal_
 
 use crate::values::{if_all, take_bool, take_part, take_task, take_u8, take_u32, take_u64};
 use ks_history::{Reply, Request};
-use ks_row::{PartId, Refused};
+use ks_record::{PartId, Refused};
 use serde_json::Value;
 
 fn read_owner(value: &Value) -> Option<Option<u8>>

@@ -4,7 +4,7 @@ ghost use Rattle.serde_json.specs.Find.{as_bool};
 ghost use Rattle.serde_json.specs.View.{view, items_view};
 ghost use Rattle.ks_journal.specs.Reading.{first, below_in, whole_in, worker_at, count_at, truth_at, task_at, part_at, nibble, decimal_at, continues, task_from, bytes_from, bytes_onto, bytes_in, rec_in, pair_in, place_in, pair_at, place_at, only, at_end, byte_from};
 
-use ks_row::{Blob, PartId, Rec, RecordRef, TaskId};
+use ks_record::{Blob, PartId, Rec, RecordRef, TaskId};
 use serde_json::Value;
 use std::alloc::{AllocError, Global};
 

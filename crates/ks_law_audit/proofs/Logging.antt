@@ -2,21 +2,21 @@
 use Rattle.std.proofs.Common.{◌≡◌, ℕ, ◌+◌, Bool, true, false, cond, ◌&&◌, inl, inr, List, [], ◌∷◌, ◌++◌, length, Option, Some, None, refl, sym, ap, ap₂, subst, ◌∙◌, arith, append-nil}
 use Rattle.std.specs.Prelude.{◌==◌}
 use Rattle.std.proofs.lemmas.Bool.{eqb-true, eq-eqb}
-use Rattle.ks_row.specs.Records.{Record as Rec}
-use Rattle.ks_row.specs.declared.record.PartId.{PartId}
-use Rattle.ks_row.specs.declared.record.TaskId.{TaskId}
-use Rattle.ks_row.specs.declared.assignment.Assignment.{Assignment}
-use Rattle.ks_row.specs.declared.assignment.Marker.{Marker}
-use Rattle.ks_row.specs.declared.assignment.Refused.{Refused}
-use Rattle.ks_row.specs.Parts.{same_part, same_task}
+use Rattle.ks_record.specs.Records.{Record as Rec}
+use Rattle.ks_record.specs.declared.record.PartId.{PartId}
+use Rattle.ks_record.specs.declared.record.TaskId.{TaskId}
+use Rattle.ks_record.specs.declared.assignment.Assignment.{Assignment}
+use Rattle.ks_record.specs.declared.assignment.Marker.{Marker}
+use Rattle.ks_record.specs.declared.assignment.Refused.{Refused}
+use Rattle.ks_record.specs.Parts.{same_part, same_task}
 use Rattle.ks_history.specs.declared.partition.Slot.{Slot}
-use Rattle.ks_history.specs.declared.partition.Slot.TheVariants.{Plain, Sent, Mark}
+use Rattle.ks_history.specs.declared.partition.Slot.TheVariants.{Plain, Mark}
 use Rattle.ks_history.specs.declared.transaction.Transaction.{Transaction}
 use Rattle.ks_history.specs.declared.transaction.Producer.{Producer}
 use Rattle.ks_history.specs.declared.journal.Entry.{Entry}
 use Rattle.ks_history.specs.declared.journal.Request.{Request}
 use Rattle.ks_history.specs.declared.journal.Request.TheVariants.{Produce, Init, Add, Append, SendOffsets, Decide, MarkNext, Join, Expire, Hold, Probe, Assign, Park, Unpark}
-use Rattle.ks_history.specs.Partition.{Logged, next_mark, open_from, is_open, is_none, decision, sent_slots}
+use Rattle.ks_history.specs.Partition.{Logged, next_mark, open_from, is_none, sent_slots}
 use Rattle.ks_history.specs.State.{State, Setup, start, with_number, grown, without_number}
 use Rattle.ks_history.specs.Step.{refusal, state_by, after, fenced, without_part, markers_waiting, old_generation, not_assigned, unstable_beside, or_else, closed, renewed, can_expire}
 use Rattle.ks_history.specs.Faithful.{marker_among}
@@ -25,32 +25,11 @@ use Rattle.ks_history.proofs.Names.{same_task-is}
 use Rattle.ks_law_exactly_once.specs.Law.{OfHistories}
 use Rattle.ks_law_audit.specs.Logged.{logged_at, logged_by, logged_from, OpenIsLogged}
 use Rattle.ks_law_exactly_once.proofs.Sound.{Sound, Owned}
-use Rattle.ks_law_exactly_once.proofs.Slots.{keep_append, next_mark-append, next_mark-sent, open_none, decision_none}
+use Rattle.ks_law_exactly_once.proofs.Slots.{next_mark-sent, open_none}
 use Rattle.ks_law_exactly_once.proofs.Quiet.{none_waiting}
 use Rattle.ks_law_exactly_once.proofs.Refusals.{both_none, not_fenced, with_part, closed_undecided}
 use Rattle.ks_law_exactly_once.proofs.Replays.{whole}
-
--- ---- more slots
-open-append : (w d : ℕ) (t : TaskId) (at : ℕ) (slots more : List Slot) → next_mark w d more ≡ None →
-    open_from w d t at (slots ++ more) ≡ open_from w d t at slots ++ open_from w d t (at + length slots) more
-open-append w d t at [] more none = ap (λ n. open_from w d t n more) (omega arith)
-open-append w d t at (Plain rec ∷ slots) more none = open-append w d t (at + 1) slots more none ∙ ap (λ n. open_from w d t (at + 1) slots ++ open_from w d t n more) (omega arith)
-open-append w d t at (Sent v e number task rec ∷ slots) more none =
-    let x : Logged = record { offset = at; sender = Some task; rec = rec } in
-    let new = open_from w d t (at + 1) (slots ++ more) in
-    ap (λ b. cond b (x ∷ new) new) (same (w == v) (d == e) refl refl)
-    ∙ keep_append (is_open w d t v e task (next_mark v e slots)) x new (open_from w d t (at + 1) slots) _
-    (open-append w d t (at + 1) slots more none ∙ ap (λ n. open_from w d t (at + 1) slots ++ open_from w d t n more) (omega arith))
-  where
-    same : (a b : Bool) → (w == v) ≡ a → (d == e) ≡ b →
-        ((a && b) && same_task t task) && is_none (next_mark v e (slots ++ more)) ≡ ((a && b) && same_task t task) && is_none (next_mark v e slots)
-    same true true f g = ap (λ o. same_task t task && is_none o)
-        (next_mark-append v e slots more
-        ∙ ap (decision (next_mark v e slots)) (ap₂ (λ k l. next_mark k l more) (sym (eqb-true w v f)) (sym (eqb-true d e g)) ∙ none)
-        ∙ decision_none (next_mark v e slots))
-    same true false f g = refl
-    same false b f g = refl
-open-append w d t at (Mark v e commit ∷ slots) more none = open-append w d t (at + 1) slots more none ∙ ap (λ n. open_from w d t (at + 1) slots ++ open_from w d t n more) (omega arith)
+use Rattle.ks_law_exactly_once.proofs.Appending.{open-append}
 
 open-sent : (w d : ℕ) (t : TaskId) (at v e number : ℕ) (u : TaskId) (rs : List Rec) →
     open_from w d t at (sent_slots v e number u rs) ≡ cond (((w == v) && (d == e)) && same_task t u) (logged_at at u rs) []

@@ -1,7 +1,7 @@
 -- A task between two of its commits, as the cluster's state tells it; and one that has taken what a pending commit names (KIP-447: offsets are
 -- committed with what was made of the records before them).
 use Rattle.std.specs.Prelude.{◌≡◌, ℕ, zero, suc, true, List, [], ◌∷◌}
-use Rattle.ks_row.specs.declared.record.PartId.{PartId}
+use Rattle.ks_record.specs.declared.record.PartId.{PartId}
 use Rattle.ks_def_runs.specs.Run.{sent_to}
 use Rattle.ks_history.specs.declared.transaction.Pending.{Pending}
 use Rattle.ks_history.specs.Partition.{past_last, with_offsets}

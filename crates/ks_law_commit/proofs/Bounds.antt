@@ -2,7 +2,7 @@
 use Rattle.std.proofs.Common.{◌≡◌, inl, inr, ℕ, zero, suc, ◌+◌, ◌≤◌, ◌<◌, Bool, true, false, cond, List, [], ◌∷◌, length, take, Option, Some, None, refl, sym, subst, arith}
 use Rattle.std.specs.Prelude.{◌==◌, max, nat_le}
 use Rattle.std.proofs.lemmas.Bool.{eqb-true, leb-true}
-use Rattle.ks_row.specs.declared.record.PartId.{PartId}
+use Rattle.ks_record.specs.declared.record.PartId.{PartId}
 use Rattle.ks_history.specs.declared.partition.Slot.{Slot}
 use Rattle.ks_history.specs.declared.partition.Slot.TheVariants.{Plain, Sent, Mark}
 use Rattle.ks_history.specs.Partition.{Logged, by_mark, next_mark, stable, readable_from, readable, with_offsets, past_from, past_last, read, decided_from, decision, is_commit}

@@ -1,10 +1,10 @@
 -- The tasks that a worker holds, while its commit is on its way and after its end.
 use Rattle.std.proofs.Common.{◌≡◌, ◌≢◌, ◌⊎◌, inl, inr, ℕ, ◌≤◌, Bool, true, false, not, cond, List, [], ◌∷◌, ◌++◌, Option, Some, None, refl, sym, ap, ap₂, subst, ◌∙◌, arith, append_assoc}
 use Rattle.std.proofs.lemmas.Bool.{ne_eqb}
-use Rattle.ks_row.specs.declared.record.TaskId.{TaskId}
-use Rattle.ks_row.specs.declared.record.PartId.{PartId}
-use Rattle.ks_row.specs.Records.{Record as Rec}
-use Rattle.ks_row.specs.declared.assignment.Refused.{Refused}
+use Rattle.ks_record.specs.declared.record.TaskId.{TaskId}
+use Rattle.ks_record.specs.declared.record.PartId.{PartId}
+use Rattle.ks_record.specs.Records.{Record as Rec}
+use Rattle.ks_record.specs.declared.assignment.Refused.{Refused}
 use Rattle.ks_history.specs.declared.journal.Entry.{Entry}
 use Rattle.ks_history.specs.declared.journal.Request.{Request}
 use Rattle.ks_history.specs.declared.journal.Request.TheVariants.{Decide}
@@ -32,7 +32,8 @@ use Rattle.ks_law_sharing.specs.Tasks.{IsAssigned, IsActive, HasSeen}
 use Rattle.ks_law_sharing.proofs.Rising.{rises, rises_after, ends_rise}
 use Rattle.ks_law_sharing.proofs.Touching.{is_others, untouched_parts, touched_grows, seen_stays}
 use Rattle.ks_law_sharing.proofs.Leaving.{leaves, is_same, idle_stays, open_stays}
-use Rattle.ks_law_sharing.proofs.Pending.{IsOne, pending_is, one_step, one_at, commits_none}
+use Rattle.ks_law_restore.proofs.Owning.{pending_is}
+use Rattle.ks_law_sharing.proofs.Pending.{IsOne, one_step, one_at, commits_none}
 use Rattle.ks_law_sharing.proofs.Assigned.{active_stays}
 use Rattle.ks_law_commit.specs.Building.{Contents, IsBuilding}
 use Rattle.ks_law_commit.specs.Committing.{Holds, AreOpenEnds, commit_entry, open_end}

@@ -1,6 +1,6 @@
 -- How far a fetch moves a position, and how far one may stand (KIP-98: the last stable offset).
 use Rattle.std.specs.Prelude.{◌≡◌, ◌≤◌, ℕ, true, List, ◌++◌}
-use Rattle.ks_row.specs.declared.record.PartId.{PartId}
+use Rattle.ks_record.specs.declared.record.PartId.{PartId}
 use Rattle.ks_history.specs.declared.journal.Entry.{Entry}
 use Rattle.ks_history.specs.Partition.{stable}
 use Rattle.ks_history.specs.Machine.{IsNetwork, has_topic, part_of}

@@ -1,6 +1,6 @@
 -- The zombie of `ks_law_exactly_once`: worker 0 has built a transaction when worker 1 comes, is fenced, and can't commit it.
 use Rattle.std.specs.Prelude.{List, [], ◌∷◌, take}
-use Rattle.ks_row.specs.Records.{Record as Rec}
+use Rattle.ks_record.specs.Records.{Record as Rec}
 use Rattle.ks_history.specs.declared.journal.Entry.{Entry}
 use Rattle.ks_law_exactly_once.specs.Example.{the_task, changelog, zombie}
 use Rattle.ks_law_restore.specs.Views.{pending_work}

@@ -1,7 +1,7 @@
 //! A history written out, in which others write while a worker builds: the laws' premises hold together.
 ghost use Rattle.std.specs.Prelude.{◌≡◌, Some, true};
-ghost use Rattle.ks_row.specs.Records.{Record as Rec};
-ghost use Rattle.ks_row.specs.declared.assignment.Refused.TheVariants.{Fenced};
+ghost use Rattle.ks_record.specs.Records.{Record as Rec};
+ghost use Rattle.ks_record.specs.declared.assignment.Refused.TheVariants.{Fenced};
 ghost use Rattle.ks_history.specs.declared.journal.Request.TheVariants.{Decide};
 ghost use Rattle.ks_history.specs.Step.{refusal};
 ghost use Rattle.ks_history.specs.History.{at, IsHistory, CommitsFaithfully};

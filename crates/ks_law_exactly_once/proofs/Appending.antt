@@ -2,13 +2,13 @@
 use Rattle.std.proofs.Common.{◌≡◌, ℕ, ◌+◌, Bool, true, false, cond, ◌&&◌, inl, inr, List, [], ◌∷◌, ◌++◌, length, Option, Some, None, refl, sym, ap, ap₂, subst, ◌∙◌, arith, append-nil}
 use Rattle.std.specs.Prelude.{◌==◌}
 use Rattle.std.proofs.lemmas.Bool.{eqb-true, eq-eqb}
-use Rattle.ks_row.specs.Records.{Record as Rec}
-use Rattle.ks_row.specs.declared.record.PartId.{PartId}
-use Rattle.ks_row.specs.declared.record.TaskId.{TaskId}
-use Rattle.ks_row.specs.declared.assignment.Assignment.{Assignment}
-use Rattle.ks_row.specs.declared.assignment.Marker.{Marker}
-use Rattle.ks_row.specs.declared.assignment.Refused.{Refused}
-use Rattle.ks_row.specs.Parts.{same_part, same_task}
+use Rattle.ks_record.specs.Records.{Record as Rec}
+use Rattle.ks_record.specs.declared.record.PartId.{PartId}
+use Rattle.ks_record.specs.declared.record.TaskId.{TaskId}
+use Rattle.ks_record.specs.declared.assignment.Assignment.{Assignment}
+use Rattle.ks_record.specs.declared.assignment.Marker.{Marker}
+use Rattle.ks_record.specs.declared.assignment.Refused.{Refused}
+use Rattle.ks_record.specs.Parts.{same_part, same_task}
 use Rattle.ks_history.specs.declared.partition.Slot.{Slot}
 use Rattle.ks_history.specs.declared.partition.Slot.TheVariants.{Plain, Sent, Mark}
 use Rattle.ks_history.specs.declared.transaction.Transaction.{Transaction}
@@ -31,7 +31,7 @@ use Rattle.ks_law_exactly_once.proofs.Refusals.{both_none, not_fenced, with_part
 use Rattle.ks_law_exactly_once.proofs.Replays.{whole}
 
 -- ---- more slots
-open-append : (w d : ℕ) (t : TaskId) (at : ℕ) (slots more : List Slot) → next_mark w d more ≡ None →
+pub open-append : (w d : ℕ) (t : TaskId) (at : ℕ) (slots more : List Slot) → next_mark w d more ≡ None →
     open_from w d t at (slots ++ more) ≡ open_from w d t at slots ++ open_from w d t (at + length slots) more
 open-append w d t at [] more none = ap (λ n. open_from w d t n more) (omega arith)
 open-append w d t at (Plain rec ∷ slots) more none = open-append w d t (at + 1) slots more none ∙ ap (λ n. open_from w d t (at + 1) slots ++ open_from w d t n more) (omega arith)

@@ -1,11 +1,11 @@
 -- What the tasks keep of their records holds of every decided record.
 use Rattle.std.proofs.Common.{◌≡◌, Bool, true, false, cond, List, [], ◌∷◌, ◌++◌, Option, Some, None, fold, refl, sym, subst}
 use Rattle.std.proofs.lemmas.Bool.{and_parts}
-use Rattle.ks_row.specs.Records.{Record as Rec}
-use Rattle.ks_row.specs.declared.record.PartId.{PartId}
-use Rattle.ks_row.specs.declared.record.TaskId.{TaskId}
+use Rattle.ks_record.specs.Records.{Record as Rec}
+use Rattle.ks_record.specs.declared.record.PartId.{PartId}
+use Rattle.ks_record.specs.declared.record.TaskId.{TaskId}
 use Rattle.ks_def_runs.specs.Bytes.{Store}
-use Rattle.ks_row.specs.Parts.{same_part, same_task}
+use Rattle.ks_record.specs.Parts.{same_part, same_task}
 use Rattle.ks_def_runs.specs.Run.{Outcome, RunState, is_from, same_sender, same_channel, take_first, advance, initial, sent_to}
 use Rattle.ks_def_runs.proofs.Runs.{same_sender_refl}
 use Rattle.ks_history.specs.Partition.{Logged, recs, by_sender}

@@ -2,9 +2,9 @@
 use Rattle.std.proofs.Common.{◌≡◌, ℕ, Bool, true, false, cond, ◌++◌, Option, Some, None, refl}
 use Rattle.std.specs.Prelude.{◌==◌}
 use Rattle.std.proofs.lemmas.Bool.{eqb-true}
-use Rattle.ks_row.specs.declared.record.PartId.{PartId}
-use Rattle.ks_row.specs.declared.assignment.Refused.{Refused}
-use Rattle.ks_row.specs.declared.assignment.Refused.TheVariants.{NoTransaction, AlreadyDecided, Fenced}
+use Rattle.ks_record.specs.declared.record.PartId.{PartId}
+use Rattle.ks_record.specs.declared.assignment.Refused.{Refused}
+use Rattle.ks_record.specs.declared.assignment.Refused.TheVariants.{NoTransaction, AlreadyDecided, Fenced}
 use Rattle.ks_history.specs.declared.transaction.Transaction.{Transaction}
 use Rattle.ks_history.specs.declared.transaction.Producer.{Producer}
 use Rattle.ks_history.specs.State.{has_part}

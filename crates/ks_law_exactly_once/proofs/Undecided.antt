@@ -1,10 +1,10 @@
 -- Requests that change a producer or put records of an undecided transaction: nothing is decided by them.
 use Rattle.std.proofs.Common.{◌≡◌, ◌≢◌, ℕ, true, false, cond, ◌⊎◌, inr, List, [], ◌∷◌, ◌++◌, Some, None, refl, sym, ap, subst, ◌∙◌, ⊎_elim}
 use Rattle.std.proofs.lemmas.Bool.{eq-eqb, true≢false, or_cases, or_left, or_right}
-use Rattle.ks_row.specs.Records.{Record as Rec}
-use Rattle.ks_row.specs.declared.record.PartId.{PartId}
-use Rattle.ks_row.specs.declared.record.TaskId.{TaskId}
-use Rattle.ks_row.specs.Parts.{same_task}
+use Rattle.ks_record.specs.Records.{Record as Rec}
+use Rattle.ks_record.specs.declared.record.PartId.{PartId}
+use Rattle.ks_record.specs.declared.record.TaskId.{TaskId}
+use Rattle.ks_record.specs.Parts.{same_task}
 use Rattle.ks_history.specs.declared.journal.Request.TheVariants.{Add, Append, SendOffsets}
 use Rattle.ks_history.specs.declared.transaction.Pending.{Pending}
 use Rattle.ks_history.specs.declared.transaction.Transaction.{Transaction}

@@ -4,8 +4,8 @@ use Rattle.std.proofs.lemmas.List.Sorted.{IsPermutation-refl}
 use Rattle.std.proofs.lemmas.Bool.{eqb-true, eq-eqb, or_parts}
 use Rattle.std.proofs.lemmas.Bool.Decides.{eqb_tells}
 use Rattle.std.specs.Prelude.{◌==◌, ◌&&◌, ◌||◌, eqb, length}
-use Rattle.ks_row.specs.Parts.{same_part, same_task}
-use Rattle.ks_row.specs.declared.record.PartId.{PartId}
+use Rattle.ks_record.specs.Parts.{same_part, same_task}
+use Rattle.ks_record.specs.declared.record.PartId.{PartId}
 use Rattle.ks_history.specs.declared.partition.Slot.{Slot}
 use Rattle.ks_history.specs.declared.partition.Slot.TheVariants.{Plain, Sent}
 use Rattle.ks_def_runs.specs.Run.{sent_to}
@@ -16,9 +16,9 @@ use Rattle.ks_history.specs.Partition.{Logged, stable, open_from, is_behind, rec
 use Rattle.ks_history.specs.State.{State, start, offset_in, IsPart}
 use Rattle.ks_history.proofs.Names.{same_part-refl}
 use Rattle.ks_law_exactly_once.specs.Example.{input, changelog, the_task, setup, begun, one_commit, zombie}
-use Rattle.ks_row.specs.Records.{Record as Rec}
-use Rattle.ks_row.specs.declared.record.TaskId.{TaskId}
-use Rattle.ks_row.specs.declared.assignment.Refused.TheVariants.{Fenced}
+use Rattle.ks_record.specs.Records.{Record as Rec}
+use Rattle.ks_record.specs.declared.record.TaskId.{TaskId}
+use Rattle.ks_record.specs.declared.assignment.Refused.TheVariants.{Fenced}
 use Rattle.ks_def_runs.specs.Bytes.{Store}
 use Rattle.ks_history.specs.declared.transaction.Pending.{Pending}
 use Rattle.ks_history.specs.declared.transaction.Transaction.{Transaction}

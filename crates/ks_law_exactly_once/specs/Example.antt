@@ -1,10 +1,10 @@
 -- One record is copied to a changelog: its commit, and a zombie whose commit comes too late. Two histories, written out.
 use Rattle.std.specs.Prelude.{ℕ, ◌==◌, ◌&&◌, true, false, Some, None, List, [], ◌∷◌, cond, take}
-use Rattle.ks_row.specs.Records.{Record as Rec}
-use Rattle.ks_row.specs.declared.record.PartId.{PartId}
-use Rattle.ks_row.specs.declared.record.TaskId.{TaskId}
-use Rattle.ks_row.specs.declared.assignment.Assignment.{Assignment}
-use Rattle.ks_row.specs.declared.assignment.Refused.TheVariants.{Fenced, OldGeneration}
+use Rattle.ks_record.specs.Records.{Record as Rec}
+use Rattle.ks_record.specs.declared.record.PartId.{PartId}
+use Rattle.ks_record.specs.declared.record.TaskId.{TaskId}
+use Rattle.ks_record.specs.declared.assignment.Assignment.{Assignment}
+use Rattle.ks_record.specs.declared.assignment.Refused.TheVariants.{Fenced, OldGeneration}
 use Rattle.ks_def_runs.specs.Run.{Outcome}
 use Rattle.ks_history.specs.declared.journal.Request.{Request}
 use Rattle.ks_history.specs.declared.journal.Request.TheVariants.{Produce, Init, Add, Append, SendOffsets, Decide, MarkNext, Join, Expire, Hold, Probe, Assign}

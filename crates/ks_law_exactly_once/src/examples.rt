@@ -1,7 +1,7 @@
 //! Histories written out: what the definitions say of them is computed.
 ghost use Rattle.std.specs.Prelude.{◌≡◌, ℕ, List, [], ◌∷◌, None, Some, true, false, take};
-ghost use Rattle.ks_row.specs.Records.{Record as Rec};
-ghost use Rattle.ks_row.specs.declared.assignment.Refused.TheVariants.{Unstable};
+ghost use Rattle.ks_record.specs.Records.{Record as Rec};
+ghost use Rattle.ks_record.specs.declared.assignment.Refused.TheVariants.{Unstable};
 ghost use Rattle.ks_history.specs.Machine.{IsNetwork};
 ghost use Rattle.ks_history.specs.History.{at, IsHistory};
 ghost use Rattle.ks_history.specs.Reads.{fetched, committed_refusal, committed_offsets, ends_of};

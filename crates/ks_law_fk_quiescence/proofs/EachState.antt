@@ -3,7 +3,7 @@ use Rattle.std.proofs.Common.{◌≡◌, ◌≢◌, ℕ, true, false, cond, List
 use Rattle.std.specs.Prelude.{option_and_then}
 use Rattle.std.specs.Option.{option_or}
 use Rattle.std.proofs.lemmas.Bool.Decides.{Decides-eqb}
-use Rattle.ks_row.specs.declared.record.TaskId.{TaskId}
+use Rattle.ks_record.specs.declared.record.TaskId.{TaskId}
 use Rattle.ks_expr.specs.declared.terms.JoinKind.{JoinKind}
 use Rattle.ks_expr.specs.Terms.{Set}
 use Rattle.ks_expr.specs.Eval.{Row, same_bytes, joined}
@@ -18,15 +18,15 @@ use Rattle.ks_def_tasks.specs.Collision.{In, NoCollision}
 use Rattle.ks_def_tasks.specs.Rest.{home}
 use Rattle.ks_def_tasks.proofs.Same.{bytes-is, option-is}
 use Rattle.ks_law_quiescence.specs.States.{State, state_of}
-use Rattle.ks_law_quiescence.specs.Taken.{messages}
+use Rattle.ks_law_topology.specs.Taken.{messages}
 use Rattle.ks_law_quiescence.specs.ForeignJoin.{Subscription, Response, Join, apply, same_key, run_of}
 use Rattle.ks_law_quiescence.specs.ForeignJoin as join
 use Rattle.ks_law_quiescence.specs.ForeignJoin.Subscription.{Forget, ForgetAndAnswer, Ask}
-use Rattle.ks_law_quiescence.proofs.Each.{Each, each_parts}
-use Rattle.ks_law_quiescence.proofs.Fits.{Fits}
-use Rattle.ks_law_quiescence.proofs.Mixed.{Stands_at}
+use Rattle.ks_law_topology.proofs.Each.{Each, each_parts}
+use Rattle.ks_law_topology.proofs.Fits.{Fits}
+use Rattle.ks_law_topology.proofs.Mixed.{Stands_at}
 use Rattle.ks_law_quiescence.proofs.OneKey.{Sound, Sound-run, keys_decided}
-use Rattle.ks_law_quiescence.proofs.Placed.{FitsAt, NamesHome}
+use Rattle.ks_law_topology.proofs.Placed.{FitsAt, NamesHome}
 use Rattle.ks_law_fk_quiescence.specs.AtRest.{hash_for}
 use Rattle.ks_law_fk_quiescence.specs.Joins.{IsAskedAt, IsAnsweredAt, HashesAreHad, HashesFollow, OthersAreForgotten, PresentIsAnswered, ResultsFollow, GoneIsTold, AloneIsJoined, HasHad, last, last_with, key_join_in}
 use Rattle.ks_law_fk_quiescence.specs.KeyJoins.{JoinAt, join_at, protocol_of, KeyJoin, named_at}

@@ -1,7 +1,7 @@
 -- The hashes of a foreign key stand in its task alone.
 use Rattle.std.proofs.Common.{◌≡◌, ℕ, true, false, cond, List, [], ◌∷◌, Option, Some, None, refl, sym, ap, ap₂, subst, ◌∙◌}
-use Rattle.ks_row.specs.declared.record.TaskId.{TaskId}
-use Rattle.ks_row.specs.Parts.{same_task}
+use Rattle.ks_record.specs.declared.record.TaskId.{TaskId}
+use Rattle.ks_record.specs.Parts.{same_task}
 use Rattle.ks_expr.specs.declared.terms.JoinKind.{JoinKind}
 use Rattle.ks_expr.specs.Terms.{Set}
 use Rattle.ks_expr.specs.Eval.{same_bytes}
@@ -25,12 +25,12 @@ use Rattle.ks_def_tasks.specs.Tasks.{arrival, machine, inputs_of, is_changelog}
 use Rattle.ks_def_tasks.specs.Rest.{home}
 use Rattle.ks_def_tasks.proofs.Names.{same_task-is, topic-is}
 use Rattle.ks_law_quiescence.specs.States.{State, state_of, home_task}
-use Rattle.ks_law_quiescence.specs.Taken.{messages}
-use Rattle.ks_law_quiescence.proofs.Each.{Each, each_parts}
-use Rattle.ks_law_quiescence.proofs.Fits.{Fits}
-use Rattle.ks_law_quiescence.proofs.Mixed.{Stands_at}
+use Rattle.ks_law_topology.specs.Taken.{messages}
+use Rattle.ks_law_topology.proofs.Each.{Each, each_parts}
+use Rattle.ks_law_topology.proofs.Fits.{Fits}
+use Rattle.ks_law_topology.proofs.Mixed.{Stands_at}
 use Rattle.ks_law_quiescence.proofs.OneKey.{keys_decided}
-use Rattle.ks_law_quiescence.proofs.Placed.{FitsAt, placed_run}
+use Rattle.ks_law_topology.proofs.Placed.{FitsAt, placed_run}
 use Rattle.ks_law_fk_quiescence.specs.KeyJoins.{JoinAt, join_at, asking_place}
 use Rattle.ks_law_fk_quiescence.proofs.Waits.{Waits, waits_step, waits_initial, asking_spread, taken_by_right}
 use Rattle.ks_law_fk_quiescence.proofs.Steps.{hash_then}

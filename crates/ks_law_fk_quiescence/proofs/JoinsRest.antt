@@ -3,8 +3,8 @@ use Rattle.std.proofs.Common.{◌≡◌, ℕ, true, false, cond, List, [], slice
 use Rattle.std.specs.Prelude.{option_and_then, option_map}
 use Rattle.std.specs.Cmp.Lexicographic.{nat_list_cmp_total}
 use Rattle.std.specs.FinMap.{slice_cmp-IsAntisymmetric, nat_cmp-IsAntisymmetric}
-use Rattle.ks_row.specs.declared.record.TaskId.{TaskId}
-use Rattle.ks_row.specs.Parts.{same_task}
+use Rattle.ks_record.specs.declared.record.TaskId.{TaskId}
+use Rattle.ks_record.specs.Parts.{same_task}
 use Rattle.ks_expr.specs.declared.terms.JoinKind.{JoinKind}
 use Rattle.ks_expr.specs.Terms.{Set}
 use Rattle.ks_expr.specs.Eval.{Row, same_bytes, joined}
@@ -20,11 +20,11 @@ use Rattle.ks_def_tasks.specs.Rest.{IsDrained, home, named}
 use Rattle.ks_def_tasks.proofs.Names.{same_task-is}
 use Rattle.ks_law_quiescence.specs.AtRest.{IsQuery}
 use Rattle.ks_law_quiescence.specs.States.{State, state_of, row_at, home_task}
-use Rattle.ks_law_quiescence.specs.Taken.{messages}
+use Rattle.ks_law_topology.specs.Taken.{messages}
 use Rattle.ks_law_quiescence.specs.ForeignJoin as join
 use Rattle.ks_law_quiescence.proofs.AtRest.{everywhere, at_home}
-use Rattle.ks_law_quiescence.proofs.Fits.{Fits, each_at}
-use Rattle.ks_law_quiescence.proofs.Mixed.{Stands_at}
+use Rattle.ks_law_topology.proofs.Fits.{Fits, each_at}
+use Rattle.ks_law_topology.proofs.Mixed.{Stands_at}
 use Rattle.ks_law_quiescence.proofs.OneKey.{keys_decided, stored_at_rest, result_at_rest}
 use Rattle.ks_query.proofs.Pointwise.{get-map_rows}
 use Rattle.ks_law_quiescence.proofs.Queries.{query_at, given_here}
@@ -36,7 +36,7 @@ use Rattle.ks_law_fk_quiescence.proofs.Seeing.{Sees, sees_run, sees_sound, node_
 use Rattle.ks_law_fk_quiescence.proofs.HashesPlaced.{hashes_run}
 use Rattle.ks_expr.specs.Keys.{fk_of}
 use Rattle.ks_wire.specs.declared.values.Subscriber.{Subscriber}
-use Rattle.ks_law_quiescence.proofs.Placed.{Placed, placed_run}
+use Rattle.ks_law_topology.proofs.Placed.{Placed, placed_run}
 
 module _ (rules : Rules) (p : Plan) (fits : Fits p) (a l r : ℕ) (fk : Fk) (kind : JoinKind) (set : Set) (stands : Stands_at a (ForeignKeyJoin l r fk kind set) 0 p.kinds) (records : List Input) (schedule : List (Option TaskId × Place)) where
   abbrev site : JoinAt

@@ -19,7 +19,7 @@ use Rattle.ks_def_tasks.specs.Foreign.{key_of_row, subscribe, subscriptions, ans
 use Rattle.ks_def_tasks.specs.Step.{send_subscriptions, send_responses, answer_of}
 use Rattle.ks_law_quiescence.specs.ForeignJoin.{Subscription, Response, same_key, sent_to_key, answer, answer_to}
 use Rattle.ks_law_quiescence.specs.ForeignJoin.Subscription.{Forget, ForgetAndAnswer, Ask}
-use Rattle.ks_law_quiescence.proofs.Mixed.{picked}
+use Rattle.ks_law_topology.proofs.Mixed.{picked}
 use Rattle.ks_law_quiescence.proofs.OneKey.{same_key-is, keys_decided}
 use Rattle.ks_law_fk_quiescence.specs.KeyJoins.{asking, asks, answers, asked_by, answered_to, asking_place, answers_place, JoinAt, protocol_of, left_part, named_at}
 use Rattle.ks_law_fk_quiescence.specs.Joins.{IsAsking}
@@ -29,7 +29,7 @@ use Rattle.std.specs.Prelude.{option_map}
 use Rattle.ks_plan.specs.Drafts.{Name}
 use Rattle.ks_def_tasks.specs.Tasks.{to_part}
 use Rattle.ks_def_tasks.specs.Step.To.{Named}
-use Rattle.ks_law_quiescence.proofs.Each.{Each, each_parts}
+use Rattle.ks_law_topology.proofs.Each.{Each, each_parts}
 
 pub same_turned : (a b : Key) → same_bytes a b ≡ same_bytes b a
 same_turned a b = (eq_by_cmp_equiv nat_list_cmp_total).symm a b

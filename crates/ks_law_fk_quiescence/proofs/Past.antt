@@ -3,7 +3,7 @@ use Rattle.std.proofs.Common.{◌≡◌, ℕ, suc, ◌+◌, ◌<◌, ◌≤◌, 
 use Rattle.std.specs.Prelude.{option_map}
 use Rattle.std.proofs.lemmas.Bool.{cases_lt}
 use Rattle.std.proofs.lemmas.Bool.Decides.{Decides-eqb}
-use Rattle.ks_row.specs.declared.record.TaskId.{TaskId}
+use Rattle.ks_record.specs.declared.record.TaskId.{TaskId}
 use Rattle.ks_expr.specs.Eval.{Row, same_bytes}
 use Rattle.ks_plan.specs.declared.node.Topic.TheVariants.{Changelog, HashChangelog, Subscriptions}
 use Rattle.ks_plan.specs.Plan.{Plan, Kind}

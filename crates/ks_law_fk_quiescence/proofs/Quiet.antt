@@ -12,7 +12,7 @@ use Rattle.ks_query.specs.Streams.{StreamItem, filter_item, map_item, rekey_item
 use Rattle.ks_query.specs.Query.{with_number}
 use Rattle.ks_def_tasks.specs.Messages.{Stored, Rules}
 use Rattle.ks_def_tasks.specs.Step.{Arrival, Values, row_in, changed, arrived, item_given, item_keyed, item_at, item_into, items_from, of_row, taken_row, added, applied, responded, direct, value_at, values_from, step_key}
-use Rattle.ks_law_quiescence.proofs.Fits.{NodeFits, EachFits}
+use Rattle.ks_law_topology.proofs.Fits.{NodeFits, EachFits}
 use Rattle.ks_law_fk_quiescence.proofs.Waits.{stays_unchanged}
 
 module _ (a : ℕ) (arr : Arrival) (at : arr.topic ≡ Responses a) where

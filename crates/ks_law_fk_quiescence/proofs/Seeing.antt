@@ -2,7 +2,7 @@
 use Rattle.std.proofs.Common.{◌≡◌, ℕ, List, [], ◌∷◌, ◌++◌, slice_get, Option, Some, fold, suc, ◌+◌, refl, sym, ap, subst, ◌∙◌, arith, ◌<◌, ⊎_elim}
 use Rattle.std.specs.Prelude.{option_map}
 use Rattle.std.proofs.lemmas.List.Sums.{fold-append}
-use Rattle.ks_row.specs.declared.record.TaskId.{TaskId}
+use Rattle.ks_record.specs.declared.record.TaskId.{TaskId}
 use Rattle.ks_expr.specs.declared.terms.JoinKind.{JoinKind}
 use Rattle.ks_expr.specs.Terms.{Set}
 use Rattle.ks_expr.specs.Eval.{Row}
@@ -20,10 +20,10 @@ use Rattle.ks_def_tasks.specs.Tasks.{machine, inputs_of}
 use Rattle.ks_law_quiescence.specs.States.{State, state_of}
 use Rattle.ks_law_quiescence.specs.ForeignJoin.{Event, nothing_yet, run_of}
 use Rattle.ks_law_quiescence.specs.ForeignJoin as join
-use Rattle.ks_law_quiescence.proofs.Fits.{Fits}
-use Rattle.ks_law_quiescence.proofs.Mixed.{Stands_at}
+use Rattle.ks_law_topology.proofs.Fits.{Fits}
+use Rattle.ks_law_topology.proofs.Mixed.{Stands_at}
 use Rattle.ks_law_quiescence.proofs.OneKey.{Sound, Sound-run, keys_decided}
-use Rattle.ks_law_quiescence.proofs.Placed.{placed_run}
+use Rattle.ks_law_topology.proofs.Placed.{placed_run}
 use Rattle.ks_law_fk_quiescence.specs.KeyJoins.{JoinAt, join_at, protocol_of, KeyJoin}
 use Rattle.ks_law_fk_quiescence.proofs.Waits.{Waits, waits_step, waits_initial}
 use Rattle.ks_law_fk_quiescence.proofs.Assembled.{happen}

@@ -2,8 +2,8 @@
 use Rattle.std.proofs.Common.{◌≡◌, ℕ, ◌+◌, ◌<◌, Bool, true, false, cond, not, ◌&&◌, List, length, [], ◌∷◌, ◌++◌, Option, Some, None, fold, refl, sym, ap, ap₂, subst, ◌∙◌, nat_eq, append-nil, ◌⊎◌, inl, inr, ⊎_elim}
 use Rattle.std.specs.Prelude.{option_map}
 use Rattle.std.proofs.lemmas.Bool.Decides.{Decides-eqb}
-use Rattle.ks_row.specs.declared.record.TaskId.{TaskId}
-use Rattle.ks_row.specs.Parts.{same_task}
+use Rattle.ks_record.specs.declared.record.TaskId.{TaskId}
+use Rattle.ks_record.specs.Parts.{same_task}
 use Rattle.ks_expr.specs.declared.terms.JoinKind.{JoinKind}
 use Rattle.ks_expr.specs.Terms.{Set}
 use Rattle.ks_expr.specs.Eval.{Row, same_bytes}
@@ -31,15 +31,15 @@ use Rattle.ks_def_tasks.specs.Tasks.{arrival, machine, step, is_changelog}
 use Rattle.ks_def_tasks.specs.Rest.{home}
 use Rattle.ks_def_tasks.proofs.Names.{names, same_task-is, same_place-is, topic-is, topic_itself}
 use Rattle.ks_law_quiescence.specs.States.{State, row_at, home_task}
-use Rattle.ks_law_quiescence.specs.Taken.{messages}
+use Rattle.ks_law_topology.specs.Taken.{messages}
 use Rattle.ks_law_quiescence.specs.ForeignJoin.{Event, now_had, apply, accept, answer, answer_to}
 use Rattle.ks_law_quiescence.specs.ForeignJoin as join
-use Rattle.ks_law_quiescence.proofs.Each.{Each, each_parts, each_nothing, each_first, Each-map}
-use Rattle.ks_law_quiescence.proofs.Fits.{Fits, each_at, stands_within}
+use Rattle.ks_law_topology.proofs.Each.{Each, each_parts, each_nothing, each_first, Each-map}
+use Rattle.ks_law_topology.proofs.Fits.{Fits, each_at, stands_within}
 use Rattle.ks_law_quiescence.proofs.Follow.{value_is}
-use Rattle.ks_law_quiescence.proofs.Mixed.{Stands_at, picked, step_sends_own, apart_asked, apart_answered}
+use Rattle.ks_law_topology.proofs.Mixed.{Stands_at, picked, step_sends_own, apart_asked, apart_answered}
 use Rattle.ks_law_quiescence.proofs.OneKey.{keys_decided}
-use Rattle.ks_law_quiescence.proofs.Placed.{FitsAt, NamesHome}
+use Rattle.ks_law_topology.proofs.Placed.{FitsAt, NamesHome}
 use Rattle.ks_law_fk_quiescence.specs.KeyJoins.{asks, answers, asked_by, answered_to, right_task, answers_place, asking_place, key_join, JoinAt, join_at, protocol_of, KeyJoin, key_part, named_at}
 use Rattle.ks_law_fk_quiescence.specs.Joins.{IsAsking, IsAnswer}
 use Rattle.ks_law_fk_quiescence.proofs.Waits.{owner, left_home, beside, asking_spread, taken_by_right, asking_part, answering_part, asked_is, answered_is, Waits, IsAsked, IsAnswered, stays_unchanged}
@@ -50,7 +50,7 @@ use Rattle.ks_law_fk_quiescence.proofs.Assembled.{happen, both_events, left_sent
 use Rattle.ks_law_fk_quiescence.proofs.Quiet.{no_items, quiet_values}
 use Rattle.ks_law_fk_quiescence.proofs.Past.{had_before, had_after, row_written}
 use Rattle.ks_wire.specs.declared.values.Subscriber.{Subscriber}
-use Rattle.ks_law_quiescence.proofs.Entries.{each_entry}
+use Rattle.ks_law_topology.proofs.Entries.{each_entry}
 
 and_true : (b : Bool) → (b && true) ≡ b
 and_true true = refl

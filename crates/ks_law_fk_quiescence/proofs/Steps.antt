@@ -2,8 +2,8 @@
 use Rattle.std.proofs.Common.{◌≡◌, ℕ, Bool, true, false, cond, not, ◌&&◌, List, [], ◌∷◌, ◌++◌, Option, Some, None, refl, sym, ap, ap₂, ◌∙◌}
 use Rattle.std.specs.Prelude.{option_map}
 use Rattle.std.specs.Cmp.Lexicographic.{nat_list_cmp_total}
-use Rattle.ks_row.specs.declared.record.TaskId.{TaskId}
-use Rattle.ks_row.specs.Parts.{same_task}
+use Rattle.ks_record.specs.declared.record.TaskId.{TaskId}
+use Rattle.ks_record.specs.Parts.{same_task}
 use Rattle.ks_expr.specs.Eval.{same_bytes}
 use Rattle.std.proofs.lemmas.Bool.{and_parts}
 use Rattle.ks_plan.specs.declared.node.Topic.{Topic}
@@ -20,8 +20,8 @@ use Rattle.ks_def_tasks.specs.Tasks.{arrival, machine, step, is_changelog}
 use Rattle.ks_def_tasks.proofs.Names.{same_task-is, same_place-is, topic_itself}
 use Rattle.ks_def_tasks.proofs.Same.{row-is, option-is}
 use Rattle.ks_law_quiescence.specs.States.{State, row_at}
-use Rattle.ks_law_quiescence.specs.Taken.{messages}
-use Rattle.ks_law_quiescence.proofs.Mixed.{messages-append, picked, made_is}
+use Rattle.ks_law_topology.specs.Taken.{messages}
+use Rattle.ks_law_topology.proofs.Mixed.{messages-append, picked, made_is}
 use Rattle.ks_law_quiescence.proofs.OneKey.{keys_decided}
 
 of_not : (b : Bool) → not b ≡ false → b ≡ true

@@ -8,7 +8,7 @@ use Rattle.ks_plan.specs.Plan.{Kind, Known, is_stream, is_windowed, known_of, le
 use Rattle.ks_plan.specs.Plan.Kind.{StreamFilter, TableFilter, StreamMap, TableMap, TableAggregate, KeyJoin, ForeignKeyJoin}
 use Rattle.ks_plan.specs.Layout.{no_kind}
 use Rattle.ks_plan.specs.Faults.{Line, first_fitting, first_of, inputs_in, node_table, nodes_fault, sink_lines, kind_lines, size_lines, print_fault, parts_fault, wrong_kind, wiring_in}
-use Rattle.ks_law_quiescence.specs.WellFormed.{IsWellFormed}
+use Rattle.ks_law_topology.specs.WellFormed.{IsWellFormed}
 use Rattle.ks_law_fk_quiescence.specs.AtRest.{is_table}
 
 abbrev pub is_table_at : List Kind → ℕ → Bool

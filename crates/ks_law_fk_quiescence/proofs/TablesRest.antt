@@ -1,7 +1,7 @@
 -- All tables that aren't windowed counts rest at the query, node by node.
 use Rattle.std.proofs.Common.{◌≡◌, ℕ, zero, suc, ◌+◌, ◌<◌, ◌≤◌, true, List, length, [], ◌∷◌, ◌++◌, get_or, Option, refl, sym, ap, subst, ◌∙◌, arith, append-nil, append_assoc, ⊎_elim}
 use Rattle.std.proofs.lemmas.Bool.{cases_lt}
-use Rattle.ks_row.specs.declared.record.TaskId.{TaskId}
+use Rattle.ks_record.specs.declared.record.TaskId.{TaskId}
 use Rattle.ks_plan.specs.Plan.{Plan, Kind}
 use Rattle.ks_plan.specs.Plan.Kind.{StreamSource, TableSource, StreamFilter, TableFilter, StreamMap, TableMap, KeySelected, StreamAggregate, TableAggregate, Windowed, KeyJoin, ForeignKeyJoin}
 use Rattle.ks_plan.specs.Layout.{no_kind}
@@ -11,10 +11,10 @@ use Rattle.ks_def_tasks.specs.Rest.{IsAtRest}
 use Rattle.ks_law_quiescence.specs.AtRest.{IsQuery}
 use Rattle.ks_law_quiescence.specs.States.{state_of}
 use Rattle.ks_law_quiescence.proofs.AtRest.{everywhere, source_is_query, filter_is_query, map_is_query, join_is_query}
-use Rattle.ks_law_quiescence.proofs.Fits.{Fits, NodeFits, each_at, stands_after, stands_within}
+use Rattle.ks_law_topology.proofs.Fits.{Fits, NodeFits, each_at, stands_after, stands_within}
 use Rattle.ks_law_quiescence.proofs.StreamsRest.{stream_rests}
 use Rattle.ks_law_quiescence.proofs.GroupsRest.{group_rests}
-use Rattle.ks_law_quiescence.proofs.Mixed.{Stands_at}
+use Rattle.ks_law_topology.proofs.Mixed.{Stands_at}
 use Rattle.ks_law_fk_quiescence.specs.AtRest.{is_table}
 use Rattle.ks_law_fk_quiescence.proofs.TableInputs.{is_table_at, TableInputs, EachInputs}
 use Rattle.ks_law_fk_quiescence.proofs.JoinsRest.{join_rests}

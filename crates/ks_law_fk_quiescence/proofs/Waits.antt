@@ -7,8 +7,8 @@ use Rattle.std.specs.Cmp.Lexicographic.{nat_list_cmp_total}
 use Rattle.std.proofs.lemmas.Bool.{and_from}
 use Rattle.ks_row.specs.declared.row.Field.{Field}
 use Rattle.ks_row.specs.declared.row.Field.TheVariants.{Int, Text}
-use Rattle.ks_row.specs.declared.record.TaskId.{TaskId}
-use Rattle.ks_row.specs.Parts.{same_task}
+use Rattle.ks_record.specs.declared.record.TaskId.{TaskId}
+use Rattle.ks_record.specs.Parts.{same_task}
 use Rattle.ks_expr.specs.declared.terms.JoinKind.{JoinKind}
 use Rattle.ks_expr.specs.Terms.{Set}
 use Rattle.ks_expr.specs.Eval.{Row, same_field, same_bytes}
@@ -29,12 +29,12 @@ use Rattle.ks_def_tasks.specs.Foreign.{subscriptions, subscribe, key_of_row, ans
 use Rattle.ks_def_tasks.specs.Step.{Arrival, Sent, Values, row_in, changed, arrived, step_key, join_sends, send_subscriptions, send_responses, answer_of, answer_one, whole_step, items_from, olds_at, news_at, values_from}
 use Rattle.ks_def_tasks.specs.Tasks.{arrival, machine, step, is_changelog, inputs_of, to_part}
 use Rattle.ks_def_tasks.proofs.Names.{names, same_task-is, topic-is}
-use Rattle.ks_law_quiescence.specs.Taken.{messages}
+use Rattle.ks_law_topology.specs.Taken.{messages}
 use Rattle.ks_law_quiescence.specs.States.{home_task}
-use Rattle.ks_law_quiescence.proofs.Each.{Each, each_nothing, each_first, each_parts, Each-append, Each-cond}
-use Rattle.ks_law_quiescence.proofs.Fits.{Fits, Beside, each_at}
-use Rattle.ks_law_quiescence.proofs.Mixed.{messages-append, Stands_at, picked, picked-append, made_is, step_sends_own, apart_asked, apart_answered}
-use Rattle.ks_law_quiescence.proofs.Placed.{FitsAt, Owned, Placed, values_owned, items_owned, fits_key, placed_step, placed_run}
+use Rattle.ks_law_topology.proofs.Each.{Each, each_nothing, each_first, each_parts, Each-append, Each-cond}
+use Rattle.ks_law_topology.proofs.Fits.{Fits, Beside, each_at}
+use Rattle.ks_law_topology.proofs.Mixed.{messages-append, Stands_at, picked, picked-append, made_is, step_sends_own, apart_asked, apart_answered}
+use Rattle.ks_law_topology.proofs.Placed.{FitsAt, Owned, Placed, values_owned, items_owned, fits_key, placed_step, placed_run}
 use Rattle.ks_law_fk_quiescence.specs.Joins.{IsAsking, IsAnswer}
 use Rattle.ks_law_fk_quiescence.specs.KeyJoins.{JoinAt, join_at, right_task}
 use Rattle.ks_expr.specs.Keys.{fk_of}

@@ -3,8 +3,8 @@ use Rattle.std.proofs.Common.{◌≡◌, ℕ, zero, suc, ◌+◌, ◌-◌, ◌�
 use Rattle.std.specs.Prelude.{pos, negsuc, nat_lt, option_map}
 use Rattle.std.specs.Int.{w64, cast_signed}
 use Rattle.std.proofs.lemmas.Bool.{ltb-false}
-use Rattle.ks_row.specs.declared.record.TaskId.{TaskId}
-use Rattle.ks_row.specs.Parts.{same_task}
+use Rattle.ks_record.specs.declared.record.TaskId.{TaskId}
+use Rattle.ks_record.specs.Parts.{same_task}
 use Rattle.ks_def_tasks.proofs.Names.{same_task-is}
 use Rattle.ks_plan.specs.Plan.{Plan, Window}
 use Rattle.ks_plan.specs.Plan.Kind.{Windowed}
@@ -21,8 +21,8 @@ use Rattle.ks_law_quiescence.specs.States.{State, state_of, home_task}
 use Rattle.ks_law_quiescence.specs.Streams.{takers, all_waiting}
 use Rattle.ks_law_quiescence.specs.Windows.{late_pairs, pairs_among, count_of}
 use Rattle.ks_law_quiescence.proofs.Counted.{counted}
-use Rattle.ks_law_quiescence.proofs.Fits.{Fits, each_at}
-use Rattle.ks_law_quiescence.proofs.Mixed.{Stands_at}
+use Rattle.ks_law_topology.proofs.Fits.{Fits, each_at}
+use Rattle.ks_law_topology.proofs.Mixed.{Stands_at}
 use Rattle.ks_law_quiescence.proofs.WindowGroups.{item_windows}
 use Rattle.ks_law_quiescence.proofs.WindowsOnce.{pairs_bound}
 use Rattle.ks_law_quiescence.proofs.WindowsRest.{passed_sum, nothing_waits, query_is}

@@ -1,7 +1,7 @@
 -- At rest: joins on a foreign key (KIP-213), and all tables of a topology.
 use Rattle.std.specs.Prelude.{◌≡◌, ℕ, Bool, true, not, ◌&&◌, List, Option, Some, None, cond, option_map, option_and_then}
-use Rattle.ks_row.specs.declared.record.TaskId.{TaskId}
-use Rattle.ks_row.specs.Parts.{same_task}
+use Rattle.ks_record.specs.declared.record.TaskId.{TaskId}
+use Rattle.ks_record.specs.Parts.{same_task}
 use Rattle.ks_expr.specs.declared.terms.JoinKind.{JoinKind}
 use Rattle.ks_expr.specs.declared.terms.Fk.{Fk}
 use Rattle.ks_expr.specs.Keys.{fk_of}
@@ -18,7 +18,7 @@ use Rattle.ks_def_tasks.specs.Collision.{IsNode, NoCollision}
 use Rattle.ks_def_tasks.specs.Rest.{IsDrained, IsAtRest, named}
 use Rattle.ks_law_quiescence.specs.AtRest.{IsQuery}
 use Rattle.ks_law_quiescence.specs.States.{state_of, row_at, home_task}
-use Rattle.ks_law_quiescence.specs.WellFormed.{IsWellFormed}
+use Rattle.ks_law_topology.specs.WellFormed.{IsWellFormed}
 
 -- the hash of a left row, where the foreign key of k and it is b
 abbrev pub hash_for : Rules → Fk → Key → Key → Row → Option ℕ

@@ -1,7 +1,7 @@
 -- Joins on a foreign key in every state of every uncrashed run, for each left key and each foreign key (KIP-213).
 use Rattle.std.specs.Prelude.{◌≡◌, ◌≢◌, ℕ, List, [], ◌∷◌, Option, Some, None, fold, cond, nat_eq, option_and_then, ◌⊎◌}
 use Rattle.std.specs.Option.{option_or}
-use Rattle.ks_row.specs.declared.record.TaskId.{TaskId}
+use Rattle.ks_record.specs.declared.record.TaskId.{TaskId}
 use Rattle.ks_expr.specs.declared.terms.JoinKind.{JoinKind}
 use Rattle.ks_expr.specs.declared.terms.Fk.{Fk}
 use Rattle.ks_expr.specs.Keys.{fk_of}
@@ -22,8 +22,8 @@ use Rattle.ks_def_tasks.specs.Rest.{home}
 use Rattle.ks_law_quiescence.specs.ForeignJoin.{Subscription, Response, apply, accept, same_key}
 use Rattle.ks_law_quiescence.specs.ForeignJoin.Subscription.{Forget, ForgetAndAnswer, Ask}
 use Rattle.ks_law_quiescence.specs.States.{State, state_of}
-use Rattle.ks_law_quiescence.specs.Taken.{messages}
-use Rattle.ks_law_quiescence.specs.WellFormed.{IsWellFormed}
+use Rattle.ks_law_topology.specs.Taken.{messages}
+use Rattle.ks_law_topology.specs.WellFormed.{IsWellFormed}
 use Rattle.ks_law_fk_quiescence.specs.KeyJoins.{JoinAt, join_at, named_at, protocol_of, KeyJoin, key_join, left_task, left_part, right_task, key_part}
 use Rattle.ks_law_fk_quiescence.specs.AtRest.{hash_for}
 

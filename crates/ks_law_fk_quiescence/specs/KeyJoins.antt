@@ -1,6 +1,6 @@
 -- A join on a foreign key where it stands in a plan, and a state of a run as one left key of it sees it (KIP-213).
 use Rattle.std.specs.Prelude.{ℕ, List, [], ◌∷◌, Option, Some, None, option_map, cond, ◌&&◌}
-use Rattle.ks_row.specs.declared.record.TaskId.{TaskId}
+use Rattle.ks_record.specs.declared.record.TaskId.{TaskId}
 use Rattle.ks_expr.specs.declared.terms.JoinKind.{JoinKind}
 use Rattle.ks_expr.specs.declared.terms.Fk.{Fk}
 use Rattle.ks_expr.specs.Keys.{fk_of}
@@ -18,7 +18,7 @@ use Rattle.ks_def_tasks.specs.Messages.Instruction.{Delete, DeleteAndAnswer, Ans
 use Rattle.ks_def_tasks.specs.Messages.Message.{Asked, Answered}
 use Rattle.ks_def_tasks.specs.Rest.{home, named}
 use Rattle.ks_law_quiescence.specs.States.{State, row_at, home_task}
-use Rattle.ks_law_quiescence.specs.Taken.{messages}
+use Rattle.ks_law_topology.specs.Taken.{messages}
 use Rattle.ks_law_quiescence.specs.ForeignJoin.{Protocol, Subscription, Response, Join}
 use Rattle.ks_law_quiescence.specs.ForeignJoin.Subscription.{Forget, ForgetAndAnswer, Ask}
 

@@ -1,8 +1,8 @@
 -- Windowed counts at rest, in whole numbers.
 -- Kafka Streams developer guide, "Windowing": a record is dropped from a window whose grace period is over in stream time.
 use Rattle.std.specs.Prelude.{◌≡◌, ℕ, zero, suc, ◌+◌, ◌≤◌, ◌<◌, ◌^◌, pos, Bool, true, List, length, Option, Some, None, cond, option_map}
-use Rattle.ks_row.specs.declared.record.TaskId.{TaskId}
-use Rattle.ks_row.specs.Parts.{same_task}
+use Rattle.ks_record.specs.declared.record.TaskId.{TaskId}
+use Rattle.ks_record.specs.Parts.{same_task}
 use Rattle.ks_row.specs.Rows.{field_of}
 use Rattle.ks_wire.specs.declared.values.Agg.{Agg}
 use Rattle.ks_plan.specs.Drafts.{DraftView, Name}
@@ -17,7 +17,7 @@ use Rattle.ks_query.specs.Query.{query}
 use Rattle.ks_def_tasks.specs.Messages.{Place, Rules}
 use Rattle.ks_def_tasks.specs.Collision.{IsNode}
 use Rattle.ks_def_tasks.specs.Rest.{IsDrained}
-use Rattle.ks_law_quiescence.specs.WellFormed.{IsWellFormed}
+use Rattle.ks_law_topology.specs.WellFormed.{IsWellFormed}
 use Rattle.ks_law_quiescence.specs.States.{state_of, home_task}
 use Rattle.ks_law_quiescence.specs.Windows.{late_pairs}
 

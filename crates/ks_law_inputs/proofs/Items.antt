@@ -15,12 +15,12 @@ use Rattle.std.proofs.lemmas.Str.{IsUtf8-nil, IsUtf8-from_is_utf8}
 use Rattle.serde_json.specs.Data.{Num, unsigned, negative, float, Data, null, boolean, number, string, array, object, Members, no_members, member}
 use Rattle.serde_json.specs.Find.{get, get_member, as_i64, as_object}
 use Rattle.serde_json.specs.Read.{read}
-use Rattle.ks_row.specs.Texts.{IsKey, IsName, IsText, key_of, name_of, text_of as text_within}
+use Rattle.ks_record.specs.Texts.{IsKey, IsName, IsText, key_of, name_of, text_of as text_within}
 use Rattle.ks_row.specs.Rows.{Member, is_row, row_of}
 use Rattle.ks_row.specs.Spelling.{spelling, FitsField, FitsMember, FitsRow}
 use Rattle.ks_row.specs.declared.row.Field.{Field}
 use Rattle.ks_row.specs.declared.row.Field.TheVariants.{Int, Text}
-use Rattle.ks_row.specs.Records.{Record as Rec}
+use Rattle.ks_record.specs.Records.{Record as Rec}
 use Rattle.ks_plan.specs.declared.draft.TopicDraft.{TopicDraft}
 use Rattle.ks_plan.specs.Drafts.{Topics, DraftView}
 use Rattle.ks_plan.specs.Plan.{natural}

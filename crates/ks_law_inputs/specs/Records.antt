@@ -1,10 +1,10 @@
 -- The records of a job: what their keys and values are, and the same as inputs of its query.
 use Rattle.std.specs.Prelude.{◌≡◌, ℕ, ◌<◌, ◌≤◌, ◌^◌, List, [], ◌∷◌, length, Option, Some, None, IfSome}
-use Rattle.ks_row.specs.Texts.{IsKey}
+use Rattle.ks_record.specs.Texts.{IsKey}
 use Rattle.ks_row.specs.Rows.{Member}
 use Rattle.ks_row.specs.Spelling.{spelling, FitsRow}
 use Rattle.ks_row.specs.Reading.{row_from}
-use Rattle.ks_row.specs.Records.{Record as Rec}
+use Rattle.ks_record.specs.Records.{Record as Rec}
 use Rattle.ks_plan.specs.Drafts.{Topics}
 use Rattle.ks_plan.specs.Plan.{natural}
 use Rattle.ks_query.specs.Streams.{Input, some_of}

@@ -4,11 +4,11 @@ use Rattle.std.specs.Prelude.{◌&&◌, ◌==◌, ◌≤◌, nat_le, nat_lt, opt
 use Rattle.std.specs.List.{filter}
 use Rattle.std.specs.Cmp.Lexicographic.{nat_list_cmp_total}
 use Rattle.std.proofs.lemmas.Bool.{and_parts, and_from, eqb-true, ltb-true, leb-true, le-leb}
-use Rattle.ks_row.specs.Records.{Record as Rec}
-use Rattle.ks_row.specs.declared.record.PartId.{PartId}
-use Rattle.ks_row.specs.declared.record.TaskId.{TaskId}
-use Rattle.ks_row.specs.Parts.{same_part}
-use Rattle.ks_row.specs.Texts.{key_from}
+use Rattle.ks_record.specs.Records.{Record as Rec}
+use Rattle.ks_record.specs.declared.record.PartId.{PartId}
+use Rattle.ks_record.specs.declared.record.TaskId.{TaskId}
+use Rattle.ks_record.specs.Parts.{same_part}
+use Rattle.ks_record.specs.Texts.{key_from}
 use Rattle.ks_row.specs.Reading.{row_from}
 use Rattle.ks_plan.specs.declared.node.Topic.{Topic}
 use Rattle.ks_plan.specs.declared.node.Topic.TheVariants.{Input as InputTopic}

@@ -7,9 +7,10 @@ use Rattle.std.specs.Str.{IsUtf8}
 use Rattle.std.proofs.Math.Utf8.{encode, encodes, scalar, scalars, scalar_cases}
 use Rattle.std.proofs.lemmas.Bool.{and_parts, and_from, lt-ltb, ltb-true, leb-true, true≢false}
 use Rattle.std.proofs.lemmas.List.Concat.{flat_map-cons}
-use Rattle.ks_row.specs.Texts.{IsKey, key_from}
+use Rattle.ks_record.specs.Texts.{IsKey, key_from}
 use Rattle.ks_row.specs.Rows.{Member, is_row, rises, names_of}
-use Rattle.ks_row.specs.Spelling.{IsBytes, int_bytes, field_bytes, member_bytes, spelling, FitsField, FitsMember, FitsRow}
+use Rattle.ks_record.specs.Bytes.{IsBytes}
+use Rattle.ks_row.specs.Spelling.{int_bytes, field_bytes, member_bytes, spelling, FitsField, FitsMember, FitsRow}
 use Rattle.ks_row.specs.Reading.{row_from}
 use Rattle.ks_row.specs.declared.row.Field.{Field}
 use Rattle.ks_row.specs.declared.row.Field.TheVariants.{Int, Text}

@@ -7,8 +7,9 @@ use Rattle.std.specs.Str.{is_utf8, chars}
 use Rattle.std.proofs.Math.Utf8.{encode}
 use Rattle.std.proofs.lemmas.Str.{IsUtf8-from_is_utf8}
 use Rattle.std.proofs.lemmas.Bool.{and_parts, or_cases, true≢false}
-use Rattle.ks_row.specs.Texts.{IsKey, IsName, key_from}
-use Rattle.ks_row.specs.Spelling.{IsBytes, FitsRow}
+use Rattle.ks_record.specs.Texts.{IsKey, IsName, key_from}
+use Rattle.ks_record.specs.Bytes.{IsBytes}
+use Rattle.ks_row.specs.Spelling.{FitsRow}
 use Rattle.ks_row.specs.Reading.{◌>>=◌, row_from}
 use Rattle.ks_row.proofs.Fields.{some_is}
 use Rattle.ks_row.proofs.Spelled.{row_codec}

@@ -4,7 +4,7 @@ use Rattle.std.specs.Prelude.{◌||◌, is_none, option_map, option_and_then, If
 use Rattle.std.specs.List.{AllByRecursion}
 use Rattle.std.proofs.lemmas.Bool.{true≢false}
 use Rattle.std.proofs.lemmas.Bool.Decides.{Decides-eqb}
-use Rattle.ks_row.specs.Texts.{IsKey}
+use Rattle.ks_record.specs.Texts.{IsKey}
 use Rattle.ks_row.specs.Spelling.{FitsRow}
 use Rattle.ks_row.specs.FieldKeys.{field_key}
 use Rattle.ks_wire.specs.Spelling.{FitsAgg}

@@ -1,11 +1,11 @@
 -- In every journal of a topology each decided record has a key and a value of its kind.
 use Rattle.std.specs.Prelude.{ℕ, Bool, true, false, ◌&&◌, List, [], ◌∷◌, Option, Some, None}
 use Rattle.std.specs.List.{AllByRecursion}
-use Rattle.ks_row.specs.declared.record.PartId.{PartId}
-use Rattle.ks_row.specs.declared.record.TaskId.{TaskId}
+use Rattle.ks_record.specs.declared.record.PartId.{PartId}
+use Rattle.ks_record.specs.declared.record.TaskId.{TaskId}
 use Rattle.ks_def_runs.specs.FinMap as fin
 use Rattle.ks_def_runs.specs.Bytes.{Store}
-use Rattle.ks_row.specs.Texts.{IsName}
+use Rattle.ks_record.specs.Texts.{IsName}
 use Rattle.ks_expr.specs.declared.terms.Fk.{Fk}
 use Rattle.ks_expr.specs.declared.terms.Fk.TheVariants.{Before}
 use Rattle.ks_plan.specs.Drafts.{OpView, MapOf, JoinOf, FkJoinOf, NodeView, DraftView}

@@ -2,9 +2,9 @@
 -- Kafka Streams developer guide, "Manage Kafka Streams application topics": repartition and changelog topics; KIP-213 for
 -- subscriptions and responses.
 use Rattle.std.specs.Prelude.{◌≡◌, ℕ, ◌^◌, Bool, true, false, ◌&&◌, ◌||◌, cond, nat_lt, nat_le, is_some, List, [], ◌∷◌, Option, Some, None}
-use Rattle.ks_row.specs.Records.{Record as Rec}
-use Rattle.ks_row.specs.declared.record.PartId.{PartId}
-use Rattle.ks_row.specs.Texts.{key_from}
+use Rattle.ks_record.specs.Records.{Record as Rec}
+use Rattle.ks_record.specs.declared.record.PartId.{PartId}
+use Rattle.ks_record.specs.Texts.{key_from}
 use Rattle.ks_row.specs.Reading.{row_from}
 use Rattle.ks_wire.specs.Reading.{subscription_from, response_from, delta_from, agg_from, subscriber_from, time_from, subscription_key_from, window_key_from}
 use Rattle.ks_wire.specs.Spelling.{time_key}

@@ -3,7 +3,7 @@ use Rattle.std.proofs.Common.{◌≡◌, ℕ, suc, ◌+◌, ◌^◌, ◌<◌, �
 use Rattle.std.proofs.lemmas.Fmt.{length-decimal-le}
 use Rattle.serde_json.specs.Data.{unsigned, Data, null, number, string, no_members, member}
 use Rattle.ks_row.specs.Rows.{Member, row_of}
-use Rattle.ks_row.specs.Texts.{name_of}
+use Rattle.ks_record.specs.Texts.{name_of}
 use Rattle.ks_row.specs.Spelling.{spelling}
 use Rattle.ks_row.specs.declared.row.Field.{Field}
 use Rattle.ks_row.specs.declared.row.Field.TheVariants.{Int, Text}

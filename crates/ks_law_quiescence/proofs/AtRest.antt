@@ -5,8 +5,8 @@ use Rattle.std.specs.Ordering.{eq_by_cmp, is_lt}
 use Rattle.std.specs.Cmp.Lexicographic.{nat_list_cmp_total}
 use Rattle.std.specs.FinMap.{slice_cmp-IsAntisymmetric, nat_cmp-IsAntisymmetric}
 use Rattle.std.specs.FinMap.Entries.{find, below_all, is_sorted, where_key}
-use Rattle.ks_row.specs.declared.record.TaskId.{TaskId}
-use Rattle.ks_row.specs.Parts.{same_task}
+use Rattle.ks_record.specs.declared.record.TaskId.{TaskId}
+use Rattle.ks_record.specs.Parts.{same_task}
 use Rattle.ks_expr.specs.declared.terms.JoinKind.{JoinKind}
 use Rattle.ks_expr.specs.Terms.{Set, Test}
 use Rattle.ks_expr.specs.Eval.{Row, holds, project, joined}
@@ -27,10 +27,10 @@ use Rattle.ks_def_tasks.proofs.Names.{names, same_task-is}
 use Rattle.ks_law_quiescence.specs.AtRest.{IsQuery}
 use Rattle.ks_law_quiescence.specs.States.{State, state_of, row_at, home_task}
 use Rattle.ks_law_quiescence.proofs.Derived.{filter_follows, map_follows, join_follows, shown_row}
-use Rattle.ks_law_quiescence.proofs.Fits.{Fits, Beside, Sourced}
+use Rattle.ks_law_topology.proofs.Fits.{Fits, Beside, Sourced}
 use Rattle.ks_law_quiescence.proofs.Inputs.{source_rests}
-use Rattle.ks_law_quiescence.proofs.Mixed.{Stands_at}
-use Rattle.ks_law_quiescence.proofs.Placed.{placed_run}
+use Rattle.ks_law_topology.proofs.Mixed.{Stands_at}
+use Rattle.ks_law_topology.proofs.Placed.{placed_run}
 use Rattle.ks_query.proofs.Pointwise.{get-map_values, get-key_join}
 use Rattle.ks_law_quiescence.proofs.Queries.{query_at, given_here}
 

@@ -4,7 +4,7 @@ use Rattle.std.specs.Prelude.{option_map, option_and_then}
 use Rattle.ks_expr.specs.declared.terms.JoinKind.{JoinKind}
 use Rattle.ks_expr.specs.Terms.{Set, Test}
 use Rattle.ks_expr.specs.Eval.{Row, holds, project, joined}
-use Rattle.ks_row.specs.declared.record.TaskId.{TaskId}
+use Rattle.ks_record.specs.declared.record.TaskId.{TaskId}
 use Rattle.ks_plan.specs.Plan.{Plan, Kind}
 use Rattle.ks_plan.specs.Plan.Kind.{TableFilter, TableMap, KeyJoin}
 use Rattle.ks_query.specs.Streams.{Key}
@@ -12,10 +12,10 @@ use Rattle.ks_def_runs.specs.Run.{run}
 use Rattle.ks_def_tasks.specs.Messages.{Place, shown, Item, Rules}
 use Rattle.ks_def_tasks.specs.Step.{Values, row_in, of_row}
 use Rattle.ks_def_tasks.specs.Tasks.{machine}
-use Rattle.ks_law_quiescence.proofs.Fits.{Fits, EachFits}
+use Rattle.ks_law_topology.proofs.Fits.{Fits, EachFits}
 use Rattle.ks_law_quiescence.proofs.Following.{FollowsIn, EachFollows, values_of, InOrder}
 use Rattle.ks_law_quiescence.proofs.Follow.{derived_follow}
-use Rattle.ks_law_quiescence.proofs.Mixed.{Stands_at}
+use Rattle.ks_law_topology.proofs.Mixed.{Stands_at}
 
 in_order : (p : Plan) (n : ℕ) (ks : List Kind) → EachFits p n ks → InOrder n ks
 in_order p n [] h = tt

@@ -20,15 +20,15 @@ use Rattle.ks_query.specs.Query.{with_number}
 use Rattle.ks_def_runs.specs.Bytes.{by_bytes}
 use Rattle.ks_query.specs.Streams.{StreamItem}
 use Rattle.ks_def_runs.specs.Run.{RunState, take_first, initial, run}
-use Rattle.ks_row.specs.declared.record.TaskId.{TaskId}
-use Rattle.ks_row.specs.Parts.{same_task}
+use Rattle.ks_record.specs.declared.record.TaskId.{TaskId}
+use Rattle.ks_record.specs.Parts.{same_task}
 use Rattle.ks_def_tasks.specs.Messages.{Place, Stored, Item, Store, Rules, same_row, same_option}
 use Rattle.ks_def_tasks.specs.Step.{Arrival, Values, row_in, changed, kept_row, of_row, value_at, values_from, whole_step, step_key, items_from, tables_after, news_at, olds_at, applied, added, arrived, item_into, responded, direct}
 use Rattle.ks_def_tasks.specs.Tasks.{arrival, machine, step}
 use Rattle.ks_law_quiescence.proofs.Following.{EachFollows, values_of, InOrder}
 use Rattle.ks_def_runs.proofs.Tables.{equal, get-write}
 use Rattle.ks_def_runs.proofs.Runs.{kept_by_run}
-use Rattle.ks_law_quiescence.proofs.Mixed.{Stands_at}
+use Rattle.ks_law_topology.proofs.Mixed.{Stands_at}
 use Rattle.ks_plan.specs.declared.node.Topic.TheVariants.{Repartition, Responses}
 
 bytes-is : (a b : List ℕ) → same_bytes a b ≡ true → a ≡ b

@@ -4,8 +4,8 @@ use Rattle.std.specs.Prelude.{pos, option_map, option_and_then, is_none}
 use Rattle.std.specs.Cmp.Lexicographic.{nat_list_cmp_total}
 use Rattle.std.specs.FinMap.{slice_cmp-IsAntisymmetric, nat_cmp-IsAntisymmetric, int_cmp-IsAntisymmetric}
 use Rattle.std.specs.FinMap.Entries.{where_key, is_sorted-where_key, find-where_key, same_entries}
-use Rattle.ks_row.specs.declared.record.TaskId.{TaskId}
-use Rattle.ks_row.specs.Parts.{same_task}
+use Rattle.ks_record.specs.declared.record.TaskId.{TaskId}
+use Rattle.ks_record.specs.Parts.{same_task}
 use Rattle.ks_expr.specs.Eval.{Row}
 use Rattle.ks_wire.specs.declared.values.Agg.{Agg}
 use Rattle.ks_plan.specs.Plan.{Plan}
@@ -26,13 +26,13 @@ use Rattle.ks_def_tasks.proofs.Names.{names}
 use Rattle.ks_law_quiescence.specs.AtRest.{IsQuery}
 use Rattle.ks_law_quiescence.specs.Groups.{sum_of_deltas, rows_of}
 use Rattle.ks_law_quiescence.specs.States.{State, state_of, row_at, home_task}
-use Rattle.ks_law_quiescence.specs.Taken.{messages, taken_at}
+use Rattle.ks_law_topology.specs.Taken.{messages, taken_at}
 use Rattle.ks_law_quiescence.proofs.AtRest.{follows, shown_sorted, shown_found, where_sum, swap_sums}
 use Rattle.ks_law_quiescence.proofs.Bits.{of_bits, of_sums, bits_of, bits_back}
 use Rattle.ks_law_quiescence.proofs.Counted.{counted, group_counted, no_rows_no_amount, row_member, row_amount, sum_of_deltas-is}
-use Rattle.ks_law_quiescence.proofs.Each.{Each, each_nothing, each_first, each_parts}
-use Rattle.ks_law_quiescence.proofs.Fits.{Fits}
-use Rattle.ks_law_quiescence.proofs.Mixed.{Stands_at}
+use Rattle.ks_law_topology.proofs.Each.{Each, each_nothing, each_first, each_parts}
+use Rattle.ks_law_topology.proofs.Fits.{Fits}
+use Rattle.ks_law_topology.proofs.Mixed.{Stands_at}
 use Rattle.ks_query.proofs.Pointwise.{get-map_values}
 use Rattle.ks_law_quiescence.proofs.Queries.{query_at, given_here}
 use Rattle.ks_law_quiescence.proofs.Received.{group_place, grouped_run, no_inputs, nothing_begins, messages_sum, taken_sum, stored_sum}

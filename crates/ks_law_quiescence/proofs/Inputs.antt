@@ -7,8 +7,8 @@ use Rattle.std.proofs.lemmas.Bool.Decides.{Decides-eqb}
 use Rattle.std.specs.Ordering.{eq_by_cmp}
 use Rattle.std.specs.FinMap.{slice_cmp-IsAntisymmetric, nat_cmp-IsAntisymmetric}
 use Rattle.std.specs.Cmp.Lexicographic.{nat_list_cmp_total}
-use Rattle.ks_row.specs.declared.record.TaskId.{TaskId}
-use Rattle.ks_row.specs.Parts.{same_task}
+use Rattle.ks_record.specs.declared.record.TaskId.{TaskId}
+use Rattle.ks_record.specs.Parts.{same_task}
 use Rattle.ks_expr.specs.Eval.{Row}
 use Rattle.ks_plan.specs.declared.node.Topic.TheVariants.{Input as InputTopic}
 use Rattle.ks_plan.specs.Plan.{Plan, Kind}
@@ -29,10 +29,10 @@ use Rattle.ks_def_tasks.specs.Step.{Arrival, Sent, of_row, over_nodes, sends_at,
 use Rattle.ks_def_tasks.specs.Tasks.{arrival, machine, step, stands_at, inputs_of, item_of_input, part_of_key}
 use Rattle.ks_def_tasks.specs.Rest.{IsDrained}
 use Rattle.ks_def_tasks.proofs.Names.{names}
-use Rattle.ks_law_quiescence.specs.Taken.{messages, taken_at, change_of, changes_in}
-use Rattle.ks_law_quiescence.proofs.Fits.{Sourced}
-use Rattle.ks_law_quiescence.proofs.Mixed.{messages-append, picked, picked-append, picked_none, avoids_sends, made_is, Stands_at}
-use Rattle.ks_law_quiescence.proofs.Placed.{home_task}
+use Rattle.ks_law_topology.specs.Taken.{messages, taken_at, change_of, changes_in}
+use Rattle.ks_law_topology.proofs.Fits.{Sourced}
+use Rattle.ks_law_topology.proofs.Mixed.{messages-append, picked, picked-append, picked_none, avoids_sends, made_is, Stands_at}
+use Rattle.ks_law_topology.proofs.Placed.{home_task}
 use Rattle.ks_law_quiescence.proofs.Sources.{latest_run}
 use Rattle.ks_law_quiescence.proofs.Queries.{query_at, given_here}
 

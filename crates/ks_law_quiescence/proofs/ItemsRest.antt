@@ -4,7 +4,7 @@ use Rattle.std.specs.Prelude.{option_map, option_and_then}
 use Rattle.std.specs.List.{filter}
 use Rattle.std.proofs.lemmas.Bool.Decides.{Decides-eqb}
 use Rattle.std.proofs.lemmas.Bool.{eqb-false, cases_lt}
-use Rattle.ks_row.specs.declared.record.TaskId.{TaskId}
+use Rattle.ks_record.specs.declared.record.TaskId.{TaskId}
 use Rattle.ks_plan.specs.declared.node.Topic.{Topic}
 use Rattle.ks_plan.specs.declared.node.Topic.TheVariants.{Input as InputTopic}
 use Rattle.ks_plan.specs.Plan.{Plan, Kind}
@@ -23,10 +23,10 @@ use Rattle.ks_def_tasks.specs.Rest.{IsDrained}
 use Rattle.ks_def_tasks.proofs.Names.{names}
 use Rattle.ks_law_quiescence.specs.States.{State, state_of}
 use Rattle.ks_law_quiescence.specs.Streams.{item_of_step}
-use Rattle.ks_law_quiescence.proofs.Fits.{Fits, NodeFits, each_at, stands_after}
+use Rattle.ks_law_topology.proofs.Fits.{Fits, NodeFits, each_at, stands_after}
 use Rattle.ks_law_quiescence.proofs.Inputs.{inputs_alone}
-use Rattle.ks_law_quiescence.proofs.Mixed.{Stands_at}
-use Rattle.ks_law_quiescence.proofs.Placed.{topic-is}
+use Rattle.ks_law_topology.proofs.Mixed.{Stands_at}
+use Rattle.ks_law_topology.proofs.Placed.{topic-is}
 use Rattle.ks_law_quiescence.proofs.Queries.{query_at, given_here}
 
 -- ---- a node's item is made of those of the nodes before it

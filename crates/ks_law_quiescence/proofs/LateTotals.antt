@@ -4,8 +4,8 @@ use Rattle.std.specs.Prelude.{option_map, is_some}
 use Rattle.std.specs.Ordering.{eq_by_cmp, is_eq}
 use Rattle.std.specs.Cmp.{tied_itself}
 use Rattle.std.specs.FinMap.Entries.{find, is_sorted}
-use Rattle.ks_row.specs.declared.record.TaskId.{TaskId}
-use Rattle.ks_row.specs.Parts.{same_task}
+use Rattle.ks_record.specs.declared.record.TaskId.{TaskId}
+use Rattle.ks_record.specs.Parts.{same_task}
 use Rattle.ks_expr.specs.Eval.{Row}
 use Rattle.ks_plan.specs.Plan.{Plan, Kind, Window, is_windowed}
 use Rattle.ks_plan.specs.Plan.Kind.{StreamSource, TableSource, StreamFilter, TableFilter, StreamMap, TableMap, KeySelected, StreamAggregate, TableAggregate, Windowed, KeyJoin, ForeignKeyJoin}
@@ -29,9 +29,9 @@ use Rattle.ks_def_tasks.proofs.Names.{names}
 use Rattle.ks_law_quiescence.specs.States.{State, state_of}
 use Rattle.ks_law_quiescence.specs.Windows.{late_starts, late_of_group, late_of_item, late_at, counting, late_pairs, starts_of, late_of_windows, late_of_nodes}
 use Rattle.ks_law_quiescence.proofs.Counted.{counted}
-use Rattle.ks_law_quiescence.proofs.Each.{Each, each_nothing, each_first, each_parts}
-use Rattle.ks_law_quiescence.proofs.Fits.{Fits, each_at, stands_within, stands_after}
-use Rattle.ks_law_quiescence.proofs.Mixed.{Stands_at}
+use Rattle.ks_law_topology.proofs.Each.{Each, each_nothing, each_first, each_parts}
+use Rattle.ks_law_topology.proofs.Fits.{Fits, each_at, stands_within, stands_after}
+use Rattle.ks_law_topology.proofs.Mixed.{Stands_at}
 use Rattle.ks_law_quiescence.proofs.WindowGroups.{window_total, window_same, group_windows, own_windows, brought, all_shares, kind_is}
 use Rattle.ks_law_quiescence.proofs.WindowsRest.{shares_are, query_is}
 

@@ -1,11 +1,5 @@
-pub mod Mixed
 pub mod Following
 pub mod Follow
-pub mod Fits
-pub mod WellFormed
-pub mod Each
-pub mod Entries
-pub mod Placed
 pub mod Sources
 pub mod Queries
 pub mod Inputs

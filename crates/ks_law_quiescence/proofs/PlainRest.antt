@@ -2,7 +2,7 @@
 use Rattle.std.proofs.Common.{◌≡◌, ℕ, zero, suc, ◌+◌, ◌<◌, ◌^◌, Bool, true, false, List, length, [], ◌∷◌, ◌++◌, get_or, Option, fold, refl, sym, ap, subst, ◌∙◌, arith, append-nil, append_assoc, length-append, ⊎_elim}
 use Rattle.std.proofs.lemmas.Bool.{and_parts, cases_lt}
 use Rattle.std.proofs.lemmas.List.Sums.{fold-append}
-use Rattle.ks_row.specs.declared.record.TaskId.{TaskId}
+use Rattle.ks_record.specs.declared.record.TaskId.{TaskId}
 use Rattle.ks_plan.specs.Plan.{Plan, Kind}
 use Rattle.ks_plan.specs.Plan.Kind.{StreamSource, TableSource, StreamFilter, TableFilter, StreamMap, TableMap, KeySelected, StreamAggregate, TableAggregate, Windowed, KeyJoin, ForeignKeyJoin}
 use Rattle.ks_query.specs.Streams.{Input}
@@ -11,10 +11,10 @@ use Rattle.ks_def_tasks.specs.Rest.{IsDrained}
 use Rattle.ks_law_quiescence.specs.AtRest.{IsQuery, made_plainly, IsPlain}
 use Rattle.ks_law_quiescence.specs.States.{state_of}
 use Rattle.ks_law_quiescence.proofs.AtRest.{everywhere, source_is_query, filter_is_query, map_is_query, join_is_query}
-use Rattle.ks_law_quiescence.proofs.Fits.{Fits, NodeFits, each_at, stands_after, stands_within}
+use Rattle.ks_law_topology.proofs.Fits.{Fits, NodeFits, each_at, stands_after, stands_within}
 use Rattle.ks_law_quiescence.proofs.StreamsRest.{stream_rests}
 use Rattle.ks_law_quiescence.proofs.GroupsRest.{group_rests}
-use Rattle.ks_law_quiescence.proofs.Mixed.{Stands_at}
+use Rattle.ks_law_topology.proofs.Mixed.{Stands_at}
 
 -- ---- flags in lists that grow at their end
 flag_before : (xs ys : List Bool) (n : ℕ) → n < length xs → get_or (xs ++ ys) n false ≡ get_or xs n false

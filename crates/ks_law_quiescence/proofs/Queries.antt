@@ -5,7 +5,7 @@ use Rattle.ks_plan.specs.Plan.{Plan, Kind}
 use Rattle.ks_plan.specs.Plan.Kind.{StreamSource, TableSource, StreamFilter, TableFilter, StreamMap, TableMap, KeySelected, StreamAggregate, TableAggregate, Windowed, KeyJoin, ForeignKeyJoin}
 use Rattle.ks_query.specs.Streams.{Input, StreamItem}
 use Rattle.ks_query.specs.Query.{Table, WindowTable, Answers, with_number, give_items, give_table, give_windows, answer_node, answer_nodes, no_answers, query}
-use Rattle.ks_law_quiescence.proofs.Mixed.{Stands_at}
+use Rattle.ks_law_topology.proofs.Mixed.{Stands_at}
 
 -- ---- each node answers from its inputs' answers
 module _ (records : List Input) where

@@ -6,8 +6,8 @@ use Rattle.std.proofs.lemmas.List.Sums.{fold-append}
 use Rattle.std.specs.Ordering.{eq_by_cmp}
 use Rattle.std.specs.Cmp.Lexicographic.{nat_list_cmp_total}
 use Rattle.std.specs.FinMap.{slice_cmp-IsAntisymmetric, nat_cmp-IsAntisymmetric, int_cmp-IsAntisymmetric}
-use Rattle.ks_row.specs.declared.record.TaskId.{TaskId}
-use Rattle.ks_row.specs.Parts.{same_task}
+use Rattle.ks_record.specs.declared.record.TaskId.{TaskId}
+use Rattle.ks_record.specs.Parts.{same_task}
 use Rattle.ks_wire.specs.declared.values.Agg.{Agg}
 use Rattle.ks_plan.specs.declared.node.Topic.{Topic}
 use Rattle.ks_plan.specs.declared.node.Topic.TheVariants.{Repartition}
@@ -30,13 +30,13 @@ use Rattle.ks_def_tasks.specs.Messages.Message.{Given, Keyed, Moved, Asked, Answ
 use Rattle.ks_def_tasks.specs.Step.{Arrival, arrived, step_key, applied, whole_step, items_from, olds_at, news_at, tables_after}
 use Rattle.ks_def_tasks.specs.Tasks.{arrival, machine, step, inputs_of}
 use Rattle.ks_def_tasks.proofs.Names.{names, same_task-is, same_place-is}
-use Rattle.ks_law_quiescence.specs.Taken.{messages, taken_at}
+use Rattle.ks_law_topology.specs.Taken.{messages, taken_at}
 use Rattle.ks_law_quiescence.specs.Groups.{one_moved, sum_of_deltas}
 use Rattle.ks_law_quiescence.proofs.Bits.{bits_of, of_bits, bits_back, of_sums}
 use Rattle.ks_law_quiescence.proofs.Counted.{sum_of_deltas-is}
 use Rattle.ks_law_quiescence.proofs.Follow.{value_is}
-use Rattle.ks_law_quiescence.proofs.Mixed.{messages-append, Stands_at}
-use Rattle.ks_law_quiescence.proofs.Placed.{topic-is}
+use Rattle.ks_law_topology.proofs.Mixed.{messages-append, Stands_at}
+use Rattle.ks_law_topology.proofs.Placed.{topic-is}
 use Rattle.ks_law_quiescence.proofs.Regrouped.{members_in, total_in, row_bits, share, group_part, at, rows_sent}
 use Rattle.ks_law_quiescence.proofs.Sender.{member, amount}
 use Rattle.ks_law_quiescence.proofs.Senders.{distinct, senders_of, steps_of, steps_of-is, members_or_none, steps_together}

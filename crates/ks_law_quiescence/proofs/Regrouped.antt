@@ -23,7 +23,7 @@ use Rattle.ks_query.specs.Aggregates.{as_i64, int_of, amount_in, with_amount, de
 use Rattle.ks_row.specs.FieldKeys.{field_key}
 use Rattle.ks_law_quiescence.proofs.Bits.{bits_of, bits_below, as_i64_again, delta_members, delta_amount}
 use Rattle.ks_def_runs.specs.Run.{Outcome, Taken, sent_to, local, sent}
-use Rattle.ks_row.specs.declared.record.TaskId.{TaskId}
+use Rattle.ks_record.specs.declared.record.TaskId.{TaskId}
 use Rattle.ks_def_tasks.specs.Messages.{Place, Stored, shown, Message, Item, Store, Rules}
 use Rattle.ks_def_tasks.specs.Messages.Message.{Moved}
 use Rattle.ks_def_tasks.specs.Step.{Arrival, Values, row_in, step_key, sends_at, send_deltas, whole_step, olds_at, news_at, items_from, tables_after}
@@ -31,8 +31,8 @@ use Rattle.ks_def_tasks.specs.Tasks.{arrival, machine, step, empty_store}
 use Rattle.ks_def_runs.proofs.Tables.{equal, total-empty}
 use Rattle.ks_def_runs.proofs.Sums.{Begins, steps, kept_from_start}
 use Rattle.ks_def_runs.proofs.Runs.{after, sent_to-append}
-use Rattle.ks_law_quiescence.proofs.Mixed.{messages-append, picked, picked_none, own_topic, avoids_sends, apart, made_is, Stands_at}
-use Rattle.ks_law_quiescence.specs.Taken.{messages}
+use Rattle.ks_law_topology.proofs.Mixed.{messages-append, picked, picked_none, own_topic, avoids_sends, apart, made_is, Stands_at}
+use Rattle.ks_law_topology.specs.Taken.{messages}
 use Rattle.ks_law_quiescence.proofs.Sender.{Meaning, Sender, Sender-step, Stands, member, amount, effect_of, deltas_at, leaves_at, joins_at}
 
 abbrev pub members_in : Key → Message → ℕ

@@ -3,7 +3,7 @@ use Rattle.std.proofs.Common.{◌≡◌, ℕ, ◌+◌, ◌%◌, ◌^◌, ◌<◌
 use Rattle.std.specs.Prelude.{pos}
 use Rattle.std.specs.Int.{w64, IsNonNegative}
 use Rattle.std.proofs.lemmas.Int.{to_z_pos}
-use Rattle.ks_row.specs.declared.record.TaskId.{TaskId}
+use Rattle.ks_record.specs.declared.record.TaskId.{TaskId}
 use Rattle.ks_plan.specs.Plan.{Plan}
 use Rattle.ks_plan.specs.Plan.Kind.{TableAggregate}
 use Rattle.ks_def_runs.specs.FinMap as fin
@@ -16,10 +16,10 @@ use Rattle.ks_def_runs.proofs.Sums.{sum_map, steps}
 use Rattle.ks_def_tasks.specs.Messages.{Place, Stored, shown, Item, Store, Rules}
 use Rattle.ks_def_tasks.specs.Tasks.{machine, inputs_of, empty_store}
 use Rattle.ks_law_quiescence.specs.Groups.{sum_of_deltas, sum_of_group, rows_of, IsOfRows}
-use Rattle.ks_law_quiescence.specs.Taken.{messages}
+use Rattle.ks_law_topology.specs.Taken.{messages}
 use Rattle.ks_law_quiescence.proofs.Bits.{of_bits, of_sums}
 use Rattle.ks_law_quiescence.proofs.Counted.{sum_of_deltas-is, sum_of_group-is, row_member, row_amount}
-use Rattle.ks_law_quiescence.proofs.Mixed.{messages-append, Stands_at}
+use Rattle.ks_law_topology.proofs.Mixed.{messages-append, Stands_at}
 use Rattle.ks_law_quiescence.proofs.Received.{group_place, sum_of-le, member-le, none_no_amount}
 use Rattle.ks_law_quiescence.proofs.Regrouped.{members_in, total_in, share, row_bits, rows_sent}
 use Rattle.ks_law_quiescence.proofs.Sender.{member, amount}

@@ -5,8 +5,8 @@ use Rattle.std.proofs.lemmas.List.Sums.{fold-append}
 use Rattle.std.specs.Ordering.{eq_by_cmp}
 use Rattle.std.specs.Cmp.Lexicographic.{nat_list_cmp_total}
 use Rattle.std.specs.FinMap.{slice_cmp-IsAntisymmetric, nat_cmp-IsAntisymmetric}
-use Rattle.ks_row.specs.declared.record.TaskId.{TaskId}
-use Rattle.ks_row.specs.Parts.{same_task}
+use Rattle.ks_record.specs.declared.record.TaskId.{TaskId}
+use Rattle.ks_record.specs.Parts.{same_task}
 use Rattle.ks_expr.specs.Eval.{Row}
 use Rattle.ks_plan.specs.declared.node.Topic.{Topic}
 use Rattle.ks_plan.specs.declared.node.Topic.TheVariants.{Input as InputTopic}
@@ -25,11 +25,11 @@ use Rattle.ks_def_tasks.specs.Messages.Message.{Given, Keyed, Moved, Asked, Answ
 use Rattle.ks_def_tasks.specs.Step.{Arrival, of_row, taken_row, arrived, whole_step, items_from, olds_at, news_at, tables_after}
 use Rattle.ks_def_tasks.specs.Tasks.{arrival, machine, step}
 use Rattle.ks_def_tasks.proofs.Names.{same_task-is, same_place-is}
-use Rattle.ks_law_quiescence.specs.Taken.{taken_at, change_of, changes_in}
-use Rattle.ks_law_quiescence.proofs.Fits.{Sourced}
-use Rattle.ks_law_quiescence.proofs.Placed.{topic-is}
+use Rattle.ks_law_topology.specs.Taken.{taken_at, change_of, changes_in}
+use Rattle.ks_law_topology.proofs.Fits.{Sourced}
+use Rattle.ks_law_topology.proofs.Placed.{topic-is}
 use Rattle.ks_law_quiescence.proofs.Follow.{value_is}
-use Rattle.ks_law_quiescence.proofs.Mixed.{Stands_at}
+use Rattle.ks_law_topology.proofs.Mixed.{Stands_at}
 
 pub taken-append : (q : Place) (xs ys : List (Taken TaskId Place Item)) → taken_at q (xs ++ ys) ≡ taken_at q xs ++ taken_at q ys
 taken-append q [] ys = refl

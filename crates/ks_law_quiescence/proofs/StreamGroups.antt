@@ -4,8 +4,8 @@ use Rattle.std.specs.Prelude.{option_map, is_none}
 use Rattle.std.proofs.lemmas.Bool.Decides.{Decides-eqb}
 use Rattle.std.specs.Ordering.{eq_by_cmp}
 use Rattle.std.specs.FinMap.{slice_cmp-IsAntisymmetric, nat_cmp-IsAntisymmetric}
-use Rattle.ks_row.specs.declared.record.TaskId.{TaskId}
-use Rattle.ks_row.specs.Parts.{same_task}
+use Rattle.ks_record.specs.declared.record.TaskId.{TaskId}
+use Rattle.ks_record.specs.Parts.{same_task}
 use Rattle.ks_expr.specs.Eval.{Row}
 use Rattle.ks_wire.specs.declared.values.Agg.{Agg}
 use Rattle.ks_plan.specs.declared.node.Topic.{Topic}
@@ -32,12 +32,12 @@ use Rattle.ks_def_tasks.proofs.Names.{same_task-is, same_place-is}
 use Rattle.ks_law_quiescence.specs.Groups.{place_of}
 use Rattle.ks_law_quiescence.specs.States.{home_task}
 use Rattle.ks_law_quiescence.specs.Streams.{item_of_step, passed_on, all_waiting, one_joined}
-use Rattle.ks_law_quiescence.specs.Taken.{messages, taken_at}
+use Rattle.ks_law_topology.specs.Taken.{messages, taken_at}
 use Rattle.ks_law_quiescence.proofs.Counted.{counted, one_added, add_counted}
 use Rattle.ks_law_quiescence.proofs.Follow.{value_is}
-use Rattle.ks_law_quiescence.proofs.Mixed.{picked, made_is, step_sends_own, apart, Stands_at}
+use Rattle.ks_law_topology.proofs.Mixed.{picked, made_is, step_sends_own, apart, Stands_at}
 use Rattle.ks_law_quiescence.proofs.Passing as passing
-use Rattle.ks_law_quiescence.proofs.Placed.{topic-is}
+use Rattle.ks_law_topology.proofs.Placed.{topic-is}
 use Rattle.ks_law_quiescence.proofs.Received.{at_key, node_step, no_inputs, messages_sum, taken_sum, either_same}
 use Rattle.ks_law_quiescence.proofs.Regrouped.{row_bits}
 use Rattle.ks_law_quiescence.proofs.Sources.{taken-append}

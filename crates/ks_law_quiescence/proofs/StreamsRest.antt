@@ -4,7 +4,7 @@ use Rattle.std.specs.Prelude.{option_map, option_and_then, is_none}
 use Rattle.std.specs.List.{flat_map}
 use Rattle.std.specs.Cmp.Lexicographic.{nat_list_cmp_total}
 use Rattle.std.specs.FinMap.{slice_cmp-IsAntisymmetric, nat_cmp-IsAntisymmetric}
-use Rattle.ks_row.specs.declared.record.TaskId.{TaskId}
+use Rattle.ks_record.specs.declared.record.TaskId.{TaskId}
 use Rattle.ks_expr.specs.Eval.{Row}
 use Rattle.ks_wire.specs.declared.values.Agg.{Agg}
 use Rattle.ks_plan.specs.Plan.{Plan}
@@ -22,11 +22,11 @@ use Rattle.ks_def_tasks.specs.Rest.{IsDrained}
 use Rattle.ks_law_quiescence.specs.Groups.{place_of}
 use Rattle.ks_law_quiescence.specs.States.{State, state_of, row_at, home_task}
 use Rattle.ks_law_quiescence.specs.Streams.{item_of_step, passed_on, takers, one_joined}
-use Rattle.ks_law_quiescence.specs.Taken.{messages}
+use Rattle.ks_law_topology.specs.Taken.{messages}
 use Rattle.ks_law_quiescence.proofs.Counted.{counted}
-use Rattle.ks_law_quiescence.proofs.Fits.{Fits, each_at}
+use Rattle.ks_law_topology.proofs.Fits.{Fits, each_at}
 use Rattle.ks_law_quiescence.proofs.ItemsRest.{opt_share, items_rest}
-use Rattle.ks_law_quiescence.proofs.Mixed.{messages-append, Stands_at}
+use Rattle.ks_law_topology.proofs.Mixed.{messages-append, Stands_at}
 use Rattle.ks_query.proofs.Pointwise.{get-map_values}
 use Rattle.ks_law_quiescence.proofs.Queries.{query_at, given_here}
 use Rattle.ks_law_quiescence.proofs.StreamGroups.{item_share, one_each, amount_each, items_share, pairs_added, stored_run}

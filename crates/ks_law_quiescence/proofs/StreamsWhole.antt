@@ -2,8 +2,8 @@
 use Rattle.std.proofs.Common.{◌≡◌, ℕ, Bool, true, false, List, [], ◌∷◌, ◌++◌, Option, Some, None, fold, refl, sym, ap, ap₂, ◌∙◌, arith}
 use Rattle.std.specs.Prelude.{option_map, is_none}
 use Rattle.std.specs.List.{flat_map}
-use Rattle.ks_row.specs.declared.record.TaskId.{TaskId}
-use Rattle.ks_row.specs.Parts.{same_task}
+use Rattle.ks_record.specs.declared.record.TaskId.{TaskId}
+use Rattle.ks_record.specs.Parts.{same_task}
 use Rattle.ks_wire.specs.declared.values.Agg.{Agg}
 use Rattle.ks_plan.specs.declared.node.Topic.TheVariants.{Repartition}
 use Rattle.ks_plan.specs.Plan.{Plan, Kind}
@@ -22,12 +22,12 @@ use Rattle.ks_def_tasks.proofs.Names.{names}
 use Rattle.ks_law_quiescence.specs.Groups.{place_of}
 use Rattle.ks_law_quiescence.specs.States.{State, state_of, home_task}
 use Rattle.ks_law_quiescence.specs.Streams.{item_of_step, passed_on, takers, all_waiting, one_joined}
-use Rattle.ks_law_quiescence.specs.Taken.{messages, taken_at}
+use Rattle.ks_law_topology.specs.Taken.{messages, taken_at}
 use Rattle.ks_law_quiescence.proofs.Counted.{counted}
-use Rattle.ks_law_quiescence.proofs.Fits.{Fits, each_at}
+use Rattle.ks_law_topology.proofs.Fits.{Fits, each_at}
 use Rattle.ks_law_quiescence.proofs.Inputs.{no_messages}
 use Rattle.ks_def_tasks.specs.Step.{Arrival, Values, sends_at, items_from, olds_at, news_at, step_key}
-use Rattle.ks_law_quiescence.proofs.Mixed.{messages-append, picked, made_is, step_sends_own, apart, Stands_at}
+use Rattle.ks_law_topology.proofs.Mixed.{messages-append, picked, made_is, step_sends_own, apart, Stands_at}
 use Rattle.ks_law_quiescence.proofs.StreamGroups.{keyed_share, item_share, one_each, amount_each, passed_share, pairs_added, joined_counted, none_of_all, taken_and_waiting, stored_run}
 use Rattle.ks_law_quiescence.proofs.StreamsDirect.{both_run}
 

@@ -6,8 +6,8 @@ use Rattle.std.specs.Cmp.{IsTotalOrder, nat_cmp_total, on_total, then_total}
 use Rattle.std.specs.Cmp.Lexicographic.{nat_list_cmp_total}
 use Rattle.std.specs.FinMap.{IsAntisymmetric, slice_cmp-IsAntisymmetric, nat_cmp-IsAntisymmetric}
 use Rattle.std.proofs.lemmas.Map.Lookups.{exact_pairs}
-use Rattle.ks_row.specs.declared.record.TaskId.{TaskId}
-use Rattle.ks_row.specs.Parts.{same_task}
+use Rattle.ks_record.specs.declared.record.TaskId.{TaskId}
+use Rattle.ks_record.specs.Parts.{same_task}
 use Rattle.ks_expr.specs.Eval.{Row}
 use Rattle.ks_wire.specs.declared.values.Agg.{Agg}
 use Rattle.ks_plan.specs.declared.node.Topic.TheVariants.{Repartition}
@@ -33,14 +33,14 @@ use Rattle.ks_def_tasks.specs.Step.{Arrival, arrived, step_key, item_keyed, item
 use Rattle.ks_def_tasks.specs.Tasks.{arrival, machine, step, inputs_of, is_changelog, taker}
 use Rattle.ks_def_tasks.proofs.Names.{same_task-is}
 use Rattle.ks_law_quiescence.specs.States.{home_task}
-use Rattle.ks_law_quiescence.specs.Taken.{messages}
+use Rattle.ks_law_topology.specs.Taken.{messages}
 use Rattle.ks_law_quiescence.specs.Windows.{starts_of, pairs_of_group}
 use Rattle.ks_law_quiescence.proofs.Counted.{counted, add_counted}
-use Rattle.ks_law_quiescence.proofs.Each.{Each, each_parts}
-use Rattle.ks_law_quiescence.proofs.Fits.{Fits, Beside, own_keys, each_at}
-use Rattle.ks_law_quiescence.proofs.Mixed.{Stands_at}
-use Rattle.ks_law_quiescence.proofs.Placed.{Placed, FitsAt, FitsKey, fits_key, Owned, items_owned, placed_step, placed_run, topic-is}
-use Rattle.ks_law_quiescence.proofs.StreamsDirect.{item_key}
+use Rattle.ks_law_topology.proofs.Each.{Each, each_parts}
+use Rattle.ks_law_topology.proofs.Fits.{Fits, Beside, own_keys, each_at}
+use Rattle.ks_law_topology.proofs.Mixed.{Stands_at}
+use Rattle.ks_law_topology.proofs.Placed.{Placed, FitsAt, FitsKey, fits_key, Owned, items_owned, placed_step, placed_run, topic-is}
+use Rattle.ks_law_topology.proofs.ItemKeys.{item_key}
 
 pub window_total : IsTotalOrder by_window
 window_total = then_total (on_total (λ (k : WindowKey). k.0) nat_list_cmp_total) (on_total (λ (k : WindowKey). k.1) nat_cmp_total)

@@ -4,8 +4,8 @@ use Rattle.std.specs.Prelude.{option_map, option_and_then}
 use Rattle.std.specs.List.{flat_map}
 use Rattle.std.proofs.lemmas.Bool.Decides.{Decides-eqb}
 use Rattle.std.specs.Ordering.{eq_by_cmp}
-use Rattle.ks_row.specs.declared.record.TaskId.{TaskId}
-use Rattle.ks_row.specs.Parts.{same_task}
+use Rattle.ks_record.specs.declared.record.TaskId.{TaskId}
+use Rattle.ks_record.specs.Parts.{same_task}
 use Rattle.ks_expr.specs.Eval.{Row, holds, project}
 use Rattle.ks_wire.specs.declared.values.Agg.{Agg}
 use Rattle.ks_plan.specs.declared.node.Topic.{Topic}
@@ -32,14 +32,14 @@ use Rattle.ks_def_tasks.proofs.Names.{names, same_task-is, same_place-is}
 use Rattle.ks_law_quiescence.specs.Groups.{place_of}
 use Rattle.ks_law_quiescence.specs.States.{State, state_of, home_task}
 use Rattle.ks_law_quiescence.specs.Streams.{item_of_step, takers, all_waiting}
-use Rattle.ks_law_quiescence.specs.Taken.{messages}
+use Rattle.ks_law_topology.specs.Taken.{messages}
 use Rattle.ks_law_quiescence.proofs.Counted.{counted}
-use Rattle.ks_law_quiescence.proofs.Each.{Each, each_parts}
-use Rattle.ks_law_quiescence.proofs.Fits.{Fits, each_at}
+use Rattle.ks_law_topology.proofs.Each.{Each, each_parts}
+use Rattle.ks_law_topology.proofs.Fits.{Fits, each_at}
 use Rattle.ks_law_quiescence.proofs.ItemsRest.{opt_share, items_rest}
-use Rattle.ks_law_quiescence.proofs.Mixed.{picked, unwritten, step_sends_own, apart, Stands_at}
+use Rattle.ks_law_topology.proofs.Mixed.{picked, unwritten, step_sends_own, apart, Stands_at}
 use Rattle.ks_law_quiescence.proofs.Passing as passing
-use Rattle.ks_law_quiescence.proofs.Placed.{Placed, FitsAt, placed_step, placed_run, topic-is}
+use Rattle.ks_law_topology.proofs.Placed.{Placed, FitsAt, placed_step, placed_run, topic-is}
 use Rattle.ks_query.proofs.Pointwise.{get-map_values}
 use Rattle.ks_law_quiescence.proofs.Queries.{query_at, given_here}
 use Rattle.ks_law_quiescence.proofs.Received.{no_inputs}

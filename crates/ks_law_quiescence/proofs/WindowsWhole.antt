@@ -5,8 +5,8 @@ use Rattle.ks_query.specs.Aggregates.{agg_row}
 use Rattle.ks_query.specs.Query.{query}
 use Rattle.ks_def_tasks.specs.Rest.{IsDrained}
 use Rattle.std.specs.Ordering.{eq_by_cmp}
-use Rattle.ks_row.specs.declared.record.TaskId.{TaskId}
-use Rattle.ks_row.specs.Parts.{same_task}
+use Rattle.ks_record.specs.declared.record.TaskId.{TaskId}
+use Rattle.ks_record.specs.Parts.{same_task}
 use Rattle.ks_wire.specs.declared.values.Agg.{Agg}
 use Rattle.ks_plan.specs.Plan.{Plan, Window}
 use Rattle.ks_plan.specs.Plan.Kind.{Windowed}
@@ -30,14 +30,14 @@ use Rattle.ks_def_tasks.proofs.Names.{names, same_task-is, same_place-is}
 use Rattle.ks_law_quiescence.specs.Groups.{place_of}
 use Rattle.ks_law_quiescence.specs.States.{State, state_of, home_task}
 use Rattle.ks_law_quiescence.specs.Streams.{item_of_step, passed_on, takers, all_waiting}
-use Rattle.ks_law_quiescence.specs.Taken.{messages}
+use Rattle.ks_law_topology.specs.Taken.{messages}
 use Rattle.ks_law_quiescence.specs.Windows.{late_starts, late_of_group, late_of_item, late_at, counting, late_pairs, pairs_of_keyed, pairs_among, pairs_in, count_of}
 use Rattle.ks_law_quiescence.proofs.Counted.{counted, add_counted}
-use Rattle.ks_law_quiescence.proofs.Each.{Each, each_parts}
-use Rattle.ks_law_quiescence.proofs.Fits.{Fits, each_at}
-use Rattle.ks_law_quiescence.proofs.Mixed.{Stands_at}
+use Rattle.ks_law_topology.proofs.Each.{Each, each_parts}
+use Rattle.ks_law_topology.proofs.Fits.{Fits, each_at}
+use Rattle.ks_law_topology.proofs.Mixed.{Stands_at}
 use Rattle.ks_law_quiescence.proofs.Passing as passing
-use Rattle.ks_law_quiescence.proofs.Placed.{Placed, FitsAt, placed_step, placed_run}
+use Rattle.ks_law_topology.proofs.Placed.{Placed, FitsAt, placed_step, placed_run}
 use Rattle.ks_law_quiescence.proofs.Received.{no_inputs}
 use Rattle.ks_law_quiescence.proofs.StreamsWhole as streams
 use Rattle.ks_law_quiescence.proofs.WindowGroups.{window_total, window_same, starts_at, group_windows, own_windows, item_windows, brought, share_of_step, all_shares, kind_is, elsewhere}

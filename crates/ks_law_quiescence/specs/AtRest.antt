@@ -1,7 +1,7 @@
 -- At rest: once nothing waits, each table over all its tasks is the query's.
 use Rattle.std.specs.Prelude.{◌≡◌, ℕ, ◌<◌, ◌^◌, List, [], ◌∷◌, ◌++◌, length, get_or, fold, Bool, true, false, ◌&&◌, Option, None, cond}
-use Rattle.ks_row.specs.declared.record.TaskId.{TaskId}
-use Rattle.ks_row.specs.Parts.{same_task}
+use Rattle.ks_record.specs.declared.record.TaskId.{TaskId}
+use Rattle.ks_record.specs.Parts.{same_task}
 use Rattle.ks_plan.specs.Drafts.{DraftView}
 use Rattle.ks_plan.specs.Plan.{Plan, Kind, plan_of}
 use Rattle.ks_plan.specs.Plan.Kind.{TableSource, TableFilter, TableMap, KeyJoin, TableAggregate, StreamAggregate}
@@ -10,7 +10,7 @@ use Rattle.ks_query.specs.Streams.{Key, Input}
 use Rattle.ks_query.specs.Query.{query}
 use Rattle.ks_def_tasks.specs.Messages.{Place, Rules}
 use Rattle.ks_def_tasks.specs.Rest.{IsDrained}
-use Rattle.ks_law_quiescence.specs.WellFormed.{IsWellFormed}
+use Rattle.ks_law_topology.specs.WellFormed.{IsWellFormed}
 use Rattle.ks_law_quiescence.specs.States.{State, state_of, row_at, home_task}
 
 -- each task has exactly the query's rows of the keys that it keeps

@@ -2,7 +2,7 @@
 -- Kafka Streams developer guide, "Aggregating": of a table, the old row is subtracted from its group and the new one added.
 use Rattle.std.specs.Prelude.{◌≡◌, ℕ, ◌<◌, ◌^◌, pos, List, ◌++◌, length, map, Option, Some, fold, cond, option_map, is_none}
 use Rattle.std.specs.Int.{IsNonNegative}
-use Rattle.ks_row.specs.declared.record.TaskId.{TaskId}
+use Rattle.ks_record.specs.declared.record.TaskId.{TaskId}
 use Rattle.ks_expr.specs.Eval.{Row, same_bytes}
 use Rattle.ks_wire.specs.declared.values.Agg.{Agg}
 use Rattle.ks_def_runs.specs.FinMap as map
@@ -21,9 +21,9 @@ use Rattle.ks_def_tasks.specs.Messages.Message.{Moved}
 use Rattle.ks_def_tasks.specs.Tasks.{machine}
 use Rattle.ks_def_tasks.specs.Collision.{IsNode}
 use Rattle.ks_def_tasks.specs.Rest.{home}
-use Rattle.ks_law_quiescence.specs.WellFormed.{IsWellFormed}
+use Rattle.ks_law_topology.specs.WellFormed.{IsWellFormed}
 use Rattle.ks_law_quiescence.specs.States.{State, state_of, home_task}
-use Rattle.ks_law_quiescence.specs.Taken.{messages, taken_at}
+use Rattle.ks_law_topology.specs.Taken.{messages, taken_at}
 
 -- ---- what the deltas of a group among these messages sum to, from nothing
 abbrev pub one_moved : Key → Agg → Message → Agg

@@ -1,5 +1,3 @@
-pub mod WellFormed
-pub mod Taken
 pub mod States
 pub mod Tables
 pub mod Groups

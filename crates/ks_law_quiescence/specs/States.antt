@@ -1,6 +1,6 @@
 -- The states of the uncrashed runs of a topology, and the rows in them.
 use Rattle.std.specs.Prelude.{List, Option, option_map, ℕ}
-use Rattle.ks_row.specs.declared.record.TaskId.{TaskId}
+use Rattle.ks_record.specs.declared.record.TaskId.{TaskId}
 use Rattle.ks_expr.specs.Eval.{Row}
 use Rattle.ks_plan.specs.Plan.{Plan}
 use Rattle.ks_plan.specs.Layout.{sub_of}

@@ -2,8 +2,8 @@
 -- Kafka Streams developer guide, "Aggregating": each item of a stream adds to its group.
 use Rattle.std.specs.Prelude.{◌≡◌, ℕ, List, [], ◌∷◌, Option, Some, None, Bool, false, ◌||◌, fold, cond}
 use Rattle.std.specs.List.{flat_map}
-use Rattle.ks_row.specs.declared.record.TaskId.{TaskId}
-use Rattle.ks_row.specs.Parts.{same_task}
+use Rattle.ks_record.specs.declared.record.TaskId.{TaskId}
+use Rattle.ks_record.specs.Parts.{same_task}
 use Rattle.ks_expr.specs.Eval.{same_bytes}
 use Rattle.ks_wire.specs.declared.values.Agg.{Agg}
 use Rattle.ks_plan.specs.Drafts.{DraftView, Name}
@@ -21,9 +21,9 @@ use Rattle.ks_def_tasks.specs.Step.{items_from}
 use Rattle.ks_def_tasks.specs.Tasks.{arrival, machine}
 use Rattle.ks_def_tasks.specs.Collision.{IsNode}
 use Rattle.ks_law_quiescence.specs.Groups.{place_of}
-use Rattle.ks_law_quiescence.specs.WellFormed.{IsWellFormed}
+use Rattle.ks_law_topology.specs.WellFormed.{IsWellFormed}
 use Rattle.ks_law_quiescence.specs.States.{State, state_of, home_task}
-use Rattle.ks_law_quiescence.specs.Taken.{messages}
+use Rattle.ks_law_topology.specs.Taken.{messages}
 
 -- ---- the items that a stream node has passed on, in all tasks, in the order of the steps
 abbrev pub item_of_step : Plan → ℕ → Taken TaskId Place Item → Option StreamItem

@@ -1,7 +1,7 @@
 -- Source tables and derived tables, in every state of every uncrashed run of every well-formed topology.
 -- Kafka Streams developer guide, "KTable": a table holds the last value of each key; what is derived of it follows it.
 use Rattle.std.specs.Prelude.{◌≡◌, ℕ, List, Option, Some, None, cond, option_and_then}
-use Rattle.ks_row.specs.declared.record.TaskId.{TaskId}
+use Rattle.ks_record.specs.declared.record.TaskId.{TaskId}
 use Rattle.ks_expr.specs.declared.terms.JoinKind.{JoinKind}
 use Rattle.ks_expr.specs.Terms.{Set, Test}
 use Rattle.ks_expr.specs.Eval.{holds, project, joined}
@@ -17,9 +17,9 @@ use Rattle.ks_def_tasks.specs.Messages.{Place, Rules}
 use Rattle.ks_def_tasks.specs.Collision.{IsNode}
 use Rattle.ks_def_tasks.specs.Rest.{store_at}
 use Rattle.ks_def_tasks.specs.Step.{of_row}
-use Rattle.ks_law_quiescence.specs.WellFormed.{IsWellFormed}
+use Rattle.ks_law_topology.specs.WellFormed.{IsWellFormed}
 use Rattle.ks_law_quiescence.specs.States.{state_of, row_at}
-use Rattle.ks_law_quiescence.specs.Taken.{taken_at, changes_in}
+use Rattle.ks_law_topology.specs.Taken.{taken_at, changes_in}
 
 -- a source table's store is the latest of what was taken
 abbrev pub SourcesAreLatest : Type 0

@@ -13,8 +13,8 @@ use Rattle.ks_def_tasks.specs.Tasks.{arrival, machine, step}
 use Rattle.ks_def_tasks.specs.Windowed.{greater}
 use Rattle.ks_law_quiescence.specs.Groups.{place_of}
 use Rattle.ks_law_quiescence.specs.Streams.{passed_on, all_waiting}
-use Rattle.ks_row.specs.declared.record.TaskId.{TaskId}
-use Rattle.ks_row.specs.Parts.{same_task}
+use Rattle.ks_record.specs.declared.record.TaskId.{TaskId}
+use Rattle.ks_record.specs.Parts.{same_task}
 use Rattle.ks_plan.specs.Drafts.{DraftView, Name}
 use Rattle.ks_plan.specs.Plan.{Plan, Kind, Window, plan_of, is_windowed}
 use Rattle.ks_plan.specs.Plan.Kind.{Windowed}
@@ -26,7 +26,7 @@ use Rattle.ks_query.specs.Query.{query}
 use Rattle.ks_def_tasks.specs.Messages.{Place, Message, Item, Store, Rules}
 use Rattle.ks_def_tasks.specs.Collision.{IsNode}
 use Rattle.ks_def_tasks.specs.Rest.{IsDrained}
-use Rattle.ks_law_quiescence.specs.WellFormed.{IsWellFormed}
+use Rattle.ks_law_topology.specs.WellFormed.{IsWellFormed}
 use Rattle.ks_law_quiescence.specs.States.{state_of, home_task}
 
 -- where nothing was late, each task has exactly the query's windows of the groups that it keeps, once nothing waits

@@ -1,7 +1,7 @@
 -- A read lasts: what it reads is the store of a replica that follows the journal.
 use Rattle.std.proofs.Common.{◌≡◌, ℕ, Bool, true, false, cond, List, [], ◌∷◌, ◌++◌, refl, sym, ap, subst, ◌∙◌, arith, eq-eqb, eqb-true, le-ltb, inl}
 use Rattle.std.specs.Prelude.{◌==◌}
-use Rattle.ks_row.specs.declared.record.TaskId.{TaskId}
+use Rattle.ks_record.specs.declared.record.TaskId.{TaskId}
 use Rattle.ks_def_runs.specs.Bytes.{Store, empty_store}
 use Rattle.ks_def_runs.specs.FinMap as fin
 use Rattle.ks_history.specs.declared.journal.Entry.{Entry}

@@ -1,6 +1,6 @@
 -- Reads at a position of a partition, in a state (KIP-535: reads of a store that lags).
 use Rattle.std.specs.Prelude.{◌≡◌, ℕ, List, Option}
-use Rattle.ks_row.specs.declared.record.PartId.{PartId}
+use Rattle.ks_record.specs.declared.record.PartId.{PartId}
 use Rattle.ks_def_runs.specs.Bytes.{Store}
 use Rattle.ks_def_runs.specs.FinMap as fin
 use Rattle.ks_history.specs.Partition.{recs, below}

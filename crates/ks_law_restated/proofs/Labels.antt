@@ -2,31 +2,15 @@
 use Rattle.std.proofs.Common.{◌≡◌, ℕ, zero, suc, ◌+◌, ◌≤◌, ◌<◌, true, false, cond, List, length, length-append, [], ◌∷◌, ◌++◌, map, fold, get_or, refl, sym, ap, ap₂, subst, ◌∙◌, arith, append_assoc, nat_eq, ⊎_elim, ◌⊎◌, inl, inr}
 use Rattle.std.specs.Prelude.{min, max}
 use Rattle.std.proofs.lemmas.List.{length-map}
-use Rattle.std.proofs.lemmas.Bool.{eqb-false, cases_order}
+use Rattle.std.proofs.lemmas.Bool.{cases_order}
 use Rattle.std.proofs.lemmas.Bool.Decides.{Decides-eqb}
 use Rattle.ks_plan.specs.Plan.{Plan, Kind}
 use Rattle.ks_plan.specs.Plan.Kind.{StreamSource, TableSource, StreamFilter, TableFilter, StreamMap, TableMap, KeySelected, StreamAggregate, TableAggregate, Windowed, KeyJoin, ForeignKeyJoin}
 use Rattle.ks_plan.specs.Layout.{at, relabel, join_labels, label_next, labels, firsts, sub_of, kind_at, no_kind}
 use Rattle.ks_law_restated.specs.Connected.{ReadsDirectly, LiesWith, Connected, InputsComeFirst, SameSubtopologyIsConnected, ConnectedIsSameSubtopology}
 use Rattle.ks_law_restated.specs.Connected.Connected.{Itself, Edge, Back, Chain}
-
--- ---- lists of numbers
-at_before : (xs ys : List ℕ) (n : ℕ) → n < length xs → at (xs ++ ys) n ≡ at xs n
-at_before [] ys n lt = absurd (omega arith)
-at_before (x ∷ xs) ys zero lt = refl
-at_before (x ∷ xs) ys (suc n) lt = at_before xs ys n (omega arith)
-
-at_end : (xs : List ℕ) (x : ℕ) → at (xs ++ x ∷ []) (length xs) ≡ x
-at_end [] x = refl
-at_end (y ∷ xs) x = at_end xs x
-
-at_map : (f : ℕ → ℕ) (xs : List ℕ) (n : ℕ) → n < length xs → at (map f xs) n ≡ f (at xs n)
-at_map f [] n lt = absurd (omega arith)
-at_map f (x ∷ xs) zero lt = refl
-at_map f (x ∷ xs) (suc n) lt = at_map f xs n (omega arith)
-
-one_more : (xs : List ℕ) (x : ℕ) → length (xs ++ x ∷ []) ≡ suc (length xs)
-one_more xs x = omega (arith, length-append xs (x ∷ []))
+use Rattle.ks_law_topology.proofs.Fits.{at_before, at_map, left_label, one_more, right_label}
+use Rattle.ks_law_topology.proofs.Labels.{at_end, either}
 
 -- a place of a list with one more is the last, or one of the list
 last : (xs : List ℕ) (x i : ℕ) → i < length (xs ++ x ∷ []) → (i ≡ length xs) ⊎ (i < length xs)
@@ -54,24 +38,6 @@ pub kind_past : (ks : List Kind) (n : ℕ) → length ks ≤ n → get_or ks n n
 kind_past [] n le = refl
 kind_past (k ∷ ks) zero le = absurd (omega arith)
 kind_past (k ∷ ks) (suc n) le = kind_past ks n (omega arith)
-
--- ---- the lesser and the greater of two
-left_label : (l r : ℕ) → cond (nat_eq l (max l r)) (min l r) l ≡ min l r
-left_label l r = elim (nat_eq l (max l r)) as (λ b. nat_eq l (max l r) ≡ b → cond b (min l r) l ≡ min l r) [
-  | true ↦ λ e. refl
-  | false ↦ λ e. let ne = eqb-false l (max l r) e in omega arith
-] refl
-
-right_label : (l r : ℕ) → cond (nat_eq r (max l r)) (min l r) r ≡ min l r
-right_label l r = elim (nat_eq r (max l r)) as (λ b. nat_eq r (max l r) ≡ b → cond b (min l r) r ≡ min l r) [
-  | true ↦ λ e. refl
-  | false ↦ λ e. let ne = eqb-false r (max l r) e in omega arith
-] refl
-
-either : (Q : ℕ → Type 0) (x y : ℕ) → Q x → Q y → Q (min x y)
-either Q x y a b = ⊎_elim (λ (e : x ≡ y). let f : min x y ≡ x = omega (arith, e) in subst Q (sym f) a)
-    (λ (o : (x < y) ⊎ (y < x)). ⊎_elim (λ (l : x < y). let f : min x y ≡ x = omega (arith, l) in subst Q (sym f) a) (λ (l : y < x). let f : min x y ≡ y = omega (arith, l) in subst Q (sym f) b) o)
-    (cases_order x y)
 
 either_greater : (Q : ℕ → Type 0) (x y : ℕ) → Q x → Q y → Q (max x y)
 either_greater Q x y a b = ⊎_elim (λ (e : x ≡ y). let f : max x y ≡ x = omega (arith, e) in subst Q (sym f) a)

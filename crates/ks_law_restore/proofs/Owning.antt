@@ -2,12 +2,12 @@
 use Rattle.std.proofs.Common.{◌≡◌, ◌≢◌, ℕ, ◌+◌, ◌≤◌, Bool, true, false, not, cond, List, [], ◌∷◌, ◌++◌, Option, Some, None, refl, sym, ap, ◌∙◌, arith, ⊎_elim}
 use Rattle.std.specs.Prelude.{◌==◌}
 use Rattle.std.proofs.lemmas.Bool.{eqb-true, true≢false, cases_eq}
-use Rattle.ks_row.specs.declared.record.TaskId.{TaskId}
-use Rattle.ks_row.specs.declared.assignment.Refused.{Refused}
-use Rattle.ks_row.specs.declared.assignment.Refused.TheVariants.{NotAssigned}
-use Rattle.ks_row.specs.declared.assignment.Assignment.{Assignment}
-use Rattle.ks_row.specs.declared.assignment.Marker.{Marker}
-use Rattle.ks_row.specs.Parts.{same_task, task_lt}
+use Rattle.ks_record.specs.declared.record.TaskId.{TaskId}
+use Rattle.ks_record.specs.declared.assignment.Refused.{Refused}
+use Rattle.ks_record.specs.declared.assignment.Refused.TheVariants.{NotAssigned}
+use Rattle.ks_record.specs.declared.assignment.Assignment.{Assignment}
+use Rattle.ks_record.specs.declared.assignment.Marker.{Marker}
+use Rattle.ks_record.specs.Parts.{same_task, task_lt}
 use Rattle.ks_history.specs.declared.partition.Slot.TheVariants.{Mark}
 use Rattle.ks_history.specs.declared.journal.Request.{Request}
 use Rattle.ks_history.specs.declared.journal.Request.TheVariants.{Produce, Init, Add, Append, SendOffsets, Decide, MarkNext, Join, Expire, Hold, Probe, Assign, Park, Unpark}
@@ -73,17 +73,17 @@ rises_after setup [] s = omega arith
 rises_after setup (entry ∷ entries) s = omega (arith, rises setup s entry.request (refusal setup s entry.request), rises_after setup entries (state_by s entry.request (refusal setup s entry.request)))
 
 -- ---- what is pending at a producer
-pending_is : (p : Producer) (t : TaskId) → has_pending p t ≡ not (is_none (pending_of t (pending_at p)))
+pub pending_is : (p : Producer) (t : TaskId) → has_pending p t ≡ not (is_none (pending_of t (pending_at p)))
 pending_is p t = by p.undecided
   where
     by : (u : Option Transaction) → (elim u as (λ _. Bool) [ None ↦ false | Some tx ↦ not (is_none (pending_of t tx.pending)) ]) ≡ not (is_none (pending_of t (elim u as (λ _. List Pending) [ None ↦ [] | Some tx ↦ tx.pending ])))
     by None = refl
     by (Some tx) = refl
 
-pending_tx : (p : Producer) (t : TaskId) → has_pending p t ≡ not (is_none (pending_of t (tx_of p).pending))
+pub pending_tx : (p : Producer) (t : TaskId) → has_pending p t ≡ not (is_none (pending_of t (tx_of p).pending))
 pending_tx p t = pending_is p t ∙ ap (λ l. not (is_none (pending_of t l))) (tx_pending p)
 
-none_left : (p : Producer) (t : TaskId) → p.undecided ≡ None → has_pending p t ≡ false
+pub none_left : (p : Producer) (t : TaskId) → p.undecided ≡ None → has_pending p t ≡ false
 none_left p t h = ap (λ (u : Option Transaction). elim u as (λ _. Bool) [ None ↦ false | Some tx ↦ not (is_none (pending_of t tx.pending)) ]) h
 
 -- offsets of another task
@@ -100,7 +100,7 @@ other_pending t new (p ∷ ps) ne = by (same_task new.task p.task) (task_lt new.
     by false false is e = ap (λ o. cond (same_task t p.task) (Some p) o) e
 
 -- an assigned worker is the owner
-is_owner : (s : State) (v : ℕ) (t : TaskId) → not_assigned s v t ≡ None → owner s t ≡ Some v
+pub is_owner : (s : State) (v : ℕ) (t : TaskId) → not_assigned s v t ≡ None → owner s t ≡ Some v
 is_owner s v t h = by (owner s t) refl h
   where
     by : (o : Option ℕ) → owner s t ≡ o → (elim o as (λ _. Option Refused) [ None ↦ Some (NotAssigned None) | Some k ↦ cond (k == v) None (Some (NotAssigned (Some k))) ]) ≡ None → owner s t ≡ Some v

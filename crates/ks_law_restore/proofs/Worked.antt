@@ -2,8 +2,8 @@
 use Rattle.std.proofs.Common.{◌≡◌, ℕ, Bool, true, false, cond, ◌||◌, inl, [], ◌∷◌, ◌++◌, refl, sym, ap, subst, ◌∙◌, arith}
 use Rattle.std.specs.Prelude.{◌==◌}
 use Rattle.std.proofs.lemmas.Bool.{eqb-true, true≢false}
-use Rattle.ks_row.specs.Records.{Record as Rec}
-use Rattle.ks_row.specs.Parts.{same_part}
+use Rattle.ks_record.specs.Records.{Record as Rec}
+use Rattle.ks_record.specs.Parts.{same_part}
 use Rattle.ks_history.specs.Machine.{has_topic, part_of}
 use Rattle.ks_history.specs.State.{offset_in}
 use Rattle.ks_history.specs.Faithful.{decided}

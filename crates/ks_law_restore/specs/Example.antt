@@ -1,6 +1,6 @@
 -- One record is taken, and its work committed: the history of `ks_law_exactly_once`, with the task that makes it.
 use Rattle.std.specs.Prelude.{ℕ, List, [], ◌∷◌, take, drop}
-use Rattle.ks_row.specs.Records.{Record as Rec}
+use Rattle.ks_record.specs.Records.{Record as Rec}
 use Rattle.ks_history.specs.declared.journal.Entry.{Entry}
 use Rattle.ks_history.specs.Follows.{TaskView}
 use Rattle.ks_law_exactly_once.specs.Example.{setup, the_task, changelog, one_commit}

@@ -1,9 +1,9 @@
 -- What keeps a task, and a replica, following a journal.
 use Rattle.std.specs.Prelude.{◌≡◌, ◌≤◌, ℕ, true, false, Some, List, [], ◌++◌}
 use Rattle.std.specs.List.{All}
-use Rattle.ks_row.specs.Records.{Record as Rec}
-use Rattle.ks_row.specs.declared.record.PartId.{PartId}
-use Rattle.ks_row.specs.declared.record.TaskId.{TaskId}
+use Rattle.ks_record.specs.Records.{Record as Rec}
+use Rattle.ks_record.specs.declared.record.PartId.{PartId}
+use Rattle.ks_record.specs.declared.record.TaskId.{TaskId}
 use Rattle.ks_history.specs.declared.journal.Entry.{Entry}
 use Rattle.ks_history.specs.Partition.{past_last, with_offsets}
 use Rattle.ks_history.specs.Machine.{IsNetwork, part_of, has_topic}

@@ -1,5 +1,5 @@
 //! A history written out, with the task that makes it: the laws' premises hold together.
-ghost use Rattle.ks_row.specs.Records.{Record as Rec};
+ghost use Rattle.ks_record.specs.Records.{Record as Rec};
 ghost use Rattle.ks_history.specs.History.{at};
 ghost use Rattle.ks_law_exactly_once.specs.Example.{setup, the_task, one_commit};
 ghost use Rattle.ks_law_restore.specs.Views.{Stands, IsNext, IsFrozen, IsWork, AreEnds, fresh_view, committed_view, pending_work};

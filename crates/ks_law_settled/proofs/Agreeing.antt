@@ -1,6 +1,6 @@
 -- What a plan's steps must keep, for its runs over bytes and decoded to agree.
 use Rattle.std.specs.Prelude.{◌≡◌, ℕ, true, false, Some}
-use Rattle.ks_row.specs.declared.record.TaskId.{TaskId}
+use Rattle.ks_record.specs.declared.record.TaskId.{TaskId}
 use Rattle.ks_plan.specs.Plan.{Plan}
 use Rattle.ks_def_runs.specs.Bytes.{empty_store as no_bytes}
 use Rattle.ks_def_tasks.specs.Messages.{Place, Item, Rules}

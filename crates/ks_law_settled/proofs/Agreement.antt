@@ -4,12 +4,12 @@ use Rattle.std.specs.Cmp.Lexicographic.{nat_list_cmp_total}
 use Rattle.std.specs.FinMap.{slice_cmp-IsAntisymmetric, nat_cmp-IsAntisymmetric}
 use Rattle.std.proofs.lemmas.Bool.{and_parts, and_from, or_cases, true≢false, cases_lt}
 use Rattle.std.proofs.lemmas.Bool.Decides.{Decides-eqb}
-use Rattle.ks_row.specs.Texts.{IsKey, key_from}
-use Rattle.ks_row.specs.Spelling.{IsBytes}
+use Rattle.ks_record.specs.Texts.{IsKey, key_from}
+use Rattle.ks_record.specs.Bytes.{IsBytes}
 use Rattle.ks_row.specs.Reading.{◌>>=◌}
-use Rattle.ks_row.specs.Records.{Record as Rec}
-use Rattle.ks_row.specs.declared.record.PartId.{PartId}
-use Rattle.ks_row.specs.declared.record.TaskId.{TaskId}
+use Rattle.ks_record.specs.Records.{Record as Rec}
+use Rattle.ks_record.specs.declared.record.PartId.{PartId}
+use Rattle.ks_record.specs.declared.record.TaskId.{TaskId}
 use Rattle.ks_wire.specs.Spelling.{time_key}
 use Rattle.ks_wire.specs.Reading.{agg_from, subscriber_from, time_from, window_key_from, subscription_key_from}
 use Rattle.ks_wire.specs.declared.values.Agg.{Agg}
@@ -43,7 +43,7 @@ use Rattle.ks_def_tasks.proofs.Hashes.{hashes_agree}
 use Rattle.ks_def_tasks.proofs.Windowed.{counts_agree, times_agree}
 use Rattle.ks_def_tasks.proofs.Same.{bytes-is}
 use Rattle.ks_def_tasks.proofs.Told.{tells}
-use Rattle.ks_law_quiescence.proofs.Placed.{Owned}
+use Rattle.ks_law_topology.proofs.Placed.{Owned}
 use Rattle.ks_law_topology.specs.Spelled.{IfThere}
 use Rattle.ks_law_topology.proofs.Writes.{comes, owned as items_owned}
 use Rattle.ks_law_kinds.specs.OfKind.{spells, is_counted, is_stored, is_of, is_of_kind, is_in_range}

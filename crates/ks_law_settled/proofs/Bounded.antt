@@ -6,13 +6,13 @@ use Rattle.std.proofs.Math.Nat.{div-mul-le_self, mul-le-mul_right}
 use Rattle.std.proofs.lemmas.Bool.{and_parts, cases_lt, le-ltb, leb-true, ltb-false}
 use Rattle.std.proofs.lemmas.List.Sums.{fold-append}
 use Rattle.std.proofs.lemmas.List.Elements.{filter-append}
-use Rattle.ks_row.specs.declared.record.TaskId.{TaskId}
+use Rattle.ks_record.specs.declared.record.TaskId.{TaskId}
 use Rattle.ks_plan.specs.declared.fault.TopoFault.TheVariants.{TooMany, BadWindow}
 use Rattle.ks_plan.specs.Drafts.{Name, OpView, StreamOf, TableOf, FilterOf, MapOf, KeyOf, CountOf, SumOf, WindowedOf, JoinOf, FkJoinOf, NodeView, DraftView}
 use Rattle.ks_plan.specs.Plan.{Plan, Kind, Window, Known, natural, or_number, window_of, is_stream, known_of, learn, known_from, known_at, known_nodes, plan_of}
 use Rattle.ks_plan.specs.Plan.Kind.{StreamSource, TableSource, StreamFilter, TableFilter, StreamMap, TableMap, KeySelected, StreamAggregate, TableAggregate, Windowed, KeyJoin, ForeignKeyJoin}
 use Rattle.ks_plan.specs.Faults.{Line, first_fitting, first_of, any_past, node_table, nodes_fault, size_lines, print_fault, window_lines, is_window, is_time, is_advance, int_or}
-use Rattle.ks_law_quiescence.specs.WellFormed.{IsWellFormed}
+use Rattle.ks_law_topology.specs.WellFormed.{IsWellFormed}
 use Rattle.ks_law_settled.proofs.Printed.{none_of, not_first, of_not, map-append, map_length}
 use Rattle.ks_law_settled.proofs.Parts.{group_none}
 use Rattle.ks_def_runs.specs.FinMap as fin

@@ -7,10 +7,10 @@ use Rattle.std.specs.Cmp.{tied_itself}
 use Rattle.std.specs.Cmp.Lexicographic.{nat_list_cmp_total}
 use Rattle.std.proofs.lemmas.Bool.{and_parts, and_from, eqb-true, true≢false, cases_lt}
 use Rattle.std.proofs.lemmas.Bool.Decides.{Decides-eqb}
-use Rattle.ks_row.specs.Records.{Record as Rec}
-use Rattle.ks_row.specs.declared.record.PartId.{PartId}
-use Rattle.ks_row.specs.declared.record.TaskId.{TaskId}
-use Rattle.ks_row.specs.Parts.{same_part}
+use Rattle.ks_record.specs.Records.{Record as Rec}
+use Rattle.ks_record.specs.declared.record.PartId.{PartId}
+use Rattle.ks_record.specs.declared.record.TaskId.{TaskId}
+use Rattle.ks_record.specs.Parts.{same_part}
 use Rattle.ks_expr.specs.declared.terms.JoinKind.{JoinKind}
 use Rattle.ks_expr.specs.Terms.{Set}
 use Rattle.ks_expr.specs.Eval.{Row, same_bytes}
@@ -51,7 +51,7 @@ use Rattle.ks_law_topology.specs.Work.{setup_of}
 use Rattle.ks_law_topology.specs.Placing.{stands}
 use Rattle.ks_law_topology.proofs.Placing.{decided_stand}
 use Rattle.ks_law_topology.proofs.Networks.{works_are_networks}
-use Rattle.ks_law_topology.proofs.Writes.{row_itself}
+use Rattle.ks_def_tasks.proofs.Itself.{row_itself}
 use Rattle.ks_law_settled.specs.Folded.{log_part}
 use Rattle.ks_law_settled.specs.Jobs.{produced_of, FitInputs, FitsInput}
 use Rattle.ks_law_settled.proofs.Lists.{at_node, all_up_to}

@@ -1,8 +1,8 @@
 -- The decoded run of a settled journal is at rest, and its stores are the folds of the changelogs.
 use Rattle.std.proofs.Common.{◌≡◌, ℕ, List, None, cond, refl, sym, ap, ◌∙◌}
 use Rattle.std.specs.Prelude.{option_and_then}
-use Rattle.ks_row.specs.declared.record.TaskId.{TaskId}
-use Rattle.ks_row.specs.Parts.{same_task}
+use Rattle.ks_record.specs.declared.record.TaskId.{TaskId}
+use Rattle.ks_record.specs.Parts.{same_task}
 use Rattle.ks_expr.specs.declared.terms.JoinKind.{JoinKind}
 use Rattle.ks_expr.specs.Terms.{Set}
 use Rattle.ks_expr.specs.declared.terms.Fk.{Fk}
@@ -23,8 +23,8 @@ use Rattle.ks_def_tasks.specs.Collision.{IsNode, NoCollision}
 use Rattle.ks_def_tasks.proofs.Names.{same_task-is}
 use Rattle.ks_law_quiescence.specs.States.{row_at, home_task, State as RunOf}
 use Rattle.ks_law_quiescence.specs.AtRest.{IsQuery}
-use Rattle.ks_law_quiescence.proofs.Fits.{Fits, node_stands}
-use Rattle.ks_law_quiescence.proofs.WellFormed.{well_formed_fits}
+use Rattle.ks_law_topology.proofs.Fits.{Fits, node_stands}
+use Rattle.ks_law_topology.proofs.WellFormed.{well_formed_fits}
 use Rattle.ks_law_fk_quiescence.specs.AtRest.{subscriber_for}
 use Rattle.ks_law_fk_quiescence.proofs.TableInputs.{table_inputs}
 use Rattle.ks_law_fk_quiescence.proofs.TablesRest.{tables_rest}

@@ -1,7 +1,7 @@
 -- The records that a job's run begins with, and none of changelogs.
 use Rattle.std.proofs.Common.{◌≡◌, ℕ, true, false, cond, ◌&&◌, List, [], ◌∷◌, map, refl, sym, ap, ◌∙◌, nat_eq}
 use Rattle.std.specs.List.{filter}
-use Rattle.ks_row.specs.Parts.{same_part}
+use Rattle.ks_record.specs.Parts.{same_part}
 use Rattle.ks_plan.specs.declared.node.Topic.{Topic}
 use Rattle.ks_plan.specs.declared.node.Topic.TheVariants.{Input as InputTopic, Changelog, HashChangelog}
 use Rattle.ks_plan.specs.Plan.{Plan}
@@ -15,7 +15,7 @@ use Rattle.ks_def_tasks.specs.Messages.{Place, Rules}
 use Rattle.ks_def_tasks.specs.Tasks.{part_of_key, item_of_input, stands_at, inputs_of, is_changelog}
 use Rattle.ks_def_tasks.specs.Bytes.{part_id, records_at}
 use Rattle.ks_def_tasks.proofs.Each.{AllOf}
-use Rattle.ks_law_quiescence.proofs.Fits.{Fits}
+use Rattle.ks_law_topology.proofs.Fits.{Fits}
 use Rattle.ks_law_topology.specs.Work.{setup_of}
 use Rattle.ks_law_kinds.specs.OfKind.{is_in_range}
 use Rattle.ks_law_settled.specs.Jobs.{produced_part, produced_rec, produced_of, produces, FitsInput, FitInputs}

@@ -5,9 +5,9 @@ use Rattle.std.specs.List.{filter, AllByRecursion}
 use Rattle.std.proofs.lemmas.Option.{get_or_from_slice_get}
 use Rattle.std.proofs.lemmas.Bool.{and_parts, or_cases, true≢false}
 use Rattle.std.proofs.lemmas.Bool.Decides.{Decides-eqb}
-use Rattle.ks_row.specs.Records.{Record as Rec}
-use Rattle.ks_row.specs.declared.record.PartId.{PartId}
-use Rattle.ks_row.specs.Parts.{same_part}
+use Rattle.ks_record.specs.Records.{Record as Rec}
+use Rattle.ks_record.specs.declared.record.PartId.{PartId}
+use Rattle.ks_record.specs.Parts.{same_part}
 use Rattle.ks_plan.specs.declared.node.Topic.{Topic}
 use Rattle.ks_plan.specs.declared.node.Topic.TheVariants.{Input as InputTopic, Repartition, Subscriptions, Responses, Changelog, HashChangelog}
 use Rattle.ks_plan.specs.Plan.{Plan, Kind}
@@ -25,7 +25,7 @@ use Rattle.ks_def_tasks.specs.Messages.{Place, Rules, Item}
 use Rattle.ks_def_tasks.specs.Tasks.{part_of_key, item_of_input, stands_at, inputs_of}
 use Rattle.ks_def_tasks.specs.Bytes.{rec_of, part_id, records_at}
 use Rattle.ks_def_tasks.proofs.Names.{topic-is}
-use Rattle.ks_law_quiescence.proofs.Fits.{Fits, NodeFits, EachFits, Sourced}
+use Rattle.ks_law_topology.proofs.Fits.{Fits, NodeFits, EachFits, Sourced}
 use Rattle.ks_law_topology.specs.Work.{setup_of}
 use Rattle.ks_law_settled.specs.Jobs.{produced_part, produced_rec, produced_of, produces_by, produces, FitsInput, FitInputs}
 use Rattle.ks_def_tasks.proofs.Each.{AllOf, all_both}

@@ -3,10 +3,10 @@ use Rattle.std.proofs.Common.{◌≡◌, ◌≢◌, ℕ, ◌≤◌, Bool, true, 
 use Rattle.std.specs.Prelude.{◌==◌, nat_lt}
 use Rattle.std.specs.List.{filter}
 use Rattle.std.proofs.lemmas.Bool.{and_parts, ltb-true}
-use Rattle.ks_row.specs.Records.{Record as Rec}
-use Rattle.ks_row.specs.declared.record.PartId.{PartId}
-use Rattle.ks_row.specs.declared.record.TaskId.{TaskId}
-use Rattle.ks_row.specs.Parts.{same_part}
+use Rattle.ks_record.specs.Records.{Record as Rec}
+use Rattle.ks_record.specs.declared.record.PartId.{PartId}
+use Rattle.ks_record.specs.declared.record.TaskId.{TaskId}
+use Rattle.ks_record.specs.Parts.{same_part}
 use Rattle.ks_plan.specs.declared.node.Topic.{Topic}
 use Rattle.ks_plan.specs.Plan.{Plan, plan_of}
 use Rattle.ks_plan.specs.Layout.{topics_of, topic_at, number_of, parts_of_topic, reads, tasks, by_node, changelogs_of}
@@ -19,7 +19,7 @@ use Rattle.ks_def_runs.specs.Run.{sent_to}
 use Rattle.ks_history.specs.Machine.{network, part_of, has_topic}
 use Rattle.ks_history.specs.State.{IsPart, IsSetup, has_task}
 use Rattle.ks_history.proofs.Names.{same_part-is}
-use Rattle.ks_law_quiescence.proofs.Each.{Each, each_nothing, each_first, each_parts, Each-append}
+use Rattle.ks_law_topology.proofs.Each.{Each, each_nothing, each_first, each_parts, Each-append}
 use Rattle.ks_law_topology.specs.Work.{work_of, setup_of}
 use Rattle.ks_law_topology.proofs.Setups.{setups_are_made}
 use Rattle.ks_law_topology.proofs.Writes.{Through, through_all}

@@ -13,7 +13,7 @@ use Rattle.ks_plan.specs.Plan.{Kind, Known, is_stream, wiring_of, known_of, lear
 use Rattle.ks_plan.specs.Plan.Kind.{StreamSource, TableSource, StreamFilter, TableFilter, StreamMap, TableMap, KeySelected, StreamAggregate, TableAggregate, Windowed, KeyJoin, ForeignKeyJoin}
 use Rattle.ks_plan.specs.Layout.{at, wired_parts, node_parts}
 use Rattle.ks_plan.specs.Faults.{Line, first_fitting, first_of, has_name, names_of, names_of_topics, inputs_in, topics_in, unknown_lines, node_table, nodes_fault, size_lines, print_fault}
-use Rattle.ks_law_quiescence.specs.WellFormed.{IsWellFormed}
+use Rattle.ks_law_topology.specs.WellFormed.{IsWellFormed}
 use Rattle.ks_def_tasks.proofs.Same.{bytes-is}
 use Rattle.ks_law_settled.specs.Jobs.{NodesHaveParts}
 use Rattle.ks_law_settled.proofs.Printed.{none_of, not_first, of_not, map-append, map_length, number_within}

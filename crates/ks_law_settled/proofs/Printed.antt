@@ -9,7 +9,7 @@ use Rattle.ks_plan.specs.Drafts.{Topics, Name, NodeView, DraftView}
 use Rattle.ks_plan.specs.Plan.{Known, gives_stream, is_stream, known_of, learn, known_from, known_names, known_nodes, name_place, node_number, plan_of, nothing_known}
 use Rattle.ks_plan.specs.Layout.{kind_at, no_kind}
 use Rattle.ks_plan.specs.Faults.{Line, first_fitting, has_name, names_of, wiring_in, nodes_fault, print_lines, printed_fault, print_fault, size_lines}
-use Rattle.ks_law_quiescence.specs.WellFormed.{IsWellFormed}
+use Rattle.ks_law_topology.specs.WellFormed.{IsWellFormed}
 
 pub none_of : {A : Type 0} (x y : Option A) → option_or x y ≡ None → (x ≡ None) × (y ≡ None)
 none_of None y e = (refl, e)

@@ -12,8 +12,8 @@ use Rattle.ks_plan.specs.Layout.{at, up_to, sub_of, sub_count, parts_of, parts_o
 use Rattle.ks_plan.specs.Infos.{input_numbers}
 use Rattle.ks_history.specs.Machine.{has_topic}
 use Rattle.ks_history.specs.State.{has_task}
-use Rattle.ks_law_quiescence.proofs.Fits.{Fits, NodeFits, EachFits, Sourced, each_at, node_stands}
-use Rattle.ks_law_quiescence.proofs.WellFormed.{well_formed_fits}
+use Rattle.ks_law_topology.proofs.Fits.{Fits, NodeFits, EachFits, Sourced, each_at, node_stands}
+use Rattle.ks_law_topology.proofs.WellFormed.{well_formed_fits}
 use Rattle.ks_law_settled.proofs.Tasks.{has_node_task}
 use Rattle.ks_law_settled.specs.Routes.{PartitionsAreRead}
 use Rattle.ks_law_settled.proofs.Nodes.{Among, among_either, among_at, named, Located, located}

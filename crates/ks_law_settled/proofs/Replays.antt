@@ -1,9 +1,9 @@
 -- The states of a journal's replay, over bytes and decoded.
 use Rattle.std.proofs.Common.{◌≡◌, ℕ, zero, suc, List, [], ◌∷◌, map, take, slice_get, Option, Some, refl, ap, ap₂, subst, ◌∙◌}
 use Rattle.std.specs.Prelude.{option_map}
-use Rattle.ks_row.specs.Records.{Record as Rec}
-use Rattle.ks_row.specs.declared.record.PartId.{PartId}
-use Rattle.ks_row.specs.declared.record.TaskId.{TaskId}
+use Rattle.ks_record.specs.Records.{Record as Rec}
+use Rattle.ks_record.specs.declared.record.PartId.{PartId}
+use Rattle.ks_record.specs.declared.record.TaskId.{TaskId}
 use Rattle.ks_plan.specs.Drafts.{DraftView}
 use Rattle.ks_plan.specs.Plan.{Plan, plan_of}
 use Rattle.ks_plan.specs.Layout.{drain_order}
@@ -23,8 +23,8 @@ use Rattle.ks_def_tasks.specs.Tasks.{taker, step, inputs_of}
 use Rattle.ks_def_tasks.specs.Bytes.{ByteStores, is_sent, store_from, rec_of}
 use Rattle.ks_def_tasks.proofs.Each.{AllOf}
 use Rattle.ks_law_quiescence.specs.States.{State, state_of}
-use Rattle.ks_law_quiescence.proofs.Fits.{Fits}
-use Rattle.ks_law_quiescence.proofs.WellFormed.{well_formed_fits}
+use Rattle.ks_law_topology.proofs.Fits.{Fits}
+use Rattle.ks_law_topology.proofs.WellFormed.{well_formed_fits}
 use Rattle.ks_law_topology.specs.Work.{setup_of, IsOfJoin}
 use Rattle.ks_law_topology.proofs.Networks.{works_are_networks}
 use Rattle.ks_law_topology.proofs.Kept.{nothing_is_held_back}

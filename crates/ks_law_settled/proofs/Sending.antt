@@ -20,8 +20,8 @@ use Rattle.ks_def_tasks.specs.Foreign.{Sending, subscriptions, answer_all}
 use Rattle.ks_def_tasks.specs.Step.{Arrival, Sent, Written, Values, row_in, changed, arrived, step_key, sends_at, join_sends, regroup, keyed_to, send_deltas, send_subscriptions, send_responses, answer_one, write_all, value_changes, counted_at, hash_changes, changes_at, over_nodes, items_from, olds_at, news_at, value_at, values_from}
 use Rattle.ks_def_tasks.specs.Tasks.{is_changelog}
 use Rattle.ks_def_tasks.proofs.Names.{topic-is}
-use Rattle.ks_law_quiescence.proofs.Each.{Each, each_nothing, each_first, Each-append, Each-cond}
-use Rattle.ks_law_topology.proofs.Writes.{nothing_changes}
+use Rattle.ks_law_topology.proofs.Each.{Each, each_nothing, each_first, Each-append, Each-cond}
+use Rattle.ks_def_tasks.proofs.Itself.{nothing_changes}
 use Rattle.ks_law_settled.proofs.Nodes.{Among, among_left, among_right, Located, located, subscribed_keeps}
 
 module _ (rules : Rules) (p : Plan) (a : Arrival) (there : Among a.topic (topics_of p)) (st : Store) where

@@ -5,9 +5,9 @@ use Rattle.std.specs.Ordering.{eq_by_cmp}
 use Rattle.std.specs.Cmp.Lexicographic.{nat_list_cmp_total}
 use Rattle.std.proofs.lemmas.Bool.{true≢false}
 use Rattle.std.proofs.lemmas.Bool.Decides.{Decides-eqb}
-use Rattle.ks_row.specs.Texts.{IsKey}
+use Rattle.ks_record.specs.Texts.{IsKey}
 use Rattle.ks_row.specs.Spelling.{FitsRow}
-use Rattle.ks_row.specs.declared.record.TaskId.{TaskId}
+use Rattle.ks_record.specs.declared.record.TaskId.{TaskId}
 use Rattle.ks_wire.specs.declared.values.Delta.{Delta}
 use Rattle.ks_wire.specs.declared.values.Response.{Response}
 use Rattle.ks_wire.specs.declared.values.Agg.{Agg}
@@ -38,10 +38,11 @@ use Rattle.ks_def_tasks.specs.Tasks.{arrival, step, taker, sent_item, written_it
 use Rattle.ks_def_tasks.specs.Bytes.{ByteStores, store_from, table_from, hashes_from}
 use Rattle.ks_def_tasks.proofs.Each.{AllOf, all_append, all_cond}
 use Rattle.ks_def_tasks.proofs.Names.{topic-is}
-use Rattle.ks_law_quiescence.proofs.Placed.{Owned}
+use Rattle.ks_law_topology.proofs.Placed.{Owned}
 use Rattle.ks_law_topology.specs.Spelled.{IfThere}
 use Rattle.ks_law_topology.proofs.Rows.{project_fits, joined_fits}
-use Rattle.ks_law_topology.proofs.Writes.{kept, OfSub, written_all, row_itself}
+use Rattle.ks_law_topology.proofs.Writes.{kept, OfSub, written_all}
+use Rattle.ks_def_tasks.proofs.Itself.{row_itself}
 use Rattle.ks_law_kinds.specs.OfKind.{is_in_range}
 use Rattle.ks_law_topology.specs.Work.{FitsRules, IsOfJoin}
 use Rattle.ks_law_kinds.specs.Fitting.{FitsKind, holds_kind, FitsFk}
@@ -63,9 +64,9 @@ use Rattle.ks_wire.specs.declared.values.Subscriber.{Subscriber}
 use Rattle.ks_plan.specs.declared.node.Spread.{Spread}
 use Rattle.ks_plan.specs.Drafts.{Name}
 use Rattle.ks_expr.specs.Keys.{fk_of}
-use Rattle.ks_law_quiescence.proofs.Each.{Each, each_parts}
-use Rattle.ks_law_quiescence.proofs.Entries.{each_entry}
-use Rattle.ks_law_quiescence.proofs.Fits.{Beside}
+use Rattle.ks_law_topology.proofs.Each.{Each, each_parts}
+use Rattle.ks_law_topology.proofs.Entries.{each_entry}
+use Rattle.ks_law_topology.proofs.Fits.{Beside}
 use Rattle.ks_def_tasks.specs.Messages.Instruction.{Delete, DeleteAndAnswer, Answer}
 use Rattle.ks_def_tasks.specs.Step.To.{Named}
 use Rattle.ks_def_runs.specs.Table.{write}

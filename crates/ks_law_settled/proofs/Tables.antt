@@ -7,10 +7,10 @@ use Rattle.std.specs.FinMap.{slice_cmp-IsAntisymmetric, nat_cmp-IsAntisymmetric}
 use Rattle.std.proofs.lemmas.List.{length-map}
 use Rattle.std.proofs.lemmas.Bool.{eq-eqb}
 use Rattle.std.proofs.lemmas.Bool.Decides.{Decides-eqb}
-use Rattle.ks_row.specs.Texts.{key_from}
-use Rattle.ks_row.specs.Records.{Record as Rec}
-use Rattle.ks_row.specs.declared.record.TaskId.{TaskId}
-use Rattle.ks_row.specs.Parts.{same_task}
+use Rattle.ks_record.specs.Texts.{key_from}
+use Rattle.ks_record.specs.Records.{Record as Rec}
+use Rattle.ks_record.specs.declared.record.TaskId.{TaskId}
+use Rattle.ks_record.specs.Parts.{same_task}
 use Rattle.ks_expr.specs.Eval.{Row}
 use Rattle.ks_plan.specs.Drafts.{Name, DraftView}
 use Rattle.ks_plan.specs.Plan.{Plan, Kind, Window, plan_of, known_nodes, node_number, is_stream, is_windowed}
@@ -47,8 +47,8 @@ use Rattle.ks_def_tasks.proofs.Each.{AllOf}
 use Rattle.ks_law_quiescence.specs.States.{home_task, State as RunOf}
 use Rattle.ks_law_quiescence.specs.AtRest.{IsQuery}
 use Rattle.ks_law_quiescence.specs.Windows.{late_pairs, late_of_windows, late_of_nodes}
-use Rattle.ks_law_quiescence.proofs.Fits.{Fits, node_stands}
-use Rattle.ks_law_quiescence.proofs.WellFormed.{well_formed_fits}
+use Rattle.ks_law_topology.proofs.Fits.{Fits, node_stands}
+use Rattle.ks_law_topology.proofs.WellFormed.{well_formed_fits}
 use Rattle.ks_law_quiescence.proofs.WindowGroups.{window_total, window_same}
 use Rattle.ks_law_quiescence.proofs.WindowsRest.{window_rests}
 use Rattle.ks_law_quiescence.proofs.LateTotals.{late_is_all}

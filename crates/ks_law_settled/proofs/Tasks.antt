@@ -6,14 +6,14 @@ use Rattle.std.proofs.lemmas.List.{length-map}
 use Rattle.std.proofs.lemmas.List.Concat.{flat_map-cons}
 use Rattle.std.proofs.lemmas.Option.{slice_get_within}
 use Rattle.std.proofs.lemmas.Bool.{eqb-true, eq-eqb, true≢false, or_cases, or_left, or_right}
-use Rattle.ks_row.specs.declared.record.TaskId.{TaskId}
-use Rattle.ks_row.specs.Parts.{same_task}
+use Rattle.ks_record.specs.declared.record.TaskId.{TaskId}
+use Rattle.ks_record.specs.Parts.{same_task}
 use Rattle.ks_plan.specs.Plan.{Plan}
 use Rattle.ks_plan.specs.Layout.{up_to, sub_of, sub_count, parts_of, subs, first_in, sub_parts, tasks_in, tasks}
 use Rattle.ks_history.specs.Machine.{has_topic}
 use Rattle.ks_history.specs.State.{has_task}
 use Rattle.ks_history.proofs.Names.{same_task-refl}
-use Rattle.ks_law_quiescence.proofs.Fits.{Fits}
+use Rattle.ks_law_topology.proofs.Fits.{Fits}
 use Rattle.ks_law_topology.proofs.Labels.{one_count, sub_within}
 use Rattle.ks_def_tasks.proofs.Numbered.{length_up_to, get_up_to, get_map, first_has}
 

@@ -3,8 +3,8 @@ use Rattle.std.proofs.Common.{◌≡◌, ℕ, zero, suc, ◌+◌, Bool, true, fa
 use Rattle.std.specs.List.{filter}
 use Rattle.std.proofs.lemmas.Option.{get_or_from_slice_get}
 use Rattle.std.proofs.lemmas.Bool.{and_parts}
-use Rattle.ks_row.specs.declared.record.TaskId.{TaskId}
-use Rattle.ks_row.specs.Parts.{same_task}
+use Rattle.ks_record.specs.declared.record.TaskId.{TaskId}
+use Rattle.ks_record.specs.Parts.{same_task}
 use Rattle.ks_expr.specs.Eval.{Row}
 use Rattle.ks_expr.specs.declared.terms.Fk.{Fk}
 use Rattle.ks_plan.specs.Drafts.{Name}
@@ -31,9 +31,9 @@ use Rattle.ks_def_tasks.specs.Tasks.{arrival, machine, step, inputs_of, item_of_
 use Rattle.ks_def_tasks.proofs.Each.{AllOf, all_append, all_cond}
 use Rattle.ks_def_tasks.proofs.Names.{same_place-is}
 use Rattle.ks_law_quiescence.specs.States.{State, state_of}
-use Rattle.ks_law_quiescence.proofs.Fits.{Fits, NodeFits, EachFits}
-use Rattle.ks_law_quiescence.proofs.Placed.{topic-is}
-use Rattle.ks_law_quiescence.proofs.WellFormed.{well_formed_fits}
+use Rattle.ks_law_topology.proofs.Fits.{Fits, NodeFits, EachFits}
+use Rattle.ks_law_topology.proofs.Placed.{topic-is}
+use Rattle.ks_law_topology.proofs.WellFormed.{well_formed_fits}
 use Rattle.ks_law_quiescence.proofs.WindowsRest as rest
 use Rattle.ks_law_settled.specs.InTime.{AtMost, TimesAreOfItems, NothingIsLate}
 use Rattle.ks_law_settled.proofs.Members.{all_in, item_in, HasTime, has_time, at_most, is_open_then}

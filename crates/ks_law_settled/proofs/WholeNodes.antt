@@ -12,7 +12,7 @@ use Rattle.ks_plan.specs.Infos.{changelog_numbers}
 use Rattle.ks_history.specs.Machine.{has_topic}
 use Rattle.ks_def_tasks.specs.Bytes.{is_own_number}
 use Rattle.ks_def_tasks.proofs.Each.{AllOf, all_filter, all_both}
-use Rattle.ks_law_quiescence.proofs.Fits.{Fits, NodeFits, EachFits}
+use Rattle.ks_law_topology.proofs.Fits.{Fits, NodeFits, EachFits}
 use Rattle.ks_law_kinds.specs.Fitting.{FitsKind, FitsPlan}
 use Rattle.ks_law_settled.proofs.Lists.{EachNode, each_node, each_both, each_map, of_nodes, by_nodes, all_numbered, Numbered, numbered}
 use Rattle.ks_law_settled.proofs.Topics.{At, found_logs, same_number, number_is}

@@ -2,7 +2,7 @@
 -- KIP-213: a join on a foreign key compares left rows by their hashes alone.
 use Rattle.std.specs.Prelude.{◌≡◌, ℕ, suc, ◌&&◌, not, Bool, false, List, [], ◌∷◌, ◌++◌, Option, Some, None, cond, option_map, nat_eq}
 use Rattle.std.specs.Option.{option_or}
-use Rattle.ks_row.specs.Records.{Record as Rec}
+use Rattle.ks_record.specs.Records.{Record as Rec}
 use Rattle.ks_expr.specs.declared.terms.JoinKind.{JoinKind}
 use Rattle.ks_expr.specs.declared.terms.Fk.{Fk}
 use Rattle.ks_expr.specs.Terms.{Set}

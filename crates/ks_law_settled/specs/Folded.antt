@@ -2,8 +2,8 @@
 -- Kafka Streams developer guide, "KTable", "State stores" and "Windowing": a table is what its changelog says, over all its partitions.
 -- KIP-98: of a changelog the records of committed transactions count.
 use Rattle.std.specs.Prelude.{ℕ, List, map, fold, cond, true, Option, option_map}
-use Rattle.ks_row.specs.Texts.{key_from}
-use Rattle.ks_row.specs.declared.record.PartId.{PartId}
+use Rattle.ks_record.specs.Texts.{key_from}
+use Rattle.ks_record.specs.declared.record.PartId.{PartId}
 use Rattle.ks_plan.specs.Drafts.{Name, DraftView}
 use Rattle.ks_plan.specs.Plan.{Plan, Kind, plan_of, known_nodes, node_number, is_windowed}
 use Rattle.ks_plan.specs.Layout.{up_to, parts_of, kind_at, number_of}

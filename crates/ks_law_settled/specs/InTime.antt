@@ -2,7 +2,7 @@
 -- Kafka Streams developer guide, "Windowing": a record is dropped from a window whose grace period is over in stream time, which is
 -- the greatest time that the task has seen.
 use Rattle.std.specs.Prelude.{◌≡◌, ℕ, ◌≤◌, List, Option, Some, None, Bool}
-use Rattle.ks_row.specs.declared.record.TaskId.{TaskId}
+use Rattle.ks_record.specs.declared.record.TaskId.{TaskId}
 use Rattle.ks_plan.specs.Drafts.{DraftView, Name}
 use Rattle.ks_plan.specs.Plan.{Window, plan_of}
 use Rattle.ks_plan.specs.Plan.Kind.{Windowed}
@@ -11,7 +11,7 @@ use Rattle.ks_query.specs.Query.{query}
 use Rattle.ks_query.specs.Grace.{greatest_time, IsWithinGrace}
 use Rattle.ks_def_tasks.specs.Messages.{Place, Rules}
 use Rattle.ks_def_tasks.specs.Collision.{IsNode}
-use Rattle.ks_law_quiescence.specs.WellFormed.{IsWellFormed}
+use Rattle.ks_law_topology.specs.WellFormed.{IsWellFormed}
 use Rattle.ks_law_quiescence.specs.States.{state_of}
 
 -- of a time that may be absent

@@ -2,9 +2,9 @@
 -- KIP-98: what counts of a journal is what its transactions commit. Kafka Streams developer guide, "State stores": a store is what its
 -- changelog says.
 use Rattle.std.specs.Prelude.{◌≡◌, ℕ, true, List, take, map, Option, Some, None, option_map, slice_get}
-use Rattle.ks_row.specs.Records.{Record as Rec}
-use Rattle.ks_row.specs.declared.record.PartId.{PartId}
-use Rattle.ks_row.specs.declared.record.TaskId.{TaskId}
+use Rattle.ks_record.specs.Records.{Record as Rec}
+use Rattle.ks_record.specs.declared.record.PartId.{PartId}
+use Rattle.ks_record.specs.declared.record.TaskId.{TaskId}
 use Rattle.ks_plan.specs.Drafts.{DraftView}
 use Rattle.ks_plan.specs.Plan.{Plan, plan_of}
 use Rattle.ks_plan.specs.declared.node.Topic.{Topic}

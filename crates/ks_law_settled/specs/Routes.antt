@@ -9,7 +9,7 @@ use Rattle.ks_plan.specs.Infos.{input_numbers}
 use Rattle.ks_history.specs.Machine.{has_topic}
 use Rattle.ks_history.specs.State.{has_task}
 use Rattle.ks_def_tasks.specs.Messages.{Rules}
-use Rattle.ks_law_quiescence.specs.WellFormed.{IsWellFormed}
+use Rattle.ks_law_topology.specs.WellFormed.{IsWellFormed}
 use Rattle.ks_law_topology.specs.Work.{setup_of}
 use Rattle.ks_law_restore.specs.Views.{are_topics_once, SendsInside}
 

@@ -1,11 +1,11 @@
 -- A transaction that may be committed may be committed still after entries of others.
 use Rattle.std.proofs.Common.{◌≡◌, ◌⊎◌, inl, inr, ℕ, ◌≤◌, Bool, true, false, not, cond, List, [], ◌∷◌, ◌++◌, length, Option, Some, None, refl, sym, ap, ap₂, subst, ◌∙◌, arith}
 use Rattle.ks_def_runs.specs.Bytes.{empty_store}
-use Rattle.ks_row.specs.Records.{Record as Rec}
-use Rattle.ks_row.specs.declared.record.PartId.{PartId}
-use Rattle.ks_row.specs.declared.record.TaskId.{TaskId}
-use Rattle.ks_row.specs.declared.assignment.Refused.{Refused}
-use Rattle.ks_row.specs.Parts.{same_task}
+use Rattle.ks_record.specs.Records.{Record as Rec}
+use Rattle.ks_record.specs.declared.record.PartId.{PartId}
+use Rattle.ks_record.specs.declared.record.TaskId.{TaskId}
+use Rattle.ks_record.specs.declared.assignment.Refused.{Refused}
+use Rattle.ks_record.specs.Parts.{same_task}
 use Rattle.ks_def_runs.specs.Run.{Outcome, sent_to}
 use Rattle.ks_history.specs.declared.journal.Request.TheVariants.{Decide}
 use Rattle.ks_history.specs.declared.journal.Entry.{Entry}
@@ -32,7 +32,8 @@ use Rattle.ks_law_sharing.proofs.Rising.{rises, rises_after}
 use Rattle.ks_law_sharing.proofs.Touching.{is_others, untouched_parts}
 use Rattle.ks_law_sharing.proofs.Leaving.{Leaves, IsSame, leaves, leaves_after, is_same, undecided_or, open_same}
 use Rattle.ks_law_sharing.proofs.Places.{AllBelow, behind_of, bound_of}
-use Rattle.ks_law_sharing.proofs.Pending.{IsOne, pending_is as has_is, one_step, one_at, commits_none}
+use Rattle.ks_law_restore.proofs.Owning.{pending_is as has_is}
+use Rattle.ks_law_sharing.proofs.Pending.{IsOne, one_step, one_at, commits_none}
 
 -- the pending offsets of a task are the task's
 found_task : (t : TaskId) (p : Pending) (ps : List Pending) → pending_of t ps ≡ Some p → t ≡ p.task

@@ -2,43 +2,28 @@
 use Rattle.std.proofs.Common.{◌≡◌, ◌≢◌, ◌⊎◌, inl, inr, ℕ, zero, suc, ◌+◌, ◌≤◌, ◌<◌, ◌&&◌, Bool, true, false, not, cond, List, [], ◌∷◌, Option, Some, None, refl, sym, ap, subst, ◌∙◌, arith, ⊎_elim}
 use Rattle.std.specs.Prelude.{◌==◌}
 use Rattle.std.proofs.lemmas.Bool.{eqb-true, eq-eqb, ne_eqb, true≢false, cases_lt}
-use Rattle.ks_row.specs.declared.record.TaskId.{TaskId}
-use Rattle.ks_row.specs.declared.assignment.Refused.{Refused}
-use Rattle.ks_row.specs.declared.assignment.Refused.TheVariants.{Unstable, NotAssigned}
-use Rattle.ks_row.specs.declared.assignment.Assignment.{Assignment}
-use Rattle.ks_row.specs.declared.assignment.Marker.{Marker}
-use Rattle.ks_row.specs.Parts.{same_task, task_lt}
+use Rattle.ks_record.specs.declared.record.TaskId.{TaskId}
+use Rattle.ks_record.specs.declared.assignment.Refused.{Refused}
+use Rattle.ks_record.specs.declared.assignment.Refused.TheVariants.{Unstable}
+use Rattle.ks_record.specs.declared.assignment.Assignment.{Assignment}
+use Rattle.ks_record.specs.declared.assignment.Marker.{Marker}
+use Rattle.ks_record.specs.Parts.{same_task, task_lt}
 use Rattle.ks_history.specs.declared.partition.Slot.TheVariants.{Mark}
 use Rattle.ks_history.specs.declared.journal.Request.{Request}
 use Rattle.ks_history.specs.declared.journal.Request.TheVariants.{Produce, Init, Add, Append, SendOffsets, Decide, MarkNext, Join, Expire, Hold, Probe, Assign, Park, Unpark}
 use Rattle.ks_history.specs.declared.journal.Entry.{Entry}
 use Rattle.ks_history.specs.declared.transaction.Pending.{Pending}
 use Rattle.ks_history.specs.declared.transaction.Producer.{Producer}
-use Rattle.ks_history.specs.declared.transaction.Transaction.{Transaction}
 use Rattle.ks_history.specs.Partition.{is_none}
 use Rattle.ks_history.specs.State.{State, Setup, start, with_number, grown, pending_of, with_pending, without_number}
 use Rattle.ks_history.specs.Step.{refusal, state_by, after, pending_at, has_pending, owner, not_assigned, fenced, old_generation, or_else, markers_waiting, unstable_beside, unstable_from, renewed, closed, can_expire, tx_of}
 use Rattle.ks_history.specs.History.{state_after, at, Each, IsStep, IsHistory, Meets}
 use Rattle.ks_history.proofs.Names.{same_task-is}
-use Rattle.ks_law_exactly_once.proofs.Quiet.{tx_pending}
 use Rattle.ks_law_exactly_once.proofs.Refusals.{both_none, closed_undecided}
 use Rattle.ks_law_restore.specs.Commits.{commit_by, commits_by}
 use Rattle.ks_law_sharing.specs.Others.{NoneElsewhere, OnePending}
 use Rattle.ks_law_sharing.proofs.Touching.{IsOthers}
-
--- ---- what is pending at a producer
-pub pending_is : (p : Producer) (t : TaskId) → has_pending p t ≡ not (is_none (pending_of t (pending_at p)))
-pending_is p t = by p.undecided
-  where
-    by : (u : Option Transaction) → (elim u as (λ _. Bool) [ None ↦ false | Some tx ↦ not (is_none (pending_of t tx.pending)) ]) ≡ not (is_none (pending_of t (elim u as (λ _. List Pending) [ None ↦ [] | Some tx ↦ tx.pending ])))
-    by None = refl
-    by (Some tx) = refl
-
-pending_tx : (p : Producer) (t : TaskId) → has_pending p t ≡ not (is_none (pending_of t (tx_of p).pending))
-pending_tx p t = pending_is p t ∙ ap (λ l. not (is_none (pending_of t l))) (tx_pending p)
-
-none_left : (p : Producer) (t : TaskId) → p.undecided ≡ None → has_pending p t ≡ false
-none_left p t h = ap (λ (u : Option Transaction). elim u as (λ _. Bool) [ None ↦ false | Some tx ↦ not (is_none (pending_of t tx.pending)) ]) h
+use Rattle.ks_law_restore.proofs.Owning.{pending_is, pending_tx, none_left, is_owner}
 
 -- offsets of another task
 other_pending : (t : TaskId) (new : Pending) (ps : List Pending) → same_task t new.task ≡ false → pending_of t (with_pending new ps) ≡ pending_of t ps
@@ -52,19 +37,6 @@ other_pending t new (p ∷ ps) ne = by (same_task new.task p.task) (task_lt new.
     by true b is e = first ps ∙ ap (λ c. cond c (Some p) (pending_of t ps)) (sym (ap (same_task t) (sym (same_task-is new.task p.task is)) ∙ ne))
     by false true is e = first (p ∷ ps)
     by false false is e = ap (λ o. cond (same_task t p.task) (Some p) o) e
-
--- ---- what tells that offsets may be sent
--- the worker is the owner
-pub is_owner : (s : State) (v : ℕ) (t : TaskId) → not_assigned s v t ≡ None → owner s t ≡ Some v
-is_owner s v t h = by (owner s t) refl h
-  where
-    by : (o : Option ℕ) → owner s t ≡ o → (elim o as (λ _. Option Refused) [ None ↦ Some (NotAssigned None) | Some k ↦ cond (k == v) None (Some (NotAssigned (Some k))) ]) ≡ None → owner s t ≡ Some v
-    by None e g = absurd cc
-    by (Some k) e g = same (k == v) refl g
-      where
-        same : (b : Bool) → (k == v) ≡ b → cond b None (Some (NotAssigned (Some k))) ≡ None → owner s t ≡ Some v
-        same true is l = e ∙ ap (λ n. Some n) (eqb-true k v is)
-        same false is l = absurd cc
 
 -- the producers beyond the last have nothing pending
 abbrev pub IsFew : State → TaskId → Type 0

@@ -2,9 +2,9 @@
 use Rattle.std.proofs.Common.{◌≡◌, ℕ, ◌+◌, ◌≤◌, ◌<◌, Bool, true, false, cond, List, [], ◌∷◌, ◌++◌, length, Some, None, refl, sym, ap, subst, ◌∙◌, arith, append_assoc, ⊎_elim}
 use Rattle.std.specs.Prelude.{◌==◌}
 use Rattle.std.proofs.lemmas.Bool.{eqb-true, cases_lt}
-use Rattle.ks_row.specs.declared.record.PartId.{PartId}
-use Rattle.ks_row.specs.declared.record.TaskId.{TaskId}
-use Rattle.ks_row.specs.declared.assignment.Refused.TheVariants.{OldGeneration}
+use Rattle.ks_record.specs.declared.record.PartId.{PartId}
+use Rattle.ks_record.specs.declared.record.TaskId.{TaskId}
+use Rattle.ks_record.specs.declared.assignment.Refused.TheVariants.{OldGeneration}
 use Rattle.ks_history.specs.declared.journal.Entry.{Entry}
 use Rattle.ks_history.specs.declared.partition.Slot.{Slot}
 use Rattle.ks_history.specs.declared.partition.Slot.TheVariants.{Plain, Sent, Mark}
@@ -29,7 +29,8 @@ use Rattle.ks_law_restore.proofs.Offsets.{below_in}
 use Rattle.ks_law_restore.proofs.Replicas.{restored_stands}
 use Rattle.ks_history.specs.Touched.{touched}
 use Rattle.ks_law_sharing.specs.Tasks.{IsAssigned, RestoredIsActive}
-use Rattle.ks_law_sharing.proofs.Pending.{is_owner, none_counted, one_at}
+use Rattle.ks_law_restore.proofs.Owning.{is_owner}
+use Rattle.ks_law_sharing.proofs.Pending.{none_counted, one_at}
 use Rattle.ks_law_sharing.proofs.Assigned.{assigned_stays, is_untouched}
 
 -- ---- what an answer of committed offsets tells

@@ -1,7 +1,7 @@
 -- Active tasks of a worker among others (KIP-441: active tasks, restoring; KIP-447: a generation of the group fences its members).
 use Rattle.std.specs.Prelude.{◌≡◌, ◌≤◌, ℕ, true, false, Some, None, List, ◌++◌}
 use Rattle.ks_def_runs.specs.Bytes.{empty_store}
-use Rattle.ks_row.specs.declared.record.TaskId.{TaskId}
+use Rattle.ks_record.specs.declared.record.TaskId.{TaskId}
 use Rattle.ks_history.specs.declared.journal.Entry.{Entry}
 use Rattle.ks_history.specs.Machine.{IsNetwork, part_of, has_topic}
 use Rattle.ks_history.specs.State.{State, Setup}

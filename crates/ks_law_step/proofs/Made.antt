@@ -5,10 +5,10 @@ use Rattle.std.specs.List.{filter, flat_map}
 use Rattle.std.proofs.Math.Path.{fun_ext}
 use Rattle.std.proofs.lemmas.Bool.{true≢false}
 use Rattle.std.proofs.lemmas.Bool.Decides.{Decides-eqb}
-use Rattle.ks_row.specs.Records.{Record as Rec}
-use Rattle.ks_row.specs.declared.record.PartId.{PartId}
-use Rattle.ks_row.specs.declared.record.TaskId.{TaskId}
-use Rattle.ks_row.specs.Texts.{IsKey, key_from}
+use Rattle.ks_record.specs.Records.{Record as Rec}
+use Rattle.ks_record.specs.declared.record.PartId.{PartId}
+use Rattle.ks_record.specs.declared.record.TaskId.{TaskId}
+use Rattle.ks_record.specs.Texts.{IsKey, key_from}
 use Rattle.ks_row.specs.Reading.{◌>>=◌}
 use Rattle.ks_row.proofs.Spelled.{key_again, key_takes}
 use Rattle.ks_def_runs.specs.FinMap as fin
@@ -40,9 +40,9 @@ use Rattle.ks_def_tasks.specs.Bytes.{ByteStores, outcome_of, is_own, is_sent, pa
 use Rattle.ks_def_tasks.specs.Laws.{AreBytes, AllBelow}
 use Rattle.ks_def_tasks.proofs.Keys.{key_read}
 use Rattle.ks_def_tasks.proofs.Agree.{is_decoded}
-use Rattle.ks_law_quiescence.proofs.Fits.{Fits, NodeFits, EachFits}
-use Rattle.ks_law_quiescence.proofs.Placed.{Owned}
-use Rattle.ks_law_quiescence.proofs.WellFormed.{well_formed_fits}
+use Rattle.ks_law_topology.proofs.Fits.{Fits, NodeFits, EachFits}
+use Rattle.ks_law_topology.proofs.Placed.{Owned}
+use Rattle.ks_law_topology.proofs.WellFormed.{well_formed_fits}
 use Rattle.ks_law_topology.specs.Spelled.{IfThere}
 use Rattle.ks_law_topology.proofs.Kept.{filter-append, writes_kept}
 use Rattle.ks_law_topology.proofs.Writes.{Through, through_all, written_all, comes, owned as items_owned}

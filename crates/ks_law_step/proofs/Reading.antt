@@ -2,9 +2,9 @@
 use Rattle.std.proofs.Common.{◌∙◌, false, sym, subst, ◌<◌, ◌≡◌, ℕ, suc, true, List, [], ◌∷◌, Option, Some, None, refl, ap, nat_lt}
 use Rattle.std.specs.Prelude.{is_some}
 use Rattle.std.proofs.lemmas.Bool.{and_from, lt-ltb}
-use Rattle.ks_row.specs.Records.{Record as Rec}
-use Rattle.ks_row.specs.Spelling.{IsBytes}
-use Rattle.ks_row.specs.Texts.{key_from}
+use Rattle.ks_record.specs.Records.{Record as Rec}
+use Rattle.ks_record.specs.Bytes.{IsBytes}
+use Rattle.ks_record.specs.Texts.{key_from}
 use Rattle.ks_row.specs.Reading.{◌>>=◌, row_from}
 use Rattle.ks_row.proofs.Fields.{bind_some}
 use Rattle.ks_wire.specs.Reading.{subscription_from, response_from, delta_from}

@@ -1,10 +1,10 @@
 -- A task's whole step over the bytes of its stores, as code makes it: lists that grow node by node, stores that are looked up.
 use Rattle.std.specs.Prelude.{◌≡◌, ◌<◌, ◌+◌, ◌^◌, ℕ, suc, List, [], ◌∷◌, ◌++◌, map, cond, Option, Some, None, option_map, nat_lt}
 use Rattle.std.specs.List.{flat_map}
-use Rattle.ks_row.specs.Records.{Record as Rec}
-use Rattle.ks_row.specs.declared.record.PartId.{PartId}
-use Rattle.ks_row.specs.declared.record.TaskId.{TaskId}
-use Rattle.ks_row.specs.Spelling.{IsBytes}
+use Rattle.ks_record.specs.Records.{Record as Rec}
+use Rattle.ks_record.specs.declared.record.PartId.{PartId}
+use Rattle.ks_record.specs.declared.record.TaskId.{TaskId}
+use Rattle.ks_record.specs.Bytes.{IsBytes}
 use Rattle.ks_def_runs.specs.FinMap as fin
 use Rattle.ks_def_runs.specs.Bytes.{Store}
 use Rattle.ks_plan.specs.Drafts.{DraftView}
@@ -22,7 +22,7 @@ use Rattle.ks_def_tasks.specs.Step.{Arrival, Values, Sent, arrived, step_key, it
 use Rattle.ks_def_tasks.specs.Bytes.{ByteStores, byte_step, is_own, rec_of, stores_after}
 use Rattle.ks_def_tasks.specs.Tasks.{arrival, to_part}
 use Rattle.ks_def_tasks.specs.Laws.{IsTakenBy}
-use Rattle.ks_law_quiescence.specs.WellFormed.{IsWellFormed}
+use Rattle.ks_law_topology.specs.WellFormed.{IsWellFormed}
 use Rattle.ks_law_topology.specs.Spelled.{IfThere}
 use Rattle.ks_def_runs.specs.Pairs.{ArePairs}
 use Rattle.ks_def_lookups.specs.Windows.{CountedBytes}

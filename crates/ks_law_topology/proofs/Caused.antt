@@ -9,10 +9,10 @@ use Rattle.std.proofs.lemmas.Bool.{and_parts, and_from}
 use Rattle.std.proofs.lemmas.Bool.Decides.{Decides-eqb}
 use Rattle.ks_row.specs.declared.row.Field.{Field}
 use Rattle.ks_row.specs.declared.row.Field.TheVariants.{Int, Text}
-use Rattle.ks_row.specs.Records.{Record as Rec}
-use Rattle.ks_row.specs.declared.record.PartId.{PartId}
-use Rattle.ks_row.specs.declared.record.TaskId.{TaskId}
-use Rattle.ks_row.specs.Parts.{same_part}
+use Rattle.ks_record.specs.Records.{Record as Rec}
+use Rattle.ks_record.specs.declared.record.PartId.{PartId}
+use Rattle.ks_record.specs.declared.record.TaskId.{TaskId}
+use Rattle.ks_record.specs.Parts.{same_part}
 use Rattle.ks_wire.specs.declared.values.Delta.{Delta}
 use Rattle.ks_expr.specs.Eval.{Row, joined, same_field}
 use Rattle.ks_expr.specs.declared.terms.Fk.{Fk}
@@ -33,10 +33,10 @@ use Rattle.ks_def_tasks.specs.Step.{Arrival, Sent, Written, Values, whole_step, 
 use Rattle.ks_def_tasks.specs.Tasks.{arrival, step, sent_item, written_item, is_changelog}
 use Rattle.ks_def_tasks.specs.Bytes.{ByteStores, step_at, step_read, nothing_made, message_in, store_from, spelled, part_id, is_sent}
 use Rattle.ks_history.specs.Machine.{network}
-use Rattle.ks_law_quiescence.proofs.Each.{Each, each_nothing, each_first, each_parts, Each-append, Each-map}
-use Rattle.ks_law_quiescence.proofs.Fits.{Fits, NodeFits, EachFits}
-use Rattle.ks_law_quiescence.proofs.Placed.{topic-is}
-use Rattle.ks_law_quiescence.proofs.WellFormed.{well_formed_fits}
+use Rattle.ks_law_topology.proofs.Each.{Each, each_nothing, each_first, each_parts, Each-append, Each-map}
+use Rattle.ks_law_topology.proofs.Fits.{Fits, NodeFits, EachFits}
+use Rattle.ks_law_topology.proofs.Placed.{topic-is}
+use Rattle.ks_law_topology.proofs.WellFormed.{well_formed_fits}
 use Rattle.ks_law_topology.specs.Work.{work_of}
 use Rattle.ks_law_topology.specs.Order.{IsInOrder}
 use Rattle.ks_law_topology.proofs.Order.{rank, IsWithin, all_between, at_place, place_after, before_logs}

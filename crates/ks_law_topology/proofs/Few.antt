@@ -15,7 +15,7 @@ use Rattle.ks_plan.specs.Drafts.{Topics, Name, DraftView}
 use Rattle.ks_plan.specs.Plan.{Plan, Kind, natural, with_topic, wiring_of, sorted_topics, plan_of}
 use Rattle.ks_plan.specs.Layout.{at, wired_parts, parts_of, parts_of_topic, right_of, kind_at}
 use Rattle.ks_plan.specs.Faults.{first_fitting, is_past, any_past, size_lines, parts_fault}
-use Rattle.ks_law_quiescence.specs.WellFormed.{IsWellFormed}
+use Rattle.ks_law_topology.specs.WellFormed.{IsWellFormed}
 use Rattle.ks_law_topology.specs.Work.{HaveFewParts}
 
 -- ---- input topics

@@ -4,7 +4,7 @@ use Rattle.std.specs.Prelude.{◌==◌, nat_lt}
 use Rattle.std.specs.List.{filter}
 use Rattle.std.proofs.lemmas.Bool.{and_from, eq-eqb, lt-ltb}
 use Rattle.std.proofs.lemmas.Bool.Decides.{Decides-eqb}
-use Rattle.ks_row.specs.declared.record.TaskId.{TaskId}
+use Rattle.ks_record.specs.declared.record.TaskId.{TaskId}
 use Rattle.ks_wire.specs.declared.values.Delta.{Delta}
 use Rattle.ks_wire.specs.declared.values.Response.{Response}
 use Rattle.ks_wire.specs.declared.values.Subscriber.{Subscriber}
@@ -25,10 +25,10 @@ use Rattle.ks_def_tasks.specs.Step.To.{Named}
 use Rattle.ks_def_tasks.specs.Step.{Arrival, Sent, Written, Values, whole_step, arrived, changed, row_in, step_key, items_from, olds_at, news_at, over_nodes, keyed_to, regroup, send_deltas, send_subscriptions, send_responses, answer_of, answer_one, join_sends, sends_at}
 use Rattle.ks_def_tasks.specs.Bytes.{is_own, is_sent}
 use Rattle.ks_def_tasks.proofs.Names.{topic-is}
-use Rattle.ks_law_quiescence.proofs.Each.{Each, each_nothing, each_first, each_parts, Each-append, Each-cond, Each-map}
-use Rattle.ks_law_quiescence.proofs.Entries.{each_entry}
-use Rattle.ks_law_quiescence.proofs.Fits.{Fits, NodeFits, EachFits}
-use Rattle.ks_law_quiescence.proofs.WellFormed.{well_formed_fits}
+use Rattle.ks_law_topology.proofs.Each.{Each, each_nothing, each_first, each_parts, Each-append, Each-cond, Each-map}
+use Rattle.ks_law_topology.proofs.Entries.{each_entry}
+use Rattle.ks_law_topology.proofs.Fits.{Fits, NodeFits, EachFits}
+use Rattle.ks_law_topology.proofs.WellFormed.{well_formed_fits}
 use Rattle.ks_law_topology.specs.Work.{HavePlaces, IsOfJoin, NamesParts, NothingIsHeldBack}
 use Rattle.ks_law_topology.proofs.Writes.{Through, through_all, OfSub, written_all}
 

@@ -2,26 +2,16 @@
 use Rattle.std.proofs.Common.{◌≡◌, ℕ, zero, suc, ◌+◌, ◌≤◌, ◌<◌, true, false, cond, List, length, [], ◌∷◌, ◌++◌, map, fold, refl, sym, ap, subst, ◌∙◌, arith, nat_eq, ⊎_elim, ◌⊎◌, inl, inr}
 use Rattle.std.specs.Prelude.{min, max}
 use Rattle.std.proofs.lemmas.List.{length-map}
-use Rattle.std.proofs.lemmas.Bool.{eqb-false, cases_order}
+use Rattle.std.proofs.lemmas.Bool.{cases_order}
 use Rattle.std.proofs.lemmas.Bool.Decides.{Decides-eqb}
 use Rattle.ks_plan.specs.Plan.{Plan, Kind}
 use Rattle.ks_plan.specs.Plan.Kind.{StreamSource, TableSource, StreamFilter, TableFilter, StreamMap, TableMap, KeySelected, StreamAggregate, TableAggregate, Windowed, KeyJoin, ForeignKeyJoin}
 use Rattle.ks_plan.specs.Layout.{at, relabel, join_labels, label_next, labels, firsts, sub_of, parts_of}
-use Rattle.ks_law_quiescence.proofs.Fits.{Fits, NodeFits, EachFits, one_more, label_count}
+use Rattle.ks_law_topology.proofs.Fits.{Fits, NodeFits, EachFits, one_more, label_count, at_before, at_map, left_label}
 
-at_before : (xs ys : List ℕ) (n : ℕ) → n < length xs → at (xs ++ ys) n ≡ at xs n
-at_before [] ys n lt = absurd (omega arith)
-at_before (x ∷ xs) ys zero lt = refl
-at_before (x ∷ xs) ys (suc n) lt = at_before xs ys n (omega arith)
-
-at_end : (xs : List ℕ) (x : ℕ) → at (xs ++ x ∷ []) (length xs) ≡ x
+pub at_end : (xs : List ℕ) (x : ℕ) → at (xs ++ x ∷ []) (length xs) ≡ x
 at_end [] x = refl
 at_end (y ∷ xs) x = at_end xs x
-
-at_map : (f : ℕ → ℕ) (xs : List ℕ) (n : ℕ) → n < length xs → at (map f xs) n ≡ f (at xs n)
-at_map f [] n lt = absurd (omega arith)
-at_map f (x ∷ xs) zero lt = refl
-at_map f (x ∷ xs) (suc n) lt = at_map f xs n (omega arith)
 
 -- each label is that of a node before it, which labels itself, with the same partitions
 record Labelled (P : ℕ → ℕ) (ls : List ℕ) : Type 0 where
@@ -93,13 +83,7 @@ module _ (P : ℕ → ℕ) (ls : List ℕ) (a b : ℕ) (h : Labelled P ls) (less
           (λ e. at_map g ls a inside ∙ ap g own_a ∙ g_a)
           (λ n. at_map g ls y lt ∙ ap g o ∙ ap (λ c. cond c a y) n)
 
-left_label : (l r : ℕ) → cond (nat_eq l (max l r)) (min l r) l ≡ min l r
-left_label l r = elim (nat_eq l (max l r)) as (λ b. nat_eq l (max l r) ≡ b → cond b (min l r) l ≡ min l r) [
-  | true ↦ λ e. refl
-  | false ↦ λ e. let ne = eqb-false l (max l r) e in omega arith
-] refl
-
-either : (Q : ℕ → Type 0) (x y : ℕ) → Q x → Q y → Q (min x y)
+pub either : (Q : ℕ → Type 0) (x y : ℕ) → Q x → Q y → Q (min x y)
 either Q x y a b = ⊎_elim (λ (e : x ≡ y). let f : min x y ≡ x = omega (arith, e) in subst Q (sym f) a)
     (λ (o : (x < y) ⊎ (y < x)). ⊎_elim (λ (l : x < y). let f : min x y ≡ x = omega (arith, l) in subst Q (sym f) a) (λ (l : y < x). let f : min x y ≡ y = omega (arith, l) in subst Q (sym f) b) o)
     (cases_order x y)

@@ -11,3 +11,10 @@ pub mod Rows
 pub mod Order
 pub mod Caused
 pub mod Projections
+pub mod Each
+pub mod Entries
+pub mod Mixed
+pub mod Fits
+pub mod Placed
+pub mod WellFormed
+pub mod ItemKeys

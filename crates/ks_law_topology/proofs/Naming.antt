@@ -5,7 +5,7 @@ use Rattle.std.specs.Prelude.{IfSome, option_map, option_and_then}
 use Rattle.std.specs.Int.{Width, w32, w128, byte_len, from_be_bytes, to_be_bytes}
 use Rattle.std.proofs.lemmas.Bool.{leb-true, le-leb, cases_lt}
 use Rattle.std.proofs.lemmas.List.{append-nil, get_or_past}
-use Rattle.ks_row.specs.Texts.{IsKey, key_from}
+use Rattle.ks_record.specs.Texts.{IsKey, key_from}
 use Rattle.ks_row.specs.Reading.{◌>>=◌, bytes_at, number_at}
 use Rattle.ks_row.proofs.Fields.{bind_some, test_some, some_is, wide32, bytes_again, number_again}
 use Rattle.ks_row.proofs.Spelled.{key_takes}

@@ -6,12 +6,12 @@ use Rattle.std.specs.Cmp.Lexicographic.{nat_list_cmp_total}
 use Rattle.std.specs.FinMap.{IsAntisymmetric, slice_cmp-IsAntisymmetric, nat_cmp-IsAntisymmetric}
 use Rattle.std.proofs.lemmas.Bool.{eqb-true, eq-eqb, and_parts, and_from, true≢false, cases_lt}
 use Rattle.std.proofs.lemmas.Bool.Decides.{Decides-eqb}
-use Rattle.ks_row.specs.Records.{Record as Rec}
-use Rattle.ks_row.specs.declared.record.PartId.{PartId}
-use Rattle.ks_row.specs.declared.record.TaskId.{TaskId}
-use Rattle.ks_row.specs.Parts.{same_part}
+use Rattle.ks_record.specs.Records.{Record as Rec}
+use Rattle.ks_record.specs.declared.record.PartId.{PartId}
+use Rattle.ks_record.specs.declared.record.TaskId.{TaskId}
+use Rattle.ks_record.specs.Parts.{same_part}
 use Rattle.std.specs.Int.{w32, w64, to_be_bytes}
-use Rattle.ks_row.specs.Texts.{IsKey, key_from}
+use Rattle.ks_record.specs.Texts.{IsKey, key_from}
 use Rattle.ks_row.specs.Reading.{◌>>=◌, row_from}
 use Rattle.ks_row.proofs.Fields.{bind_some, some_is, wide32, number_again, bytes_again}
 use Rattle.ks_row.proofs.Spelled.{key_takes, key_again}
@@ -50,11 +50,11 @@ use Rattle.ks_def_tasks.proofs.Told.{tells}
 use Rattle.ks_history.specs.Machine.{reader_of, part_of}
 use Rattle.ks_history.proofs.Names.{same_part-is}
 use Rattle.ks_law_exactly_once.specs.Keeping.{AllFit, FitIn, AreHeld, Keeps}
-use Rattle.ks_law_quiescence.proofs.Fits.{Fits, NodeFits, EachFits}
-use Rattle.ks_law_quiescence.proofs.StreamsDirect.{item_key}
-use Rattle.ks_law_quiescence.proofs.Each.{Each, each_parts}
-use Rattle.ks_law_quiescence.proofs.Placed.{Owned, FitsAt, NamesHome, IsGood, good_step}
-use Rattle.ks_law_quiescence.proofs.WellFormed.{well_formed_fits}
+use Rattle.ks_law_topology.proofs.Fits.{Fits, NodeFits, EachFits}
+use Rattle.ks_law_topology.proofs.ItemKeys.{item_key}
+use Rattle.ks_law_topology.proofs.Each.{Each, each_parts}
+use Rattle.ks_law_topology.proofs.Placed.{Owned, FitsAt, NamesHome, IsGood, good_step}
+use Rattle.ks_law_topology.proofs.WellFormed.{well_formed_fits}
 use Rattle.ks_law_exactly_once.proofs.Keeping.{all_kept}
 use Rattle.ks_law_topology.specs.Work.{HavePlaces, work_of, setup_of}
 use Rattle.ks_law_topology.specs.Spelled.{IfThere}
@@ -63,7 +63,8 @@ use Rattle.ks_law_topology.proofs.Every.{Every, Gives, every_read, every_found, 
 use Rattle.ks_law_topology.proofs.Few.{have_few}
 use Rattle.ks_law_topology.proofs.Naming.{subscription_same, subscription_left, subscriber_same, beyond_whole}
 use Rattle.ks_law_topology.proofs.Networks.{works_are_networks}
-use Rattle.ks_law_topology.proofs.Writes.{IsAsking, Through, through_all, owned, kept, nothing_changes}
+use Rattle.ks_law_topology.proofs.Writes.{IsAsking, Through, through_all, owned, kept}
+use Rattle.ks_def_tasks.proofs.Itself.{nothing_changes}
 
 bytes_anti : IsAntisymmetric by_bytes
 bytes_anti = slice_cmp-IsAntisymmetric nat_cmp-IsAntisymmetric

@@ -10,13 +10,13 @@ use Rattle.std.specs.Ordering.{nat_cmp}
 use Rattle.std.specs.Cmp.Lexicographic.{slice_cmp, pointwise}
 use Rattle.std.proofs.lemmas.Bool.{eqb-false, leb-true}
 use Rattle.std.proofs.Math.Facts.{sfits_to_z}
-use Rattle.ks_row.specs.Texts.{IsKey, IsName, IsText, key_of}
+use Rattle.ks_record.specs.Texts.{IsKey, IsName, IsText, key_of}
 use Rattle.ks_row.specs.Rows.{Member, is_row, field_of}
 use Rattle.ks_row.specs.Spelling.{FitsField, FitsMember, FitsRow}
 use Rattle.ks_row.specs.FieldKeys.{key_from_field, field_key}
 use Rattle.ks_row.specs.declared.row.Field.{Field}
 use Rattle.ks_row.specs.declared.row.Field.TheVariants.{Int, Text}
-use Rattle.ks_row.proofs.Decimals.{decimal_is_key}
+use Rattle.ks_record.proofs.Decimals.{decimal_is_key}
 use Rattle.ks_wire.specs.Spelling.{FitsAgg}
 use Rattle.ks_wire.specs.declared.values.Agg.{Agg}
 use Rattle.ks_wire.specs.declared.values.Delta.{Delta}

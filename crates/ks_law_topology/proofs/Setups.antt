@@ -7,8 +7,8 @@ use Rattle.std.proofs.lemmas.List.Concat.{flat_map-cons}
 use Rattle.std.proofs.lemmas.Option.{slice_get_within, get_or_from_slice_get}
 use Rattle.std.proofs.lemmas.Bool.{eqb-true, true≢false, or_cases, or_left, or_right}
 use Rattle.std.proofs.lemmas.Bool.Decides.{Decides-eqb}
-use Rattle.ks_row.specs.declared.record.TaskId.{TaskId}
-use Rattle.ks_row.specs.Parts.{same_task}
+use Rattle.ks_record.specs.declared.record.TaskId.{TaskId}
+use Rattle.ks_record.specs.Parts.{same_task}
 use Rattle.ks_plan.specs.declared.node.Topic.{Topic}
 use Rattle.ks_plan.specs.declared.node.Topic.TheVariants.{Input as InputTopic, Repartition, Subscriptions, Responses, Changelog, HashChangelog}
 use Rattle.ks_plan.specs.Drafts.{DraftView}
@@ -19,13 +19,13 @@ use Rattle.ks_def_tasks.specs.Messages.{Rules}
 use Rattle.ks_history.specs.Machine.{has_topic, part_of}
 use Rattle.ks_history.specs.State.{IsSetup, IsPart, has_task, are_once}
 use Rattle.ks_history.proofs.Names.{same_task-is, same_task-refl}
-use Rattle.ks_law_quiescence.proofs.Fits.{Fits, NodeFits, EachFits}
-use Rattle.ks_law_quiescence.proofs.Placed.{topic-is}
-use Rattle.ks_law_quiescence.proofs.WellFormed.{well_formed_fits}
+use Rattle.ks_law_topology.proofs.Fits.{Fits, NodeFits, EachFits}
+use Rattle.ks_law_topology.proofs.Placed.{topic-is}
+use Rattle.ks_law_topology.proofs.WellFormed.{well_formed_fits}
 use Rattle.ks_law_topology.specs.Work.{setup_of, SetupsAreMade}
 use Rattle.ks_law_topology.proofs.Labels.{one_count}
 use Rattle.ks_law_topology.proofs.Placing.{AtPlace, at_places}
-use Rattle.ks_law_quiescence.specs.WellFormed.{IsWellFormed}
+use Rattle.ks_law_topology.specs.WellFormed.{IsWellFormed}
 use Rattle.ks_law_topology.proofs.Few.{node_few}
 use Rattle.ks_def_tasks.proofs.Numbered.{length_up_to, get_up_to, get_map, first_has}
 

@@ -1,64 +1,26 @@
 -- A step's changelog records are for the changelogs of its own task.
 use Rattle.std.proofs.Common.{◌≡◌, ℕ, suc, Bool, true, false, cond, List, [], ◌∷◌, ◌++◌, Option, Some, None, refl, sym, ap, ap₂, subst, ◌∙◌, ◌⊎◌, inl, inr, ⊎_elim}
-use Rattle.std.specs.Ordering.{is_eq}
-use Rattle.std.specs.Cmp.{tied_itself, int_cmp_total}
-use Rattle.std.specs.Cmp.Lexicographic.{nat_list_cmp_total}
-use Rattle.std.proofs.lemmas.Bool.{and_from}
-use Rattle.ks_row.specs.declared.row.Field.{Field}
-use Rattle.ks_row.specs.declared.row.Field.TheVariants.{Int, Text}
-use Rattle.ks_wire.specs.declared.values.Agg.{Agg}
 use Rattle.ks_wire.specs.declared.values.Delta.{Delta}
-use Rattle.ks_wire.specs.declared.values.Response.{Response}
 use Rattle.ks_plan.specs.declared.node.Topic.{Topic}
 use Rattle.ks_plan.specs.declared.node.Topic.TheVariants.{Repartition, Subscriptions, Changelog, HashChangelog}
 use Rattle.ks_plan.specs.Plan.{Plan, Kind}
 use Rattle.ks_plan.specs.Plan.Kind.{StreamSource, TableSource, StreamFilter, TableFilter, StreamMap, TableMap, KeySelected, StreamAggregate, TableAggregate, Windowed, KeyJoin, ForeignKeyJoin}
 use Rattle.ks_plan.specs.Layout.{same_topic, reads, sub_of}
-use Rattle.ks_expr.specs.Eval.{Row, same_field}
+use Rattle.ks_expr.specs.Eval.{Row}
 use Rattle.ks_expr.specs.declared.terms.Fk.{Fk}
 use Rattle.ks_def_runs.specs.FinMap as fin
 use Rattle.ks_query.specs.Streams.{Key, StreamItem, group_key}
 use Rattle.ks_query.specs.Aggregates.{table_parts}
-use Rattle.ks_def_tasks.specs.Messages.{same_row, Stored, Subscription, Message, Store, Rules, same_bool, same_option, same_agg, same_stored}
-use Rattle.ks_def_tasks.specs.Messages.Stored.{OfRow, OfAgg}
-use Rattle.ks_def_tasks.specs.Messages.Message.{Asked, Kept}
+use Rattle.ks_def_tasks.specs.Messages.{Subscription, Message, Store, Rules}
+use Rattle.ks_def_tasks.specs.Messages.Message.{Asked}
 use Rattle.ks_def_tasks.specs.Bytes.{key_bytes}
 use Rattle.ks_def_tasks.specs.Foreign.{subscriptions, answer_all, Sending}
 use Rattle.ks_def_tasks.specs.Windowed.{count_item}
 use Rattle.ks_def_tasks.specs.Step.{Arrival, Sent, Written, Values, row_in, changed, arrived, step_key, sends_at, join_sends, regroup, keyed_to, send_deltas, send_subscriptions, send_responses, answer_one, write_all, value_changes, counted_at, hash_changes, changes_at, over_nodes, items_from, item_keyed, olds_at, news_at}
 use Rattle.ks_def_tasks.specs.Tasks.{taker, is_changelog}
-use Rattle.ks_law_quiescence.proofs.Fits.{Fits, NodeFits, EachFits}
-use Rattle.ks_law_quiescence.proofs.Placed.{topic-is, Owned, ItemsOwned, items_owned, values_owned}
-
--- ---- what stays writes nothing
-field_itself : (f : Field) → same_field f f ≡ true
-field_itself (Int z) = ap is_eq (tied_itself int_cmp_total z)
-field_itself (Text t) = ap is_eq (tied_itself nat_list_cmp_total t)
-
--- a row is the same as itself
-pub row_itself : (r : Row) → same_row r r ≡ true
-row_itself [] = refl
-row_itself (m ∷ ms) = and_from _ _ (and_from _ _ (ap is_eq (tied_itself nat_list_cmp_total m.0)) (field_itself m.1)) (row_itself ms)
-
-agg_itself : (a : Agg) → same_agg a a ≡ true
-agg_itself a = and_from _ _ (ap is_eq (tied_itself int_cmp_total a.members)) (ap is_eq (tied_itself int_cmp_total a.total))
-
-bool_itself : (b : Bool) → same_bool b b ≡ true
-bool_itself true = refl
-bool_itself false = refl
-
-stored_itself : (w : Stored) → same_stored w w ≡ true
-stored_itself (OfRow row) = row_itself row
-stored_itself (OfAgg c a) = and_from _ _ (bool_itself c) (agg_itself a)
-
--- a value is the same as itself
-pub option_itself : (w : Option Stored) → same_option same_stored w w ≡ true
-option_itself None = refl
-option_itself (Some w) = stored_itself w
-
-pub nothing_changes : (key : Option Key) (w : Option Stored) → value_changes key w w ≡ []
-nothing_changes None w = refl
-nothing_changes (Some k) w = ap (λ b. cond b [] (Kept k w ∷ [])) (option_itself w)
+use Rattle.ks_law_topology.proofs.Fits.{Fits, NodeFits, EachFits}
+use Rattle.ks_law_topology.proofs.Placed.{topic-is, Owned, ItemsOwned, items_owned, values_owned}
+use Rattle.ks_def_tasks.proofs.Itself.{nothing_changes}
 
 -- ---- what is sent goes to no changelog, and by its key; to a topic of subscriptions, a subscription alone
 abbrev pub IsAsking : Topic → Message → Type 0

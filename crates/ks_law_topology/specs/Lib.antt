@@ -3,3 +3,5 @@ pub mod Placing
 pub mod Spelled
 pub mod Order
 pub mod Projections
+pub mod WellFormed
+pub mod Taken

@@ -3,9 +3,9 @@
 -- Kafka Streams developer guide, "Processor topology": nodes and the topics between them make an acyclic graph.
 use Rattle.std.specs.Prelude.{◌≡◌, ◌≤◌, []}
 use Rattle.std.specs.List.Sorted.{IsStrictlyIncreasing}
-use Rattle.ks_row.specs.Records.{Record as Rec}
-use Rattle.ks_row.specs.declared.record.PartId.{PartId}
-use Rattle.ks_row.specs.declared.record.TaskId.{TaskId}
+use Rattle.ks_record.specs.Records.{Record as Rec}
+use Rattle.ks_record.specs.declared.record.PartId.{PartId}
+use Rattle.ks_record.specs.declared.record.TaskId.{TaskId}
 use Rattle.ks_def_runs.specs.Run.{sent_to}
 use Rattle.ks_plan.specs.Drafts.{DraftView}
 use Rattle.ks_plan.specs.Plan.{Plan, plan_of}
@@ -13,7 +13,7 @@ use Rattle.ks_plan.specs.Infos.{drain_numbers}
 use Rattle.ks_def_tasks.specs.Messages.{Rules}
 use Rattle.ks_def_tasks.specs.Bytes.{ByteStores, byte_step}
 use Rattle.ks_history.specs.Machine.{network}
-use Rattle.ks_law_quiescence.specs.WellFormed.{IsWellFormed}
+use Rattle.ks_law_topology.specs.WellFormed.{IsWellFormed}
 use Rattle.ks_law_topology.specs.Work.{work_of}
 
 -- whatever a task makes of a record goes to topics of greater number

@@ -8,8 +8,8 @@ use Rattle.ks_wire.specs.Spelling.{time_key}
 use Rattle.ks_wire.specs.Values.{SubscriptionValue}
 use Rattle.ks_wire.specs.declared.values.Subscriber.{Subscriber}
 use Rattle.ks_wire.specs.Reading.{long_key_at, subscription_from, subscriber_from, subscription_key_from}
-use Rattle.ks_row.specs.Records.{Record as Rec}
-use Rattle.ks_row.specs.declared.record.PartId.{PartId}
+use Rattle.ks_record.specs.Records.{Record as Rec}
+use Rattle.ks_record.specs.declared.record.PartId.{PartId}
 use Rattle.ks_plan.specs.Drafts.{DraftView}
 use Rattle.ks_plan.specs.Plan.{Plan, plan_of, is_windowed}
 use Rattle.ks_plan.specs.declared.node.Topic.{Topic}
@@ -23,7 +23,7 @@ use Rattle.ks_history.specs.Faithful.{decided}
 use Rattle.ks_history.specs.History.{at, IsHistory}
 use Rattle.ks_history.specs.Replay.{produced}
 use Rattle.ks_law_exactly_once.specs.Keeping.{FitIn}
-use Rattle.ks_law_quiescence.specs.WellFormed.{IsWellFormed}
+use Rattle.ks_law_topology.specs.WellFormed.{IsWellFormed}
 use Rattle.ks_law_topology.specs.Work.{HavePlaces, setup_of}
 
 -- at the place of its key

@@ -2,7 +2,7 @@
 use Rattle.std.specs.Prelude.{ℕ, List, [], ◌∷◌, Option, Some, None}
 use Rattle.std.specs.Int.{w64}
 use Rattle.std.specs.Int.RustNames.{FitsSigned}
-use Rattle.ks_row.specs.Texts.{IsKey, IsName, IsText}
+use Rattle.ks_record.specs.Texts.{IsKey, IsName, IsText}
 use Rattle.ks_row.specs.Spelling.{FitsRow}
 use Rattle.ks_row.specs.FieldKeys.{field_key}
 use Rattle.ks_wire.specs.Spelling.{FitsAgg}

@@ -1,7 +1,7 @@
 -- The tasks of a topology as the work of a cluster: topics by number, records and stores as bytes.
 use Rattle.std.specs.Prelude.{◌≡◌, ◌<◌, ◌≤◌, ◌^◌, ℕ, List, map, length, Option, Some, IfSome}
 use Rattle.std.specs.List.{filter}
-use Rattle.ks_row.specs.declared.record.TaskId.{TaskId}
+use Rattle.ks_record.specs.declared.record.TaskId.{TaskId}
 use Rattle.ks_expr.specs.Eval.{Row}
 use Rattle.ks_plan.specs.Drafts.{DraftView}
 use Rattle.ks_plan.specs.Plan.{Plan, plan_of}
@@ -21,7 +21,7 @@ use Rattle.ks_history.specs.declared.journal.Entry.{Entry}
 use Rattle.ks_history.specs.Machine.{TaskPlan as Work, IsNetwork}
 use Rattle.ks_history.specs.History.{IsHistory}
 use Rattle.ks_history.specs.State.{Setup, IsSetup}
-use Rattle.ks_law_quiescence.specs.WellFormed.{IsWellFormed}
+use Rattle.ks_law_topology.specs.WellFormed.{IsWellFormed}
 
 abbrev pub work_of : Rules → Plan → Work
 work_of rules p = record {

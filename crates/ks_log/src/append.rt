@@ -2,10 +2,10 @@
 ghost use Rattle.std.specs.Prelude.{◌≡◌, ◌+◌, ◌<◌, ◌≤◌, ◌^◌, ◌++◌, ◌∷◌, [], length, vec_capacity, IfOk, OnOk, OnErr};
 ghost use Rattle.ks_history.specs.declared.partition.Slot.TheVariants.{Sent};
 ghost use Rattle.ks_history.specs.Partition.{sent_slots};
-ghost use Rattle.ks_row.specs.Records.{rec_of_list};
+ghost use Rattle.ks_record.specs.Records.{rec_of_list};
 
 use ks_history::Slot;
-use ks_row::{Rec, SharedRecords, TaskId};
+use ks_record::{Rec, SharedRecords, TaskId};
 use std::alloc::AllocError;
 
 /// A copy of a record, which shares its bytes. Want of memory stands for a count of owners that is full.

@@ -9,7 +9,7 @@ use crate::append::Batch;
 use crate::part::{OutOfSequence, Part};
 use crate::seats::{put_seat, seat_of, widen};
 use ks_history::Slot;
-use ks_row::{PartId, Rec};
+use ks_record::{PartId, Rec};
 use std::alloc::{AllocError, Global};
 use std::marker::Model;
 

@@ -11,7 +11,7 @@ use crate::counts::{Counted, count_of, put_count};
 use crate::marks::{Marked, is_visible, mark_count, put_mark};
 use crate::reading::{decided_in, next_in, visible_from};
 use ks_history::{Producer, Slot};
-use ks_row::{PartId, Rec, SharedRecords, TaskId};
+use ks_record::{PartId, Rec, SharedRecords, TaskId};
 use std::alloc::{AllocError, Global};
 use std::marker::Model;
 

@@ -4,13 +4,13 @@ ghost use Rattle.ks_history.specs.Partition.{past_last, decision};
 ghost use Rattle.ks_history.specs.Faithful.{marker_among};
 ghost use Rattle.ks_log.specs.Index.{marks_in};
 ghost use Rattle.ks_log.specs.Reading.{waiting_in, record_at, visible_pairs, decided_one, decided_pairs, end_at};
-ghost use Rattle.ks_row.specs.Records.{Record};
+ghost use Rattle.ks_record.specs.Records.{Record};
 
 use crate::append::copy;
 use crate::log::Log;
 use crate::marks::{Marked, mark_count, mark_in};
 use ks_history::{Producer, Slot};
-use ks_row::{Marker, PartId, Rec};
+use ks_record::{Marker, PartId, Rec};
 use std::alloc::{AllocError, Global};
 
 /// Takes a record with its offset, and answers how many may still be taken.
@@ -69,7 +69,7 @@ pub fn visible_from(
     ensures { IfOk result (λ made. made.items
         ≡ take limit (visible_pairs from (drop from visible.now) (drop from slots.now))) }
 {
-    let mut made = Vec::new(alloc);
+    let mut made = Vec::with_capacity(alloc, limit.min(visible.len().saturating_sub(from)))?;
     let mut left = limit;
     for i in from..visible.len() {
         if left == 0 {
@@ -203,7 +203,7 @@ pub fn decided_in(
     ensures { IfOk result (λ made. made.items
         ≡ decided_pairs (waiting_in producers.now part) 0 slots.now) }
 {
-    let mut made = Vec::new(alloc);
+    let mut made = Vec::with_capacity(alloc, slots.len())?;
     let mut passed: usize = 0;
     for (i, slot) in slots.iter().enumerate() {
         let rest = &marks[passed..];

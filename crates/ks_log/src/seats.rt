@@ -1,10 +1,10 @@
 //! Where each partition stands, in a table by the partitions' numbers.
 ghost use Rattle.std.specs.Prelude.{◌≡◌, ◌<◌, ◌+◌, ◌^◌, ℕ, if◌then◌else◌, length, get_or, OnOk};
-ghost use Rattle.ks_row.specs.declared.record.PartId.{PartId as Part};
-ghost use Rattle.ks_row.specs.Parts.{same_part};
+ghost use Rattle.ks_record.specs.declared.record.PartId.{PartId as Part};
+ghost use Rattle.ks_record.specs.Parts.{same_part};
 ghost use Rattle.ks_log.specs.Places.{part_number};
 
-use ks_row::PartId;
+use ks_record::PartId;
 use std::alloc::AllocError;
 
 /// The number of a partition among all that there may be.

@@ -1,4 +1,3 @@
-pub mod Trees
 pub mod Nodes
 pub mod Found
 pub mod Printing

@@ -17,11 +17,10 @@ use crate::item::Item;
 use crate::joins::{foreign_rows, joined_rows};
 use crate::parts::{foreign_in, group_in, join_in, key_in, set_in, test_in, window_in};
 use crate::record::JobRecord;
-use crate::rows::Rows;
-use crate::spans::Spans;
 use crate::streams::{filtered_items, mapped_items, rekeyed_items, source_items};
 use crate::tables::{filtered_rows, latest_rows, mapped_rows};
-use ks_row::Seq;
+use ks_oracle_maps::{Rows, Spans};
+use ks_record::Seq;
 use ks_topo::{Node, Op, Wiring};
 use std::alloc::{AllocError, Global};
 

@@ -5,7 +5,8 @@ ghost use Rattle.ks_query.specs.Streams.{item_of, filter_item, map_item, rekey_i
 
 use crate::record::JobRecord;
 use ks_expr::{Pred, Proj, holds, project};
-use ks_row::{Key, Name, Row, key_of_field};
+use ks_record::{Key, Name};
+use ks_row::{Row, key_of_field};
 use std::alloc::{AllocError, Global};
 use std::marker::Model;
 

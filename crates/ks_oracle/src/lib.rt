@@ -3,14 +3,11 @@
 
 mod aggregates;
 mod answers;
-mod groups;
 mod item;
 mod joins;
 mod parts;
 mod printing;
 mod record;
-mod rows;
-mod spans;
 mod streams;
 mod tables;
 mod whole;

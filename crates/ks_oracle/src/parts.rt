@@ -7,7 +7,7 @@ ghost use Rattle.ks_plan.specs.Plan.{natural, or_number, window_of};
 ghost use Rattle.ks_oracle.specs.Hops.{hops_view};
 
 use ks_expr::{Fk, JoinKind, Pred, Proj};
-use ks_row::Name;
+use ks_record::Name;
 use ks_topo::Op;
 
 /// Windows, in milliseconds.

@@ -1,7 +1,8 @@
 //! Records of a job.
 ghost use Rattle.std.specs.Prelude.{◌≡◌, option_copied};
 
-use ks_row::{Key, Row};
+use ks_record::Key;
+use ks_row::Row;
 use std::marker::Model;
 
 /// A record of a job: its topic by number, a key if it has one, a row or none, and its time in milliseconds.

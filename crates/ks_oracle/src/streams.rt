@@ -7,7 +7,7 @@ ghost use Rattle.ks_query.specs.Query.{of_topic};
 use crate::item::Item;
 use crate::record::JobRecord;
 use ks_expr::{Pred, Proj};
-use ks_row::Name;
+use ks_record::Name;
 use std::alloc::{AllocError, Global};
 
 fn push_some(found: &mut Vec<Item>, item: Option<Item>) -> Result<(), AllocError>

@@ -5,7 +5,8 @@
 use ks_job::{JobItem, JobReader};
 use ks_oracle::{JobRecord, evaluate};
 use ks_query::printed;
-use ks_row::{Blob, Key, Rec, Row, decode};
+use ks_record::{Blob, Key, Rec};
+use ks_row::{Row, decode};
 use ks_topo::{Draft, Topology};
 use std::alloc::{AllocError, Global};
 use std::io::{self, Read, Write};

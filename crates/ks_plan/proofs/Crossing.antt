@@ -6,12 +6,12 @@ use denote.Struct.Tuple.{Tuple}
 use Rattle.std.specs.Prelude.{[], ◌∷◌}
 use Rattle.std.proofs.Crossing.{crosses}
 use Rattle.std.proofs.MapsCrossing.{crosses as map_crosses}
-use Rattle.ks_row.proofs.lists.Blob.TheSendSync.{the_sync as blob_sync}
-use Rattle.ks_row.proofs.texts.Name.TheSendSync.{the_sync as name_sync}
-use Rattle.ks_row.proofs.texts.Text.TheSendSync.{the_sync as text_sync}
-use Rattle.ks_row.specs.contracts.lists.Seq as Seq
-use Rattle.ks_row.specs.contracts.lists.Seq.TheInside as Inside
-use Rattle.ks_row.specs.contracts.texts.Name as Name
+use Rattle.ks_record.proofs.lists.Blob.TheSendSync.{the_sync as blob_sync}
+use Rattle.ks_record.proofs.texts.Name.TheSendSync.{the_sync as name_sync}
+use Rattle.ks_record.proofs.texts.Text.TheSendSync.{the_sync as text_sync}
+use Rattle.ks_record.specs.contracts.lists.Seq as Seq
+use Rattle.ks_record.specs.contracts.lists.Seq.TheInside as Inside
+use Rattle.ks_record.specs.contracts.texts.Name as Name
 use Rattle.ks_expr.proofs.terms.Expr.TheLaws.TheKnot.{crosses as expr_crosses}
 use Rattle.ks_expr.proofs.terms.Pred.TheLaws.TheKnot.{crosses as pred_crosses}
 use Rattle.ks_expr.specs.contracts.terms.Expr as Expr

@@ -1,4 +1,3 @@
-pub mod Resolving
-pub mod Tasks
 pub mod Crossing
 pub mod Numbers
+pub mod TopicLists

@@ -1,7 +1,7 @@
 -- Where the parts of nodes lie: subtopologies, topics with their numbers, tasks.
 use Rattle.std.specs.Prelude.{ℕ, zero, suc, ◌+◌, min, max, List, [], ◌∷◌, ◌++◌, length, map, get_or, slice_get, Option, Some, None, option_and_then, Bool, true, false, ◌||◌, fold, cond, nat_eq}
 use Rattle.std.specs.List.{filter, flat_map}
-use Rattle.ks_row.specs.declared.record.TaskId.{TaskId}
+use Rattle.ks_record.specs.declared.record.TaskId.{TaskId}
 use Rattle.ks_plan.specs.declared.node.Topic.{Topic}
 use Rattle.ks_plan.specs.declared.node.Topic.TheVariants.{Input, Repartition, Subscriptions, Responses, Changelog, HashChangelog}
 use Rattle.ks_plan.specs.declared.node.Spread.{Spread}

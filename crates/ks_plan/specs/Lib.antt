@@ -4,5 +4,4 @@ pub mod Layout
 pub mod Places
 pub mod Infos
 pub mod Faults
-pub mod Resolve
-pub mod Wired
+pub mod Shape

@@ -1,6 +1,6 @@
 //! A topology as a job's line gives it, before anything is resolved.
 use ks_expr::{Fk, JoinKind, Pred, Proj};
-use ks_row::{Blob, Name, Seq};
+use ks_record::{Blob, Name, Seq};
 
 /// What a node does; inputs and topics stand by name.
 #[derive(Drop)]

@@ -1,5 +1,5 @@
 //! What is wrong with a draft.
-use ks_row::Blob;
+use ks_record::Blob;
 
 /// The first fault of a draft, with the names that it is told by.
 #[derive(Drop, Debug)]

@@ -1,6 +1,6 @@
 //! What a topology is made of, by numbers.
 use crate::draft::Op;
-use ks_row::{Blob, Name};
+use ks_record::{Blob, Name};
 
 /// What a topic is for.
 #[derive(Clone, Copy, PartialEq, Eq, Debug)]

@@ -6,7 +6,8 @@ ghost use Rattle.serde_json.specs.View.{view, members_view};
 ghost use Rattle.ks_query.specs.Printed.{field_data, put_all, row_data, row_line, head_line, table_text, tables_text};
 
 use crate::table::{Table, TableRow};
-use ks_row::{Blob, Field, Row};
+use ks_record::Blob;
+use ks_row::{Field, Row};
 use serde_json::{Map, Value};
 use std::alloc::{AllocError, Global};
 

@@ -1,5 +1,6 @@
 //! Tables as they are printed.
-use ks_row::{Key, Name, Row, Seq};
+use ks_record::{Key, Name, Seq};
+use ks_row::Row;
 
 /// A key's row; of a windowed count, one for each window.
 #[derive(Drop)]

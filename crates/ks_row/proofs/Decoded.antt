@@ -1,7 +1,7 @@
 -- What a decoder answers, from what its reader gives.
 use Rattle.std.proofs.Common.{◌≡◌, ℕ, List, Option, Some, None, Result, Ok, Err, sym, ap, ◌∙◌}
 use Rattle.std.specs.Prelude.{IfOk, IfSome}
-use Rattle.ks_row.specs.Spelling.{IsBytes}
+use Rattle.ks_record.specs.Bytes.{IsBytes}
 use Rattle.ks_row.specs.Codecs.{IsCodec}
 use Rattle.ks_row.proofs.Fields.{some_is}
 

@@ -7,7 +7,8 @@ use Rattle.std.proofs.lemmas.Int.{to_z-of_z, of_z-to_z}
 use Rattle.std.proofs.lemmas.Bool.{cases_lt, ltb-false, le-ltb}
 use Rattle.std.proofs.lemmas.List.{take_at, drop_at, take-append-drop, length-append, length-take, get_or-drop, get_or-take, get_or_past}
 use Rattle.std.proofs.lemmas.Nat.{be_bytes_4, be_bytes_8, from_be_bytes-to_be_bytes_4, from_be_bytes-to_be_bytes_8}
-use Rattle.ks_row.specs.Spelling.{IsBytes, int_bytes}
+use Rattle.ks_record.specs.Bytes.{IsBytes}
+use Rattle.ks_row.specs.Spelling.{int_bytes}
 use Rattle.ks_row.specs.Reading.{◌>>=◌, bytes_at, number_at, int_at}
 
 pub IsBytes-drop : (n : ℕ) (bytes : List ℕ) → IsBytes bytes → IsBytes (drop n bytes)

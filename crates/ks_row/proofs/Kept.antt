@@ -10,9 +10,10 @@ use Rattle.std.proofs.lemmas.List.{append-nil}
 use Rattle.std.proofs.lemmas.List.Concat.{flat_map-cons}
 use Rattle.ks_row.specs.declared.row.Field.{Field}
 use Rattle.ks_row.specs.declared.row.Field.TheVariants.{Int, Text}
-use Rattle.ks_row.specs.Texts.{IsName, IsText, key_of, key_from}
+use Rattle.ks_record.specs.Texts.{IsName, IsText, key_of, key_from}
 use Rattle.ks_row.specs.Rows.{Member, IsRow, is_row, row_of, field_of}
-use Rattle.ks_row.specs.Spelling.{IsBytes, field_bytes, member_bytes, spelling, FitsField, FitsMember, FitsRow}
+use Rattle.ks_record.specs.Bytes.{IsBytes}
+use Rattle.ks_row.specs.Spelling.{field_bytes, member_bytes, spelling, FitsField, FitsMember, FitsRow}
 use Rattle.ks_row.specs.Reading.{◌>>=◌, members_at, row_from, members_from}
 use Rattle.ks_row.specs.Judged.{members_of, row_in}
 use Rattle.ks_row.specs.Fields.{field_there, member_there, field_among, field_within, number_row}

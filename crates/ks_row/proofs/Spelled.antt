@@ -10,9 +10,10 @@ use Rattle.std.proofs.lemmas.List.{append-nil, nil_from_length}
 use Rattle.std.proofs.lemmas.List.Concat.{flat_map-cons}
 use Rattle.ks_row.specs.declared.row.Field.{Field}
 use Rattle.ks_row.specs.declared.row.Field.TheVariants.{Int, Text}
-use Rattle.ks_row.specs.Texts.{IsKey, IsName, IsText, key_of, name_of, text_of, key_from, name_from, text_from}
+use Rattle.ks_record.specs.Texts.{IsKey, IsName, IsText, key_of, name_of, text_of, key_from, name_from, text_from}
 use Rattle.ks_row.specs.Rows.{Member, is_row, row_of}
-use Rattle.ks_row.specs.Spelling.{IsBytes, field_bytes, member_bytes, spelling, FitsField, FitsMember, FitsRow}
+use Rattle.ks_record.specs.Bytes.{IsBytes}
+use Rattle.ks_row.specs.Spelling.{field_bytes, member_bytes, spelling, FitsField, FitsMember, FitsRow}
 use Rattle.ks_row.specs.Reading.{◌>>=◌, bytes_at, number_at, int_at, name_at, field_at, member_at, members_at, row_from}
 use Rattle.ks_row.specs.Codecs.{IsCodec}
 use Rattle.ks_row.proofs.Decoded.{codec_of}

@@ -1,6 +1,6 @@
 -- When a reader and a spelling belong together.
 use Rattle.std.specs.Prelude.{◌≡◌, ℕ, List, Option, Some}
-use Rattle.ks_row.specs.Spelling.{IsBytes}
+use Rattle.ks_record.specs.Bytes.{IsBytes}
 
 -- of the values that fit: each is read again from its bytes, what is read is spelled so, and no bytes spell two values
 pub record IsCodec {V : Type 0} (read : List ℕ → Option V) (spell : V → List ℕ) (Fits : V → Type 0) : Type 0 where

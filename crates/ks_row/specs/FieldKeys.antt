@@ -1,7 +1,7 @@
 -- The key that a field of a row gives, as a grouping or a foreign-key join takes it.
 use Rattle.std.specs.Prelude.{ℕ, List, Option, Some, option_and_then}
 use Rattle.std.specs.Fmt.{signed_decimal}
-use Rattle.ks_row.specs.Texts.{key_of}
+use Rattle.ks_record.specs.Texts.{key_of}
 use Rattle.ks_row.specs.Rows.{Member, field_of}
 use Rattle.ks_row.specs.declared.row.Field.{Field}
 use Rattle.ks_row.specs.declared.row.Field.TheVariants.{Int, Text}

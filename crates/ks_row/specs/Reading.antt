@@ -1,7 +1,7 @@
 -- Reading a list of bytes from its front: a value and the bytes after it, or none where no value of the kind stands there.
 use Rattle.std.specs.Prelude.{ℕ, ℤ, zero, suc, List, [], ◌∷◌, length, take, drop, Option, Some, None, ◌==◌, nat_lt, if◌then◌else◌}
 use Rattle.std.specs.Int.{Width, w32, w64, byte_len, from_be_bytes, cast_signed}
-use Rattle.ks_row.specs.Texts.{name_from, text_from}
+use Rattle.ks_record.specs.Texts.{name_from, text_from}
 use Rattle.ks_row.specs.Rows.{Member, row_of}
 use Rattle.ks_row.specs.declared.row.Field.{Field}
 use Rattle.ks_row.specs.declared.row.Field.TheVariants.{Int, Text}

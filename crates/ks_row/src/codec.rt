@@ -1,17 +1,15 @@
 //! A row as bytes: each row has one spelling, and no bytes spell two rows.
 ghost use Rattle.std.specs.Prelude.{◌≡◌, ◌++◌, map, IfOk, IfSome, OnOk, Some, List};
 ghost use Rattle.ks_row.specs.Rows.{Member, IsRow};
-ghost use Rattle.ks_row.specs.Texts.{IsName};
+ghost use Rattle.ks_record.specs.Texts.{IsName};
 ghost use Rattle.ks_row.specs.Fields.{field_seen, member_seen, number_row};
 ghost use Rattle.ks_row.specs.Spelling.{field_bytes, member_bytes, spelling, FitsField, FitsMember, FitsRow};
 ghost use Rattle.ks_row.specs.Codecs.{IsCodec};
 ghost use Rattle.ks_row.specs.Reading.{row_from};
 
-use crate::builder::BlobBuilder;
 use crate::field_ref::FieldRef;
-use crate::lists::Blob;
 use crate::row::{Field, Row};
-use crate::texts::Name;
+use ks_record::{Blob, BlobBuilder, Name};
 use std::alloc::{AllocError, Global};
 
 fn push_field(out: &mut BlobBuilder, field: FieldRef<'_>) -> Result<(), AllocError>

@@ -4,7 +4,7 @@ ghost use Rattle.std.specs.Int.{w32, w64};
 ghost use Rattle.ks_row.specs.Reading.{bytes_at, number_at, int_at, name_at, field_at, member_at, members_at, members_from};
 
 use crate::row::Field;
-use crate::texts::{Name, Text};
+use ks_record::{Name, Text};
 use std::alloc::{AllocError, Global};
 
 /// The first bytes, so many, and those after them; none where there are fewer. Takes no memory.
@@ -21,42 +21,24 @@ pub fn read_bytes(count: usize, bytes: &[u8]) -> Option<(&[u8], &[u8])>
 pub fn read_u32(bytes: &[u8]) -> Option<(u32, &[u8])>
     ensures { option_map (λ x. (x.0, x.1.now)) result ≡ number_at w32 bytes.now }
 {
-    if bytes.len() < 4 {
-        return None;
-    }
-    let (front, rest) = bytes.split_at(4);
-    Some((
-        u32::from_be_bytes([front[0], front[1], front[2], front[3]]),
-        rest,
-    ))
+    let (front, rest) = bytes.split_first_chunk::<4>()?;
+    Some((u32::from_be_bytes(*front), rest))
 }
 
 /// A number of eight bytes, the highest first; none where there are fewer bytes. Takes no memory.
 pub fn read_u64(bytes: &[u8]) -> Option<(u64, &[u8])>
     ensures { option_map (λ x. (x.0, x.1.now)) result ≡ number_at w64 bytes.now }
 {
-    if bytes.len() < 8 {
-        return None;
-    }
-    let (front, rest) = bytes.split_at(8);
-    let number = u64::from_be_bytes([
-        front[0], front[1], front[2], front[3], front[4], front[5], front[6], front[7],
-    ]);
-    Some((number, rest))
+    let (front, rest) = bytes.split_first_chunk::<8>()?;
+    Some((u64::from_be_bytes(*front), rest))
 }
 
 /// A signed number of eight bytes, two's complement, the highest first; none where there are fewer bytes. Takes no memory.
 pub fn read_i64(bytes: &[u8]) -> Option<(i64, &[u8])>
     ensures { option_map (λ x. (x.0, x.1.now)) result ≡ int_at bytes.now }
 {
-    if bytes.len() < 8 {
-        return None;
-    }
-    let (front, rest) = bytes.split_at(8);
-    let number = i64::from_be_bytes([
-        front[0], front[1], front[2], front[3], front[4], front[5], front[6], front[7],
-    ]);
-    Some((number, rest))
+    let (front, rest) = bytes.split_first_chunk::<8>()?;
+    Some((i64::from_be_bytes(*front), rest))
 }
 
 #[tactic(auto, unfolding(crate::specs::Reading::name_at))]

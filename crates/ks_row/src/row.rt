@@ -4,7 +4,7 @@ ghost use Rattle.std.specs.List.{All};
 ghost use Rattle.std.specs.List.Sorted.{IsPermutation};
 ghost use Rattle.ks_row.specs.Rows.{IsRow, HasRow, is_row, row_of, rises, names_of, field_of};
 ghost use Rattle.ks_row.specs.FieldKeys.{field_key};
-ghost use Rattle.ks_row.specs.Texts.{name_of};
+ghost use Rattle.ks_record.specs.Texts.{name_of};
 ghost use Rattle.ks_row.specs.Fields.{field_seen, member_seen, number_row};
 ghost use Rattle.ks_row.specs.Reading.{row_from};
 ghost use Rattle.ks_row.specs.Judged.{row_in};
@@ -12,10 +12,9 @@ ghost use Rattle.ks_row.specs.Spelling.{spelling, FitsField, FitsMember, FitsRow
 
 use crate::codec::{spell, spell_number, spell_refs};
 use crate::field_ref::{FieldRef, field_in};
-use crate::judging::{is_below, spells_row};
-use crate::lists::Blob;
 use crate::reading::read_row_members;
-use crate::texts::{Key, Name, Text};
+use crate::validity::{is_below, spells_row};
+use ks_record::{Blob, Key, Name, Text};
 use std::alloc::{AllocError, Global};
 use std::marker::Model;
 

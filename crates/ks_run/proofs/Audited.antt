@@ -1,5 +1,5 @@
 -- What the words `audit` are answered.
-use Rattle.std.proofs.Common.{◌≡◌, inl, inr, ℕ, Bool, true, false, ◌||◌, List, refl, sym, ap, ◌∙◌}
+use Rattle.std.proofs.Common.{◌≡◌, ◌⊎◌, inl, inr, ℕ, Bool, true, false, ◌||◌, List, refl, sym, ap, subst, ◌∙◌}
 use Rattle.std.specs.Prelude.{◌==◌, Option, Some, None}
 use Rattle.std.proofs.lemmas.Bool.{true≢false}
 use Rattle.ks_words.specs.declared.command.Command.{Command}
@@ -11,10 +11,12 @@ use Rattle.ks_journal.specs.Lines.{journal_text}
 use Rattle.ks_law_exactly_once.proofs.Replays.{is_run}
 use Rattle.ks_law_topology.specs.Work.{setup_of}
 use Rattle.ks_law_topology.proofs.Networks.{works_are_networks}
-use Rattle.ks_run_audit.specs.Audited.{IsAudited, HoldsAudited}
-use Rattle.ks_run.specs.Audited.{IsPrintedRun, HoldsRun}
-use Rattle.ks_run.specs.Answers.{IsStatus}
-use Rattle.ks_run.specs.Commands.{IsAuditStatus, HasValidJob, HasBadAsk, is_audit}
+use Rattle.ks_audit_verdict.specs.Audited.{IsAudited, HoldsAudited}
+use Rattle.ks_audit_verdict.specs.Answers.{IsVerdict, IsAuditAnswer}
+use Rattle.ks_law_accepted.proofs.Inputs.{the_answer_is_yes}
+use Rattle.ks_run_verdict.specs.Audited.{IsPrintedRun, HoldsRun, AnswersYes}
+use Rattle.ks_run_verdict.specs.Answers.{IsStatus}
+use Rattle.ks_run_verdict.specs.Commands.{IsAuditStatus, HasValidJob, HasBadAsk, is_audit}
 
 -- each is a status, and no other is one
 pub is_status : (s : ℕ) → IsAuditStatus s → IsStatus s
@@ -92,11 +94,39 @@ pub holds_run : (rules : Rules) (left : Option (List ℕ)) → HoldsAudited rule
 holds_run rules left h = record {
   bytes = h.bytes;
   known = h.known;
-  head = h.head;
-  text = h.text;
-  cut = h.cut;
-  line = h.line;
-  draft = h.draft;
-  topology = h.topology;
-  printed = printed_run rules h.draft h.text h.audited;
+  head = h.input.head;
+  text = h.input.text;
+  cut = h.input.cut;
+  line = h.input.line;
+  draft = h.input.draft;
+  topology = h.input.topology;
+  within = h.input.within;
+  printed = printed_run rules h.input.draft h.input.text h.input.audited;
 }
+
+-- a verdict is a status of an audit
+pub audit_status : (s : ℕ) → IsVerdict s → IsAuditStatus s
+audit_status s (inl e) = inl e
+audit_status s (inr (inl e)) = inr (inl e)
+audit_status s (inr (inr (inl e))) = inr (inr (inl e))
+audit_status s (inr (inr (inr e))) = inr (inr (inr (inr (inr e))))
+
+pub not_seven : (s : ℕ) → IsVerdict s → s ≡ 7 → ⊥
+not_seven s (inl e) is = let f = sym e ∙ is in cc
+not_seven s (inr (inl e)) is = let f = sym e ∙ is in cc
+not_seven s (inr (inr (inl e))) is = let f = sym e ∙ is in cc
+not_seven s (inr (inr (inr e))) is = let f = sym e ∙ is in cc
+
+pub not_eight : (s : ℕ) → IsVerdict s → s ≡ 8 → ⊥
+not_eight s (inl e) is = let f = sym e ∙ is in cc
+not_eight s (inr (inl e)) is = let f = sym e ∙ is in cc
+not_eight s (inr (inr (inl e))) is = let f = sym e ∙ is in cc
+not_eight s (inr (inr (inr e))) is = let f = sym e ∙ is in cc
+
+-- ---- an audited input is answered by yes
+yes_or : (s : ℕ) → (s ≡ 0) ⊎ (s ≡ 6) → (s ≡ 0) ⊎ (s ≡ 6) ⊎ (s ≡ 7) ⊎ (s ≡ 8)
+yes_or s (inl e) = inl e
+yes_or s (inr e) = inr (inl e)
+
+pub says_yes : (rules : Rules) (left now : Option (List ℕ)) (before after s : ℕ) (text : List ℕ) → IsAuditAnswer rules left now before after s text → AnswersYes rules left s
+says_yes rules left now before after s text h bytes is input = yes_or s (the_answer_is_yes rules bytes now before after s text input (subst (λ l. IsAuditAnswer rules l now before after s text) is h))

@@ -28,9 +28,9 @@ use Rattle.ks_iq.specs.Asks.{ask_fault}
 use Rattle.ks_iq.specs.Reads.{IsRead}
 use Rattle.ks_run_ask.specs.Answered.{AreAnswerLines}
 use Rattle.ks_run_ask.specs.Texts.{bad_ask_text}
-use Rattle.ks_run.specs.Told.{Wanted, refusal_of, wanted_in, asked_in, IsText, TellsLate, TellsCollision}
-use Rattle.ks_run.specs.Told.Wanted.{nothing, lines, answers}
-use Rattle.ks_run.specs.Journals.{draft_in, placed_records, SettlesBytes, HasJournal, TookFront, IsUndrained, IsEmptyIf, IsInTime, IsGoodAsk, IsRefusing, IsWithoutCollision}
+use Rattle.ks_run_verdict.specs.Told.{Wanted, refusal_of, wanted_in, asked_in, IsText, TellsLate, TellsCollision}
+use Rattle.ks_run_verdict.specs.Told.Wanted.{nothing, lines, answers}
+use Rattle.ks_run_verdict.specs.Journals.{draft_in, placed_records, SettlesBytes, HasJournal, TookFront, IsUndrained, IsEmptyIf, IsInTime, IsGoodAsk, IsRefusing, IsWithoutCollision}
 use Rattle.ks_job_source.specs.declared.stop.JobStop.{JobStop}
 use Rattle.ks_job_source.specs.Stops.{stop_of}
 use Rattle.ks_job_source.specs.Texts.{bad_job_text}
@@ -41,11 +41,11 @@ use Rattle.ks_job_source.specs.declared.rest.Standing.TheVariants as standings
 use Rattle.ks_job_source.specs.declared.rest.JobEnd.{JobEnd}
 use Rattle.ks_job_source.specs.declared.rest.JobEnd.TheVariants.{Whole, Stopped, Failed}
 use Rattle.ks_job_source.proofs.Opened.{opened_and_read, front_of_whole}
-use Rattle.ks_run_workers.specs.Feeding.{FaultsBy}
+use Rattle.ks_run_feed.specs.Feeding.{FaultsBy}
 use Rattle.ks_run_output.specs.Texts.{read_fault_text}
 use Rattle.ks_run.specs.Settling.{SettlesJob, KeepsJob, TellsWhole, TellsEnd, RunsJob}
-use Rattle.ks_run.specs.Answers.{IsRefused, IsBadAsk, IsJudged}
-use Rattle.ks_run.proofs.Told.{Tells, tells}
+use Rattle.ks_run_verdict.specs.Answers.{IsRefused, IsBadAsk, IsJudged}
+use Rattle.ks_run_verdict.proofs.Told.{Tells, tells}
 
 abbrev some_draft : Option DraftView → DraftView
 some_draft None = record { app = []; topics = []; nodes = []; print = [] }

@@ -13,7 +13,7 @@ use Rattle.ks_law_load_job.proofs.Valid.{in_time, well_formed}
 use Rattle.ks_law_load_job.proofs.WholeJob.{load_read}
 use Rattle.ks_job_source.specs.declared.stop.JobStop.TheVariants.{BadTopology}
 use Rattle.ks_job_source.specs.Stops.{topology_stop, line_stop}
-use Rattle.ks_run.specs.Journals.{draft_in, IsInTime}
+use Rattle.ks_run_verdict.specs.Journals.{draft_in, IsInTime}
 
 no_line_stop : (r : Reader) → IsReading r → line_stop r ≡ None
 no_line_stop (Reading s begun) h = refl

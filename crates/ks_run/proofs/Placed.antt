@@ -3,10 +3,10 @@ use Rattle.std.proofs.Common.{◌≡◌, ℕ, ◌<◌, ◌≤◌, ◌^◌, true,
 use Rattle.std.specs.Prelude.{Option, Some, None, IfSome, option_map, bit_and}
 use Rattle.std.proofs.Math.Nat.{mod-lt}
 use Rattle.std.proofs.lemmas.Bool.{le-leb}
-use Rattle.ks_row.specs.Texts.{IsKey}
+use Rattle.ks_record.specs.Texts.{IsKey}
 use Rattle.ks_row.specs.Spelling.{spelling, FitsRow}
 use Rattle.ks_row.specs.Reading.{row_from}
-use Rattle.ks_row.specs.Records.{Record as Rec}
+use Rattle.ks_record.specs.Records.{Record as Rec}
 use Rattle.ks_row.proofs.Spelled.{row_again}
 use Rattle.ks_hash.specs.Murmur2.{murmur2_of}
 use Rattle.ks_expr.specs.Keys.{spread_part}
@@ -21,9 +21,10 @@ use Rattle.ks_law_inputs.specs.Records.{row_in, input_of, records_of, IsRowBytes
 use Rattle.ks_def_tasks.specs.Rules.{rules_of}
 use Rattle.ks_law_kinds.specs.OfKind.{is_in_range}
 use Rattle.ks_law_settled.specs.Jobs.{produced_of, FitInputs, InRange, HasParts}
-use Rattle.ks_run_workers.specs.Placing.{part_at, placed, placed_all}
-use Rattle.ks_run.specs.Journals.{placed_records}
-use Rattle.ks_run.proofs.Counts.{topic_is, counts_length}
+use Rattle.ks_run_feed.specs.Placing.{part_at, placed, placed_all}
+use Rattle.ks_run_verdict.specs.Journals.{placed_records}
+use Rattle.ks_plan.proofs.TopicLists.{topic_is}
+use Rattle.ks_job_source.proofs.Counts.{counts_length}
 
 pub keys_have_parts : (hash : List ℕ → ℕ) → HasParts (rules_of hash)
 keys_have_parts hash k s l = mod-lt (bit_and (murmur2_of (spread_part s.before k)) 0x7fffffff) (omega arith)

@@ -3,9 +3,9 @@ use Rattle.std.proofs.Common.{◌≡◌, ℕ, ◌<◌, ◌≤◌, List, [], ◌�
 use Rattle.std.specs.Prelude.{None, Some, Option}
 use Rattle.std.specs.List.{All}
 use Rattle.std.proofs.lemmas.List.Elements.{All-weaker}
-use Rattle.ks_row.specs.Records.{Record as Rec}
-use Rattle.ks_row.specs.declared.record.PartId.{PartId}
-use Rattle.ks_row.specs.declared.record.TaskId.{TaskId}
+use Rattle.ks_record.specs.Records.{Record as Rec}
+use Rattle.ks_record.specs.declared.record.PartId.{PartId}
+use Rattle.ks_record.specs.declared.record.TaskId.{TaskId}
 use Rattle.ks_plan.specs.Drafts.{DraftView}
 use Rattle.ks_plan.specs.Plan.{plan_of}
 use Rattle.ks_plan.specs.Layout.{topics_of, parts_of_topic, tasks}
@@ -28,8 +28,8 @@ use Rattle.ks_task.specs.Placing.{placed_by}
 use Rattle.ks_task.proofs.Alone.{everything_is_good}
 use Rattle.ks_query.specs.Streams.{Input}
 use Rattle.ks_def_tasks.specs.Messages.{Rules}
-use Rattle.ks_run_workers.specs.declared.feeding.JobInput.{JobInput}
-use Rattle.ks_run_workers.specs.Feeding.{FaultsBy}
+use Rattle.ks_run_feed.specs.declared.feeding.JobInput.{JobInput}
+use Rattle.ks_run_feed.specs.Feeding.{FaultsBy}
 use Rattle.ks_job_source.specs.declared.rest.JobEnd.{JobEnd}
 use Rattle.ks_job_source.specs.declared.rest.JobEnd.TheVariants as end
 use Rattle.ks_job_source.specs.declared.rest.JobRest.{JobRest}
@@ -49,8 +49,8 @@ use Rattle.ks_job.specs.Items.{ItemView, item_views}
 use Rattle.ks_law_inputs.specs.Records.{records_of, HavePartitions, AreRecords}
 use Rattle.ks_shared.specs.declared.state.Frame.{Frame}
 use Rattle.ks_topo.specs.Places.{HasPlaces}
-use Rattle.ks_run_workers.specs.Placing.{counts_in, placed_all}
-use Rattle.ks_run_workers.specs.Producing.{IsFilled}
+use Rattle.ks_run_feed.specs.Placing.{counts_in, placed_all}
+use Rattle.ks_run_feed.specs.Producing.{IsFilled}
 use Rattle.ks_standby.specs.declared.replica.Replica.{Replica}
 use Rattle.ks_worker_state.specs.Standbys.{IsStandby}
 use Rattle.ks_settle.specs.Restoring.{IsReplicaAt}
@@ -58,10 +58,10 @@ use Rattle.ks_settle.specs.Drained.{Extends, drain_worker}
 use Rattle.ks_settle_report.specs.Report.{IsOf}
 use Rattle.ks_task.proofs.Subs.{inputs_there}
 use Rattle.ks_iq.specs.declared.fault.IqFault.{IqFault}
-use Rattle.ks_run.specs.Told.{Wanted, told, refusal_of, wanted_at, IsText}
-use Rattle.ks_run.specs.Journals.{placed_records, IsUndrained}
+use Rattle.ks_run_verdict.specs.Told.{Wanted, told, refusal_of, wanted_at, IsText}
+use Rattle.ks_run_verdict.specs.Journals.{placed_records, IsUndrained}
 use Rattle.ks_run.specs.Settling.{IsDrained, SettlesJob, IsWantedBy, IsEnded, IsLeft, EndsWhole, EndsBy, KeepsJob, TellsWhole, TellsEnd, RunsJob}
-use Rattle.ks_run.proofs.Counts.{counts_length, plan_count, have_places, shown_counts}
+use Rattle.ks_job_source.proofs.Counts.{counts_length, plan_count, have_places, shown_counts}
 use Rattle.ks_run.proofs.Placed.{keys_have_parts, records_placed, records_fit, records_in_range}
 
 pub setup_is : (hash : List ℕ → ℕ) (d : DraftView) (plan : TaskPlan) (counts : List ℕ) (ts : List TaskId) → plan ≡ work_of (rules_of hash) (plan_of d) → counts ≡ map (parts_of_topic (plan_of d)) (topics_of (plan_of d)) → ts ≡ tasks (plan_of d) →

@@ -30,15 +30,15 @@ use Rattle.ks_iq.specs.Asks.{ask_fault, part_of_ask}
 use Rattle.ks_iq.specs.Reads.{IsRead, ReadsTopology}
 use Rattle.ks_iq.proofs.Lasting.{read_within}
 use Rattle.ks_run_workers.specs.declared.workers.Asked.{Asked}
-use Rattle.ks_run_workers.specs.Asking.{last_position, AreAnswers}
+use Rattle.ks_iq.specs.Answered.{last_position, AreAnswers}
 use Rattle.ks_run_workers.specs.Asked.{AreAnswered}
 use Rattle.ks_run_workers.proofs.AskedBeside.{read_on}
 use Rattle.ks_run_workers.proofs.AskedOften.{rise_both}
 use Rattle.ks_run.specs.declared.wanted.Tail.{Tail}
 use Rattle.ks_run.specs.declared.wanted.Tail.TheVariants.{Nothing, Lines, Answers, Refusal}
-use Rattle.ks_run.specs.Told as told
-use Rattle.ks_run.specs.Told.{refusal_of, wanted_in, wanted_at, IsTail, IsText}
-use Rattle.ks_run.specs.Told.Wanted.{answers}
+use Rattle.ks_run_verdict.specs.Told as told
+use Rattle.ks_run_verdict.specs.Told.{refusal_of, wanted_in, wanted_at, IsTail, IsText}
+use Rattle.ks_run_verdict.specs.Told.Wanted.{answers}
 use Rattle.ks_run.specs.Tails.{wanted_of, tail_of, refusal_in, MayTell, nothing_for, without_answers, IsTailOf, IsToldBy}
 use Rattle.ks_cluster.specs.Placed.{PlacementTest}
 use Rattle.ks_job_source.specs.declared.rest.JobEnd.{JobEnd}

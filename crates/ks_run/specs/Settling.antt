@@ -28,12 +28,12 @@ use Rattle.ks_job_source.specs.declared.rest.JobEnd.TheVariants.{Whole, Stopped,
 use Rattle.ks_job_source.specs.Opening.{EndsFrom}
 use Rattle.ks_job_source.specs.Texts.{bad_job_text}
 use Rattle.ks_run_output.specs.Texts.{read_fault_text}
-use Rattle.ks_run_workers.specs.Feeding.{FaultsBy}
+use Rattle.ks_run_feed.specs.Feeding.{FaultsBy}
 use Rattle.ks_law_settled.specs.Settled.{end_of}
 use Rattle.ks_iq.specs.declared.fault.IqFault.{IqFault}
 use Rattle.ks_run_ask.specs.Texts.{bad_ask_text}
-use Rattle.ks_run.specs.Told.{Wanted, told, refusal_of, wanted_at, IsText}
-use Rattle.ks_run.specs.Journals.{IsJournal, IsPlaced, IsUndrained, placed_records}
+use Rattle.ks_run_verdict.specs.Told.{Wanted, told, refusal_of, wanted_at, IsText}
+use Rattle.ks_run_verdict.specs.Journals.{IsJournal, IsPlaced, IsUndrained, placed_records}
 
 -- the journal settles the job, and the status and the text are those of the cluster that it leaves, with what is wanted behind it
 pub record SettlesJob (rules : Rules) (wanted : Wanted) (d : DraftView) (records : List Input) (status : ℕ) (text : List ℕ) (journal : List Entry) : Type 0 where

@@ -11,12 +11,12 @@ use Rattle.ks_iq.specs.declared.fault.IqFault.{IqFault}
 use Rattle.ks_iq.specs.Asks.{ask_fault, part_of_ask}
 use Rattle.ks_iq.specs.Reads.{IsRead}
 use Rattle.ks_run_ask.specs.Texts.{answer_line}
-use Rattle.ks_run_workers.specs.Asking.{AreAnswers}
+use Rattle.ks_iq.specs.Answered.{AreAnswers}
 use Rattle.ks_run_workers.specs.declared.workers.Asked.{Asked}
 use Rattle.ks_run.specs.declared.wanted.Tail.{Tail}
 use Rattle.ks_run.specs.declared.wanted.Tail.TheVariants.{Nothing, Lines, Answers, Refusal}
-use Rattle.ks_run.specs.Told.{Wanted}
-use Rattle.ks_run.specs.Told.Wanted.{nothing, lines, answers}
+use Rattle.ks_run_verdict.specs.Told.{Wanted}
+use Rattle.ks_run_verdict.specs.Told.Wanted.{nothing, lines, answers}
 
 -- what is wanted by it
 abbrev pub wanted_of : Tail → Wanted

@@ -6,26 +6,28 @@ ghost use Rattle.ks_hash.specs.Murmur3.{murmur3_of};
 ghost use Rattle.ks_def_tasks.specs.Rules.{rules_of};
 ghost use Rattle.ks_run_output.specs.Bytes.{AppendsFront};
 ghost use Rattle.ks_run_output.specs.Texts.{bad_words_text, read_fault_text};
-ghost use Rattle.ks_run_workers.specs.Members.{placing_of};
+ghost use Rattle.ks_run_feed.specs.Wanted.{placing_of};
 ghost use Rattle.ks_words.specs.Grammar.{words_of, command_of};
 ghost use Rattle.ks_words.specs.Load.{load_text};
 ghost use Rattle.ks_words.specs.Ranges.{HasRanges, IsWithin};
-ghost use Rattle.ks_run_audit.specs.Verdicts.{yes_text};
-ghost use Rattle.ks_run.specs.Audited.{HoldsRun};
-ghost use Rattle.ks_run.specs.Told.Wanted.{nothing};
-ghost use Rattle.ks_run.specs.Answers.{IsRefused, IsBadAsk, IsStatus};
-ghost use Rattle.ks_run.specs.Commands.{HasBadAsk, HasValidJob, IsRun, IsAuditStatus, IsJudgedBy, IsLoadJudged, is_audit, is_read_ahead, placing_by, job_bytes, wanted_of};
-ghost use Rattle.ks_run.specs.Journals.{IsSettledRun, IsLateRun, IsCollidedRun, HasJournal, TookFront, IsUndrained, IsEmptyIf, IsWithoutCollision};
+ghost use Rattle.ks_audit_verdict.specs.Answers.{IsAuditAnswer};
+ghost use Rattle.ks_audit_verdict.specs.Texts.{yes_text};
+ghost use Rattle.ks_run_verdict.specs.Audited.{AnswersYes, HoldsRun};
+ghost use Rattle.ks_run_verdict.specs.Told.Wanted.{nothing};
+ghost use Rattle.ks_run_verdict.specs.Answers.{IsRefused, IsBadAsk, IsStatus};
+ghost use Rattle.ks_run_verdict.specs.Commands.{HasBadAsk, HasValidJob, IsRun, IsAuditStatus, IsJudgedBy, IsLoadJudged, is_audit, is_read_ahead, placing_by, job_bytes, wanted_of};
+ghost use Rattle.ks_run_verdict.specs.Journals.{IsSettledRun, IsLateRun, IsCollidedRun, HasJournal, TookFront, IsUndrained, IsEmptyIf, IsWithoutCollision};
 
 use crate::loading::TextSource;
 use crate::runs::{Ended, run_asked, run_job};
-use crate::status::{BAD_WORDS, NO_MEMORY, WRITE_FAULT};
 use ks_edge::{Gate, Sink, Source};
 use ks_hash::Murmur3;
 use ks_iq::Ask;
-use ks_row::Seq;
+use ks_record::Seq;
 use ks_run_audit::audit_source;
 use ks_run_output::{print_bad_words, write_output};
+use ks_run_verdict::{BAD_WORDS, NO_MEMORY, WRITE_FAULT};
+use ks_task_step::StepsBy;
 use ks_words::{Command, Settings, load_job, read_words};
 use std::alloc::Global;
 use std::sync::Wait;
@@ -149,13 +151,22 @@ fn audit_input<R: Threads + Sync, S: Source, K: Sink>(
         × IsAtEnd (S.left input.new)
         × HoldsRun (rules_of murmur3_of) (S.left input.old)
         × Appends (K.held out.old) (K.held out.new) yes_text }
-    ensures write_fault { result.status ≡ 7 → Rose (K.faults out.old) (K.faults out.new) }
+    ensures answer { (result.status ≡ 7 → ⊥) → (result.status ≡ 8 → ⊥) → ((text : List ℕ)
+        × IsAuditAnswer (rules_of murmur3_of) (S.left input.old) (S.left input.new)
+        (S.faults input.old) (S.faults input.new) result.status text
+        × Appends (K.held out.old) (K.held out.new) text) }
+    ensures write_fault { result.status ≡ 7 → Rose (K.faults out.old) (K.faults out.new)
+        × ((status : ℕ) × (text : List ℕ)
+        × IsAuditAnswer (rules_of murmur3_of) (S.left input.old) (S.left input.new)
+        (S.faults input.old) (S.faults input.new) status text
+        × AppendsFront (K.held out.old) (K.held out.new) text) }
+    ensures complete { AnswersYes (rules_of murmur3_of) (S.left input.old) result.status }
     ensures written { (result.status ≡ 7 → ⊥) → K.faults out.new ≡ K.faults out.old }
     ensures memory { result.status ≡ 8 → out.new ≡ out.old }
     ensures journal { result.journal ≡ [] }
 {
     let journal = Seq::new(alloc);
-    let Ok(answer) = audit_source::<Murmur3, R, S>(rt, alloc, input) else {
+    let Ok(answer) = audit_source::<StepsBy<Murmur3>, R, S>(rt, alloc, input) else {
         return Ended {
             status: NO_MEMORY,
             journal,
@@ -383,6 +394,23 @@ pub fn top<R: Threads + Wait + Sync, S: Source + Send, K: Sink>(
         × IsAtEnd (S.left input.new)
         × HoldsRun (rules_of murmur3_of) (S.left input.old)
         × Appends (K.held out.old) (K.held out.new) yes_text }
+
+    // Each of its statuses comes with its text, for its reason; where the output failed, the front of such a text was written.
+    ensures audit_answer { is_audit (command_of (words_of words.now)) ≡ true
+        → (result.status ≡ 7 → ⊥) → (result.status ≡ 8 → ⊥) → ((text : List ℕ)
+        × IsAuditAnswer (rules_of murmur3_of) (S.left input.old) (S.left input.new)
+        (S.faults input.old) (S.faults input.new) result.status text
+        × Appends (K.held out.old) (K.held out.new) text) }
+    ensures audit_write_fault { is_audit (command_of (words_of words.now)) ≡ true
+        → result.status ≡ 7 → Rose (K.faults out.old) (K.faults out.new)
+        × ((status : ℕ) × (text : List ℕ)
+        × IsAuditAnswer (rules_of murmur3_of) (S.left input.old) (S.left input.new)
+        (S.faults input.old) (S.faults input.new) status text
+        × AppendsFront (K.held out.old) (K.held out.new) text) }
+
+    // Where the source tells that it holds such an output, and no device or memory fails, it is `yes`.
+    ensures audit_complete { is_audit (command_of (words_of words.now)) ≡ true
+        → AnswersYes (rules_of murmur3_of) (S.left input.old) result.status }
 {
     let Ok(command) = read_words(alloc, words) else {
         return Ended {

@@ -7,8 +7,6 @@ mod loading;
 mod outcome;
 mod runs;
 mod settling;
-mod status;
-mod verdict;
 mod wanted;
 
 pub use command::top;

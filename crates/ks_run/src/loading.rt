@@ -5,7 +5,7 @@ ghost use Rattle.std.specs.Io.KnownBytes.{ReadConsumes};
 ghost use Rattle.ks_edge.specs.Causes.{HasCause};
 
 use ks_edge::{Failed, Source};
-use ks_row::Blob;
+use ks_record::Blob;
 use std::marker::Model;
 
 /// Gives the bytes of a text.

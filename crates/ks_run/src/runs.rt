@@ -5,23 +5,25 @@ ghost use Rattle.ks_edge.specs.Causes.{Rose};
 ghost use Rattle.ks_def_tasks.specs.Rules.{rules_of};
 ghost use Rattle.ks_run_output.specs.Bytes.{AppendsFront};
 ghost use Rattle.ks_run_output.specs.Texts.{read_fault_text};
-ghost use Rattle.ks_run_workers.specs.Members.{placing_of};
+ghost use Rattle.ks_run_feed.specs.Wanted.{placing_of};
 ghost use Rattle.ks_words.specs.Ranges.{HasRanges};
 ghost use Rattle.ks_iq.specs.declared.ask.Ask.{Ask};
-ghost use Rattle.ks_run.specs.Journals.{IsSettledRun, IsLateRun, IsCollidedRun, HasJournal, TookFront, IsUndrained, IsEmptyIf, IsInTime, IsGoodAsk, IsRefusing, IsWithoutCollision};
-ghost use Rattle.ks_run.specs.Told.{lines_if, wanted_in};
-ghost use Rattle.ks_run.specs.Told.Wanted.{answers};
-ghost use Rattle.ks_run.specs.Answers.{IsRefused, IsBadAsk, IsJudged, IsStatus};
+ghost use Rattle.ks_run_verdict.specs.Journals.{IsSettledRun, IsLateRun, IsCollidedRun, HasJournal, TookFront, IsUndrained, IsEmptyIf, IsInTime, IsGoodAsk, IsRefusing, IsWithoutCollision};
+ghost use Rattle.ks_run_verdict.specs.Told.{lines_if, wanted_in};
+ghost use Rattle.ks_run_verdict.specs.Told.Wanted.{answers};
+ghost use Rattle.ks_run_verdict.specs.Answers.{IsRefused, IsBadAsk, IsJudged, IsStatus};
 
 use crate::outcome::judge_job;
-use crate::status::{NO_MEMORY, WRITE_FAULT};
 use ks_edge::{Gate, Sink, Source};
 use ks_hash::Hash128;
 use ks_history::Journal;
 use ks_iq::Ask;
-use ks_row::Seq;
+use ks_record::Seq;
 use ks_run_output::write_output;
+use ks_run_verdict::{NO_MEMORY, WRITE_FAULT};
 use ks_run_workers::RunWorkers;
+use ks_task_processing::Processing;
+use ks_task_step::StepsBy;
 use ks_words::Settings;
 use std::alloc::Global;
 use std::sync::Wait;
@@ -126,7 +128,7 @@ pub fn run_job<H: Hash128 + Send + Sync, R: Threads + Wait + Sync, S: Source + S
         gates,
         question: None,
     };
-    run_crew::<H, R, S, K>(rt, alloc, input, out, crew)
+    run_crew::<StepsBy<H>, R, S, K>(rt, alloc, input, out, crew)
 }
 
 /// The same, and a question is asked meanwhile and at the end: behind the tables stands a line for each of its 17 answers, in place of the
@@ -216,11 +218,11 @@ pub fn run_asked<H: Hash128 + Send + Sync, R: Threads + Wait + Sync, S: Source +
         gates,
         question: Some(ask),
     };
-    run_crew::<H, R, S, K>(rt, alloc, input, out, crew)
+    run_crew::<StepsBy<H>, R, S, K>(rt, alloc, input, out, crew)
 }
 
 // Runs the job by a crew, and writes what it answers.
-fn run_crew<H: Hash128 + Send + Sync, R: Threads + Wait + Sync, S: Source + Send, K: Sink>(
+fn run_crew<H: Processing + Send + Sync, R: Threads + Wait + Sync, S: Source + Send, K: Sink>(
     rt: &R,
     alloc: Global,
     input: &mut S,

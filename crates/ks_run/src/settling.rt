@@ -17,33 +17,31 @@ ghost use Rattle.ks_law_topology.specs.Work.{work_of, setup_of as topology_setup
 ghost use Rattle.ks_law_topology.specs.Work.{FitsRules};
 ghost use Rattle.ks_def_tasks.specs.Rules.{HaveParts, rules_of};
 ghost use Rattle.ks_words.specs.Ranges.{HasRanges};
-ghost use Rattle.ks_run_workers.specs.Members.{placing_of};
+ghost use Rattle.ks_run_feed.specs.Wanted.{placing_of};
 ghost use Rattle.ks_settle.specs.Restoring.{IsQuiet};
-ghost use Rattle.ks_run.specs.Told.{wanted_in};
+ghost use Rattle.ks_run_verdict.specs.Told.{wanted_in};
 ghost use Rattle.ks_iq.specs.Reads.{ReadsTopology};
 ghost use Rattle.ks_run.specs.declared.wanted.Tail.TheVariants.{Answers};
 ghost use Rattle.ks_run.specs.Tails.{wanted_of, refusal_in, without_answers, MayTell, IsTailOf, AreLinesOf, IsToldBy};
-ghost use Rattle.ks_run.specs.Verdict.{told_as};
+ghost use Rattle.ks_run_verdict.specs.Verdict.{told_as};
 ghost use Rattle.ks_run.specs.Settling.{IsWantedBy, AreWanted, IsEnded, IsLeft, EndsWhole, EndsBy, RunsJob};
 
 use crate::answer::Answer;
-use crate::status::{BAD_ASK, BAD_JOB, COLLISION, READ_FAULT};
-use crate::verdict::{Verdict, judge, print_verdict};
 use crate::wanted::{Tail, refusal_in, wanted_by};
 use ks_cluster::{Cluster, Work};
 use ks_edge::{Gate, Source};
-use ks_hash::Hash128;
 use ks_iq::{Ask, IqFault};
 use ks_job_source::{JobEnd, OpenJob, print_bad_job};
 use ks_journal::push_journal;
 use ks_run_ask::{answer_last, bad_ask, print_bad_ask, push_answers};
+use ks_run_feed::{JobInput, counts_of, placing_of};
 use ks_run_output::print_read_fault;
-use ks_run_workers::{
-    Asked, JobInput, RunWorkers, WorkEnd, counts_of, last_position, placing_of, run_workers,
-};
+use ks_run_verdict::{BAD_ASK, BAD_JOB, COLLISION, READ_FAULT, Verdict, judge, print_verdict};
+use ks_run_workers::{Asked, RunWorkers, WorkEnd, last_position, run_workers};
 use ks_settle::drain;
 use ks_standby::Replica;
 use ks_task::{TaskWork, topology_fits};
+use ks_task_processing::Processing;
 use ks_topo::{Topology, share_topology};
 use std::alloc::{AllocError, Global};
 use std::sync::Wait;
@@ -130,7 +128,7 @@ fn end_run<R: Threads + Sync, W: Work>(
     ensures few { records_in (setup_of W.plan cluster) cluster.journal < 2 ^ 48 }
 {
     // The journal is a history, whether memory suffices or not.
-    let _journal = cluster.journal();
+    cluster.is_history();
     let status = verdict.status();
     let shown = shown_at(status, wanted);
     let mut text = print_verdict(rt, alloc, verdict)?;
@@ -144,7 +142,7 @@ fn end_run<R: Threads + Sync, W: Work>(
 }
 
 // Hashes have 128 bits, as a fact for what follows; does nothing.
-fn hashes_fit<H: Hash128>()
+fn hashes_fit<H: Processing>()
     ensures { FitsRules (rules_of H.hash_of) }
 {}
 
@@ -161,7 +159,7 @@ fn end_undrained<W: Work>(cluster: Cluster<W>, status: u8, text: Vec<u8>) -> Ans
 }
 
 // The answer of a run whose records were all fed: the cluster is brought to rest.
-fn end_settled<H: Hash128 + Send + Sync, R: Threads + Sync, W: Work + Send + Sync>(
+fn end_settled<H: Processing + Send + Sync, R: Threads + Sync, W: Work + Send + Sync>(
     rt: &R,
     alloc: Global,
     topology: &Topology,
@@ -183,12 +181,12 @@ fn end_settled<H: Hash128 + Send + Sync, R: Threads + Sync, W: Work + Send + Syn
     drain::<H, R, W>(rt, alloc, topology, &mut cluster, replicas, cache)?;
     let verdict = judge::<H, R, W>(rt, alloc, topology, &cluster)?;
     // The journal is a history: what was read of its front is read of it.
-    let _journal = cluster.journal();
+    cluster.is_history();
     end_run(rt, alloc, topology, cluster, verdict, wanted)
 }
 
 // The answer of a run whose records were all fed: a question that can't be asked is refused, and nothing is drained then.
-fn end_whole<H: Hash128 + Send + Sync, R: Threads + Sync, W: Work + Send + Sync>(
+fn end_whole<H: Processing + Send + Sync, R: Threads + Sync, W: Work + Send + Sync>(
     rt: &R,
     alloc: Global,
     topology: &Topology,
@@ -216,7 +214,7 @@ fn end_whole<H: Hash128 + Send + Sync, R: Threads + Sync, W: Work + Send + Sync>
 }
 
 // The answer of a run by how reading its job ended: a cluster is brought to rest only where all of the job was read.
-fn end_by<H: Hash128 + Send + Sync, R: Threads + Sync, W: Work + Send + Sync>(
+fn end_by<H: Processing + Send + Sync, R: Threads + Sync, W: Work + Send + Sync>(
     rt: &R,
     alloc: Global,
     topology: &Topology,
@@ -281,7 +279,7 @@ fn begin<W: Work>(alloc: Global, topology: &Topology, work: W) -> Result<Cluster
 }
 
 // The run of a job's tasks.
-fn settle<H: Hash128 + Send + Sync, R: Threads + Wait + Sync, W: Work + Send + Sync, S: Source>(
+fn settle<H: Processing + Send + Sync, R: Threads + Wait + Sync, W: Work + Send + Sync, S: Source>(
     rt: &R,
     alloc: Global,
     topology: &Topology,
@@ -328,7 +326,7 @@ fn settle<H: Hash128 + Send + Sync, R: Threads + Wait + Sync, W: Work + Send + S
 
 /// The run of a job that was opened, by this crew; the text has the journal's lines where the crew's settings say so. Want of
 /// memory, also in a worker, is the one error.
-pub fn settle_job<H: Hash128 + Send + Sync, R: Threads + Wait + Sync, S: Source>(
+pub fn settle_job<H: Processing + Send + Sync, R: Threads + Wait + Sync, S: Source>(
     rt: &R,
     alloc: Global,
     job: OpenJob,

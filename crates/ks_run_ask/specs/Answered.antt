@@ -10,7 +10,7 @@ use Rattle.ks_iq.specs.declared.ask.Ask.{Ask}
 use Rattle.ks_iq.specs.declared.answer.Answer.{Answer}
 use Rattle.ks_iq.specs.Asks.{part_of_ask}
 use Rattle.ks_run_ask.specs.Texts.{answer_line}
-use Rattle.ks_run_workers.specs.Asking.{AreAnswers}
+use Rattle.ks_iq.specs.Answered.{AreAnswers}
 
 -- 17 answers, each a read of the state that the journal leaves, whose positions don't fall, and the last of which stands at the end of the
 -- question's partition

@@ -1,6 +1,10 @@
+pub mod Results
 pub mod Counts
-pub mod Cuts
-pub mod Opens
+pub mod Passing
 pub mod Outputs
+pub mod Along
+pub mod Windows
+pub mod Feeds
 pub mod Ends
 pub mod Sources
+pub mod Answering

@@ -1,7 +1,5 @@
-pub mod Cutting
-pub mod Audited
-pub mod Opening
+pub mod Passing
 pub mod Outputs
 pub mod Feeding
 pub mod Ending
-pub mod Verdicts
+pub mod Answering

@@ -1,26 +1,27 @@
 //! The audit of what a source holds.
-ghost use Rattle.std.specs.Prelude.{◌≡◌, ◌++◌, ◌<◌, ◌≤◌, true, IfOk, OnOk, length, take, vec_len};
+ghost use Rattle.std.specs.Prelude.{◌≡◌, ◌+◌, ◌^◌, ◌<◌, ◌≤◌, [], true, false, Err, IfOk, IfErr, OnOk, length, take, vec_len};
 ghost use Rattle.std.specs.Io.KnownBytes.{Consumes, IsAtEnd};
-ghost use Rattle.ks_edge.specs.Causes.{HasCause};
+ghost use Rattle.ks_edge.specs.Causes.{HasCause, Rose};
+ghost use Rattle.ks_job_source.specs.declared.reading.SourceError.TheVariants.{Fault as SourceFault};
 ghost use Rattle.ks_topo.specs.Topologies.{draft_of};
 ghost use Rattle.ks_def_tasks.specs.Rules.{rules_of};
-ghost use Rattle.ks_run_audit.specs.Audited.{IsAudited, HoldsAudited};
-ghost use Rattle.ks_run_audit.specs.Opening.{IsReady};
-ghost use Rattle.ks_run_audit.specs.Outputs.{IsSound, text_of};
-ghost use Rattle.ks_run_audit.specs.Feeding.{GoesOn, Loses, ReadsOut};
-ghost use Rattle.ks_run_audit.specs.Ending.{EndsAudited};
-ghost use Rattle.ks_run_audit.specs.Verdicts.{IsJudged, IsVerdict, yes_text};
+ghost use Rattle.ks_audit_verdict.specs.declared.fault.OutputFault.TheVariants.{NotJournal};
+ghost use Rattle.ks_audit_verdict.specs.Answers.{IsAuditAnswer};
+ghost use Rattle.ks_audit_verdict.specs.Texts.{no_text, yes_text};
+ghost use Rattle.ks_audit_source.specs.Opened.{IsReady};
+ghost use Rattle.ks_run_audit.specs.Outputs.{IsSound, place_in, text_of};
+ghost use Rattle.ks_run_audit.specs.Feeding.{IsFeed, Loses, LosesFault, ReadsAll, ReadsFault, ReadsOut, draft_in};
+ghost use Rattle.ks_run_audit.specs.Answering.{AnswersOutput, EndsOutput};
 
 use crate::ending::judge_end;
-use crate::fault::OutputFault;
 use crate::feeding::LineFeed;
-use crate::opening::{OpenAudit, open_audit};
 use crate::output::OutputAudit;
-use crate::texts::{print_no, print_yes};
+use ks_audit_source::{OpenAudit, open_audit};
+use ks_audit_verdict::{OutputFault, print_no, print_yes};
 use ks_edge::{Failed, Source};
-use ks_hash::Hash128;
 use ks_job_source::{SourceError, print_bad_job};
 use ks_run_output::print_read_fault;
+use ks_task_processing::Processing;
 use ks_topo::Topology;
 use std::alloc::{AllocError, Global};
 use std::thread::Threads;
@@ -44,8 +45,7 @@ pub struct AuditAnswer {
 }
 
 fn answer_yes(alloc: Global) -> Result<AuditAnswer, AllocError>
-    ensures status { IfOk result (λ a. a.status ≡ 0) }
-    ensures text { IfOk result (λ a. a.text.items ≡ yes_text) }
+    ensures { IfOk result (λ a. (a.status ≡ 0) × (a.text.items ≡ yes_text)) }
 {
     Ok(AuditAnswer {
         status: YES,
@@ -54,7 +54,7 @@ fn answer_yes(alloc: Global) -> Result<AuditAnswer, AllocError>
 }
 
 fn answer_no(alloc: Global, line: u64, fault: &OutputFault) -> Result<AuditAnswer, AllocError>
-    ensures { IfOk result (λ a. a.status ≡ 10) }
+    ensures { IfOk result (λ a. (a.status ≡ 10) × (a.text.items ≡ no_text line fault.now)) }
 {
     Ok(AuditAnswer {
         status: NO,
@@ -63,7 +63,7 @@ fn answer_no(alloc: Global, line: u64, fault: &OutputFault) -> Result<AuditAnswe
 }
 
 // What an output comes to whose input has ended.
-fn end_output<'a, H: Hash128 + Send + Sync, R: Threads + Sync>(
+fn end_output<'a, H: Processing + Send + Sync, R: Threads + Sync>(
     rt: &R,
     alloc: Global,
     topology: &'a Topology,
@@ -73,10 +73,10 @@ fn end_output<'a, H: Hash128 + Send + Sync, R: Threads + Sync>(
     requires ready { IsReady (draft_of topology.now) }
     requires sound { IsSound H.hash_of output }
     requires same { output.topology.now ≡ topology.now }
-    ensures status { IfOk result (λ a. IsJudged a.status) }
-    ensures text { IfOk result (λ a. a.status ≡ 0 → a.text.items ≡ yes_text) }
-    ensures yes { IfOk result (λ a. a.status ≡ 0 → IsAudited (rules_of H.hash_of)
-        (draft_of topology.now) (text_of output.entry ++ feed.now.line.items)) }
+    requires few { feed.now.lines < 2 ^ 63 }
+    ensures { IfOk result (λ a. EndsOutput (rules_of H.hash_of) (draft_of topology.now)
+        (place_in output.entry) (text_of output.entry) feed.now.line.items (feed.now.lines + 1)
+        a.status a.text.items) }
 {
     let line = feed.number();
     if feed.has_begun() {
@@ -102,22 +102,28 @@ fn take_most<S: Source>(input: &mut S, buf: &mut [u8], most: usize) -> Result<us
 }
 
 // Takes the next bytes, at most as many as there is room for, and has the lines judged that end in them. So many were taken.
-fn feed_next<H: Hash128, S: Source>(
+fn feed_next<H: Processing, S: Source>(
     alloc: Global,
     input: &mut S,
     buf: &mut [u8],
     output: &mut OutputAudit<'_, H>,
     feed: &mut LineFeed,
 ) -> Result<Result<usize, OutputFault>, SourceError>
-    requires ready { IsReady (draft_of output.old.topology.now) }
+    requires ready { IsReady (draft_in output.old) }
     requires sound { IsSound H.hash_of output.old }
-    requires within { feed.old.taken ≤ 536870912 }
+    requires feed { IsFeed feed.old }
     requires some { 0 < length buf.old }
-    ensures goes { IfOk result (λ r. IfOk r (λ n. GoesOn H.hash_of n feed.old feed.new
-        output.old output.new)) }
-    ensures loses { IfOk result (λ r. IfOk r (λ n. Loses n (S.left input.old) (S.left input.new)
-        feed.old.line.items feed.new.line.items output.old output.new)) }
+    ensures feed { IfOk result (λ r. OnOk r (IsFeed feed.new)) }
+    ensures taken { IfOk result (λ r. IfOk r (λ n. feed.new.taken ≡ feed.old.taken + n)) }
+    ensures loses { IfOk result (λ r. IfOk r (λ n. Loses H.hash_of (draft_in output.old) n
+        (S.left input.old) (S.left input.new) feed.old.line.items feed.new.line.items
+        feed.old.lines feed.new.lines output.old output.new)) }
+    ensures refused { IfOk result (λ r. IfErr r (LosesFault H.hash_of (draft_in output.old)
+        feed.old.taken (S.left input.old) (S.left input.new) feed.old.line.items
+        feed.old.lines feed.new.lines output.old)) }
+    ensures few { IfOk result (λ r. feed.new.lines < 2 ^ 63) }
     ensures kept { OnOk result (S.faults input.new ≡ S.faults input.old) }
+    ensures fault { result ≡ Err SourceFault → Rose (S.faults input.old) (S.faults input.new) }
     ensures buf { length buf.new ≡ length buf.old }
 {
     let room = feed.room(buf.len());
@@ -129,20 +135,27 @@ fn feed_next<H: Hash128, S: Source>(
 }
 
 // Takes what the source gives to its end, or to the first fault.
-fn read_lines<H: Hash128, S: Source>(
+fn read_lines<H: Processing, S: Source>(
     alloc: Global,
     input: &mut S,
     buf: &mut [u8],
     output: &mut OutputAudit<'_, H>,
     feed: &mut LineFeed,
 ) -> Result<Result<(), OutputFault>, SourceError>
-    requires ready { IsReady (draft_of output.old.topology.now) }
+    requires ready { IsReady (draft_in output.old) }
     requires sound { IsSound H.hash_of output.old }
-    requires within { feed.old.taken ≤ 536870912 }
+    requires feed { IsFeed feed.old }
     requires some { 0 < length buf.old }
-    ensures reads { IfOk result (λ r. OnOk r (ReadsOut H.hash_of (S.left input.old)
-        (S.left input.new) feed.old.line.items feed.new.line.items output.old output.new)) }
+    ensures reads { IfOk result (λ r. OnOk r (ReadsOut H.hash_of (draft_in output.old)
+        feed.old.taken feed.new.taken (S.left input.old) (S.left input.new) feed.old.line.items
+        feed.new.line.items feed.old.lines feed.new.lines output.old output.new)) }
+    ensures refused { IfOk result (λ r. IfErr r (LosesFault H.hash_of (draft_in output.old)
+        feed.old.taken (S.left input.old) (S.left input.new) feed.old.line.items
+        feed.old.lines feed.new.lines output.old)) }
+    ensures feed { IfOk result (λ r. OnOk r (IsFeed feed.new)) }
+    ensures few { IfOk result (λ r. feed.new.lines < 2 ^ 63) }
     ensures kept { OnOk result (S.faults input.new ≡ S.faults input.old) }
+    ensures fault { result ≡ Err SourceFault → Rose (S.faults input.old) (S.faults input.new) }
 {
     loop {
         match feed_next(alloc, input, buf, output, feed)? {
@@ -156,8 +169,39 @@ fn read_lines<H: Hash128, S: Source>(
     }
 }
 
+// Judges the lines of these bytes, and of what the source gives, to its end or to the first fault.
+fn read_all<H: Processing, S: Source>(
+    alloc: Global,
+    rest: &[u8],
+    input: &mut S,
+    buf: &mut [u8],
+    output: &mut OutputAudit<'_, H>,
+    feed: &mut LineFeed,
+) -> Result<Result<(), OutputFault>, SourceError>
+    requires ready { IsReady (draft_in output.old) }
+    requires sound { IsSound H.hash_of output.old }
+    requires feed { IsFeed feed.old }
+    requires begun { feed.old.line.items ≡ [] }
+    requires some { 0 < length buf.old }
+    ensures reads { IfOk result (λ r. OnOk r (ReadsAll H.hash_of (draft_in output.old)
+        feed.old.taken feed.new.taken rest.now (S.left input.old) (S.left input.new)
+        feed.new.line.items feed.old.lines feed.new.lines output.old output.new)) }
+    ensures refused { IfOk result (λ r. IfErr r (ReadsFault H.hash_of (draft_in output.old)
+        feed.old.taken rest.now (S.left input.old) (S.left input.new)
+        feed.old.lines feed.new.lines output.old)) }
+    ensures feed { IfOk result (λ r. OnOk r (IsFeed feed.new)) }
+    ensures few { IfOk result (λ r. feed.new.lines < 2 ^ 63) }
+    ensures kept { OnOk result (S.faults input.new ≡ S.faults input.old) }
+    ensures fault { result ≡ Err SourceFault → Rose (S.faults input.old) (S.faults input.new) }
+{
+    match feed.feed(alloc, output, rest)? {
+        Ok(()) => read_lines(alloc, input, buf, output, feed),
+        Err(fault) => Ok(Err(fault)),
+    }
+}
+
 // Reads an output to its end or to its first fault.
-fn read_output<H: Hash128 + Send + Sync, R: Threads + Sync, S: Source>(
+fn read_output<H: Processing + Send + Sync, R: Threads + Sync, S: Source>(
     rt: &R,
     alloc: Global,
     open: &OpenAudit,
@@ -166,27 +210,25 @@ fn read_output<H: Hash128 + Send + Sync, R: Threads + Sync, S: Source>(
 ) -> Result<AuditAnswer, SourceError>
     requires ready { IsReady (draft_of open.now.topology) }
     requires within { open.now.taken < 67174401 }
+    requires few { open.now.line ≤ open.now.taken }
     requires some { 0 < length buf.old }
-    ensures status { IfOk result (λ a. IsJudged a.status) }
-    ensures text { IfOk result (λ a. a.status ≡ 0 → a.text.items ≡ yes_text) }
-    ensures yes { IfOk result (λ a. a.status ≡ 0 → EndsAudited (rules_of H.hash_of)
-        (draft_of open.now.topology) open.now.rest.items (S.left input.old) (S.left input.new)) }
+    ensures answers { IfOk result (λ a. AnswersOutput (rules_of H.hash_of)
+        (draft_of open.now.topology) open.now.line open.now.taken open.now.rest.items
+        (S.left input.old) (S.left input.new) a.status a.text.items) }
     ensures kept { OnOk result (S.faults input.new ≡ S.faults input.old) }
+    ensures fault { result ≡ Err SourceFault → Rose (S.faults input.old) (S.faults input.new) }
 {
-    let topology = &open.topology;
-    let mut output = OutputAudit::<H>::new(alloc, topology)?;
+    let mut output = OutputAudit::<H>::new(alloc, &open.topology)?;
     let mut feed = LineFeed::new(alloc, open.line, open.taken);
-    if let Err(fault) = feed.feed(alloc, &mut output, open.rest.as_slice())? {
-        return Ok(answer_no(alloc, feed.number(), &fault)?);
+    let rest = open.rest.as_slice();
+    match read_all(alloc, rest, input, buf, &mut output, &mut feed)? {
+        Ok(()) => Ok(end_output::<H, R>(rt, alloc, &open.topology, output, &feed)?),
+        Err(fault) => Ok(answer_no(alloc, feed.number(), &fault)?),
     }
-    if let Err(fault) = read_lines(alloc, input, buf, &mut output, &mut feed)? {
-        return Ok(answer_no(alloc, feed.number(), &fault)?);
-    }
-    Ok(end_output::<H, R>(rt, alloc, topology, output, &feed)?)
 }
 
 // Audits what stands behind a topology line.
-fn audit_open<H: Hash128 + Send + Sync, R: Threads + Sync, S: Source>(
+fn audit_open<H: Processing + Send + Sync, R: Threads + Sync, S: Source>(
     rt: &R,
     alloc: Global,
     open: &OpenAudit,
@@ -195,13 +237,17 @@ fn audit_open<H: Hash128 + Send + Sync, R: Threads + Sync, S: Source>(
 ) -> Result<AuditAnswer, SourceError>
     requires ready { IsReady (draft_of open.now.topology) }
     requires within { open.now.taken < 67174401 }
+    requires few { open.now.has_end ≡ true → open.now.line ≤ open.now.taken }
     requires some { 0 < length buf.old }
-    ensures status { IfOk result (λ a. IsJudged a.status) }
-    ensures text { IfOk result (λ a. a.status ≡ 0 → a.text.items ≡ yes_text) }
-    ensures yes { IfOk result (λ a. a.status ≡ 0 → EndsAudited (rules_of H.hash_of)
-        (draft_of open.now.topology) open.now.rest.items (S.left input.old) (S.left input.new)) }
-    ensures ended { IfOk result (λ a. a.status ≡ 0 → open.now.has_end ≡ true) }
+    ensures ended { IfOk result (λ a. open.now.has_end ≡ true
+        → AnswersOutput (rules_of H.hash_of) (draft_of open.now.topology) open.now.line
+        open.now.taken open.now.rest.items (S.left input.old) (S.left input.new)
+        a.status a.text.items) }
+    ensures unended { IfOk result (λ a. open.now.has_end ≡ false → (a.status ≡ 10)
+        × (a.text.items ≡ no_text open.now.line NotJournal)
+        × (S.left input.new ≡ S.left input.old)) }
     ensures kept { OnOk result (S.faults input.new ≡ S.faults input.old) }
+    ensures fault { result ≡ Err SourceFault → Rose (S.faults input.old) (S.faults input.new) }
 {
     if open.has_end {
         read_output::<H, R, S>(rt, alloc, open, input, buf)
@@ -217,7 +263,7 @@ fn zeros(alloc: Global, count: usize) -> Result<Vec<u8>, AllocError>
     vec![in alloc; 0u8; count]
 }
 
-fn audit_by<H: Hash128 + Send + Sync, R: Threads + Sync, S: Source>(
+fn audit_by<H: Processing + Send + Sync, R: Threads + Sync, S: Source>(
     rt: &R,
     alloc: Global,
     input: &mut S,
@@ -225,11 +271,9 @@ fn audit_by<H: Hash128 + Send + Sync, R: Threads + Sync, S: Source>(
 ) -> Result<AuditAnswer, SourceError>
     requires some { 0 < length buf.old }
     requires room { length buf.old ≤ 4194304 }
-    ensures status { IfOk result (λ a. IsVerdict a.status) }
-    ensures text { IfOk result (λ a. a.status ≡ 0 → a.text.items ≡ yes_text) }
-    ensures yes { IfOk result (λ a. a.status ≡ 0 → IsAtEnd (S.left input.new)
-        × HoldsAudited (rules_of H.hash_of) (S.left input.old)) }
-    ensures kept { OnOk result (S.faults input.new ≡ S.faults input.old) }
+    ensures answer { IfOk result (λ a. IsAuditAnswer (rules_of H.hash_of) (S.left input.old)
+        (S.left input.new) (S.faults input.old) (S.faults input.new) a.status a.text.items) }
+    ensures fault { result ≡ Err SourceFault → Rose (S.faults input.old) (S.faults input.new) }
 {
     match open_audit(alloc, input, buf)? {
         Ok(open) => audit_open::<H, R, S>(rt, alloc, &open, input, buf),
@@ -246,20 +290,16 @@ fn audit_by<H: Hash128 + Send + Sync, R: Threads + Sync, S: Source>(
 /// | Status | Comes | Text |
 /// |---|---|---|
 /// | 0 | the lines behind the topology's are what a settled run of it prints with its journal | `yes` |
-/// | 10 | they aren't | `no L FAULT`: the first line that shows it, and its first fault |
+/// | 10 | they aren't, or a length is passed | `no L FAULT`: the first line that shows it, and its first fault |
 /// | 2 | the topology line has a fault | `bad job line L: FAULT` |
 /// | 6 | the source failed before that | `read fault` |
-pub fn audit_source<H: Hash128 + Send + Sync, R: Threads + Sync, S: Source>(
+pub fn audit_source<H: Processing + Send + Sync, R: Threads + Sync, S: Source>(
     rt: &R,
     alloc: Global,
     input: &mut S,
 ) -> Result<AuditAnswer, AllocError>
-    ensures only { IfOk result (λ a. IsVerdict a.status) }
-    // The source didn't fail and was read to its end: its bytes are a topology line and what a settled run of it prints with its journal.
-    ensures yes { IfOk result (λ a. a.status ≡ 0 → (S.faults input.new ≡ S.faults input.old)
-        × IsAtEnd (S.left input.new)
-        × HoldsAudited (rules_of H.hash_of) (S.left input.old)
-        × (a.text.items ≡ yes_text)) }
+    ensures { IfOk result (λ a. IsAuditAnswer (rules_of H.hash_of) (S.left input.old)
+        (S.left input.new) (S.faults input.old) (S.faults input.new) a.status a.text.items) }
 {
     let mut buf = zeros(alloc, PIECE)?;
     match audit_by::<H, R, S>(rt, alloc, input, buf.as_mut_slice()) {

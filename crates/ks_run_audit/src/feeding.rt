@@ -1,14 +1,16 @@
 //! Cuts what is read into lines, and has each of them judged.
-ghost use Rattle.std.specs.Prelude.{◌≡◌, ◌++◌, ◌+◌, ◌<◌, ◌≤◌, [], true, false, IfOk, OnOk, length};
-ghost use Rattle.ks_topo.specs.Topologies.{draft_of};
-ghost use Rattle.ks_run_audit.specs.Opening.{IsReady};
-ghost use Rattle.ks_run_audit.specs.Outputs.{IsSound, TakesOutput};
-ghost use Rattle.ks_run_audit.specs.Feeding.{Feeds};
+ghost use Rattle.std.specs.Prelude.{◌≡◌, ◌++◌, ◌+◌, ◌^◌, ◌<◌, ◌≤◌, ℕ, [], true, false, IfOk, IfErr, OnOk, length};
+ghost use Rattle.ks_def_tasks.specs.Rules.{rules_of};
+ghost use Rattle.ks_audit_verdict.specs.declared.fault.OutputFault.TheVariants.{TooLong};
+ghost use Rattle.ks_audit_verdict.specs.Lines.{IsPlain};
+ghost use Rattle.ks_audit_source.specs.Opened.{IsReady};
+ghost use Rattle.ks_run_audit.specs.Outputs.{IsSound, TakesOutput, place_in};
+ghost use Rattle.ks_run_audit.specs.Feeding.{Feeds, IsFeed, IsRefusal, RefusesBytes, draft_in};
 
-use crate::cutting::cut_line;
-use crate::fault::OutputFault;
 use crate::output::OutputAudit;
-use ks_hash::Hash128;
+use ks_audit_source::cut_line;
+use ks_audit_verdict::OutputFault;
+use ks_task_processing::Processing;
 use std::alloc::{AllocError, Global};
 
 /// The most bytes of a line, without its end.
@@ -29,6 +31,7 @@ impl LineFeed {
     /// Behind so many lines, which have so many bytes.
     pub fn new(alloc: Global, lines: u64, taken: u64) -> LineFeed
         ensures line { result.line.items ≡ [] }
+        ensures lines { result.lines ≡ lines }
         ensures taken { result.taken ≡ taken }
     {
         LineFeed {
@@ -39,13 +42,17 @@ impl LineFeed {
     }
 
     /// The number of the line that has begun. Takes no memory.
-    pub fn number(&self) -> u64 {
+    pub fn number(&self) -> u64
+        requires { self.now.lines < 2 ^ 63 }
+        ensures { result ≡ self.now.lines + 1 }
+    {
         self.lines.saturating_add(1)
     }
 
     /// Whether a line has begun. Takes no memory.
     pub fn has_begun(&self) -> bool
-        ensures { result ≡ false → self.now.line.items ≡ [] }
+        ensures no { result ≡ false → self.now.line.items ≡ [] }
+        ensures yes { self.now.line.items ≡ [] → result ≡ false }
     {
         !self.line.is_empty()
     }
@@ -61,18 +68,23 @@ impl LineFeed {
     }
 
     // Judges the line that ends here.
-    fn end_line<H: Hash128>(
+    fn end_line<H: Processing>(
         &mut self,
         alloc: Global,
         output: &mut OutputAudit<'_, H>,
         end: &[u8],
     ) -> Result<Result<(), OutputFault>, AllocError>
-        requires ready { IsReady (draft_of output.old.topology.now) }
+        requires ready { IsReady (draft_in output.old) }
         requires sound { IsSound H.hash_of output.old }
         ensures taken { IfOk result (λ r. OnOk r (TakesOutput H.hash_of
             (self.old.line.items ++ end.now) output.old output.new)) }
         ensures empty { IfOk result (λ r. OnOk r (self.new.line.items ≡ [])) }
-        ensures count { self.new.taken ≡ self.old.taken }
+        ensures short { IfOk result (λ r. OnOk r (length (self.old.line.items ++ end.now)
+            ≤ 67108864)) }
+        ensures refused { IfOk result (λ r. IfErr r (IsRefusal (rules_of H.hash_of)
+            (draft_in output.old) (place_in output.old) (self.old.line.items ++ end.now))) }
+        ensures taken_before { self.new.taken ≡ self.old.taken }
+        ensures lines { self.new.lines ≡ self.old.lines }
     {
         if self.line.is_empty() {
             return judge_line(alloc, output, end);
@@ -83,18 +95,42 @@ impl LineFeed {
         Ok(answer)
     }
 
+    // Keeps what begins a line, or goes on with the one that has begun; or tells that it is too long.
+    fn begin_line(&mut self, rest: &[u8]) -> Result<Result<(), OutputFault>, AllocError>
+        ensures kept { IfOk result (λ r. OnOk r ((self.new.line.items
+            ≡ self.old.line.items ++ rest.now) × (length self.new.line.items ≤ 67108864))) }
+        ensures long { IfOk result (λ r. IfErr r (λ fault. (fault ≡ TooLong)
+            × (67108864 < length (self.old.line.items ++ rest.now)))) }
+        ensures lines { self.new.lines ≡ self.old.lines }
+        ensures taken { self.new.taken ≡ self.old.taken }
+    {
+        self.line.extend_from_slice(rest)?;
+        if self.line.len() > MOST_LINE {
+            return Ok(Err(OutputFault::TooLong));
+        }
+        Ok(Ok(()))
+    }
+
     // Judges the lines that end in some bytes within the most of the input, and keeps what begins another.
-    fn feed_within<H: Hash128>(
+    fn feed_within<H: Processing>(
         &mut self,
         alloc: Global,
         output: &mut OutputAudit<'_, H>,
         bytes: &[u8],
     ) -> Result<Result<(), OutputFault>, AllocError>
-        requires ready { IsReady (draft_of output.old.topology.now) }
+        requires ready { IsReady (draft_in output.old) }
         requires sound { IsSound H.hash_of output.old }
-        ensures fed { IfOk result (λ r. OnOk r (Feeds H.hash_of bytes.now self.old.line.items
-            self.new.line.items output.old output.new)) }
-        ensures count { IfOk result (λ r. OnOk r (self.new.taken ≡ self.old.taken)) }
+        requires plain { IsPlain self.old.line.items }
+        requires few { self.old.lines + length bytes.now < 2 ^ 63 }
+        ensures fed { IfOk result (λ r. OnOk r (Feeds H.hash_of (draft_in output.old) bytes.now
+            self.old.line.items self.new.line.items self.old.lines self.new.lines
+            output.old output.new)) }
+        ensures refused { IfOk result (λ r. IfErr r (λ fault. (at : ℕ)
+            → at + length self.old.line.items + length bytes.now ≤ 536870912
+            → RefusesBytes H.hash_of (draft_in output.old) at bytes.now self.old.line.items
+            self.old.lines self.new.lines output.old fault)) }
+        ensures few { self.new.lines ≤ self.old.lines + length bytes.now }
+        ensures taken { self.new.taken ≡ self.old.taken }
     {
         let mut rest = bytes;
         while let Some((end, more)) = cut_line(rest) {
@@ -104,51 +140,114 @@ impl LineFeed {
             self.lines = self.lines.saturating_add(1);
             rest = more;
         }
-        self.line.extend_from_slice(rest)?;
-        if self.line.len() > MOST_LINE {
-            return Ok(Err(OutputFault::TooLong));
-        }
-        Ok(Ok(()))
+        self.begin_line(rest)
     }
 
-    /// Takes the next bytes; or tells the first fault of the first faulty line among those that are whole, which is then the one that has
-    /// begun. Want of memory is the one outer error.
-    pub fn feed<H: Hash128>(
+    // How many bytes more the input may have.
+    fn bytes_left(&self) -> usize
+        requires { self.now.taken ≤ 536870912 }
+        ensures { self.now.taken + result ≡ 536870912 }
+    {
+        (MOST_INPUT - self.taken) as usize
+    }
+
+    // Takes bytes with which the input isn't too long.
+    fn feed_whole<H: Processing>(
         &mut self,
         alloc: Global,
         output: &mut OutputAudit<'_, H>,
         bytes: &[u8],
     ) -> Result<Result<(), OutputFault>, AllocError>
-        requires ready { IsReady (draft_of output.old.topology.now) }
+        requires ready { IsReady (draft_in output.old) }
         requires sound { IsSound H.hash_of output.old }
-        requires within { self.old.taken ≤ 536870912 }
-        ensures fed { IfOk result (λ r. OnOk r (Feeds H.hash_of bytes.now self.old.line.items
-            self.new.line.items output.old output.new)) }
-        ensures within { IfOk result (λ r. OnOk r (self.new.taken ≤ 536870912)) }
-        ensures count { IfOk result (λ r. OnOk r (self.new.taken
+        requires feed { IsFeed self.old }
+        requires room { self.old.taken + length bytes.now ≤ 536870912 }
+        ensures feed { IfOk result (λ r. OnOk r (IsFeed self.new)) }
+        ensures fed { IfOk result (λ r. OnOk r (Feeds H.hash_of (draft_in output.old) bytes.now
+            self.old.line.items self.new.line.items self.old.lines self.new.lines
+            output.old output.new)) }
+        ensures taken { IfOk result (λ r. OnOk r (self.new.taken
             ≡ self.old.taken + length bytes.now)) }
+        ensures refused { IfOk result (λ r. IfErr r (λ fault. (at : ℕ)
+            → at + length self.old.line.items ≡ self.old.taken
+            → RefusesBytes H.hash_of (draft_in output.old) at bytes.now self.old.line.items
+            self.old.lines self.new.lines output.old fault)) }
+        ensures few { IfOk result (λ r. self.new.lines < 2 ^ 63) }
     {
-        let room = MOST_INPUT.saturating_sub(self.taken) as usize;
-        if bytes.len() <= room {
-            self.taken = self.taken.saturating_add(bytes.len() as u64);
-            return self.feed_within(alloc, output, bytes);
-        }
+        self.taken += bytes.len() as u64;
+        self.feed_within(alloc, output, bytes)
+    }
+
+    // Takes bytes with which the input is too long, if no line before has a fault.
+    fn feed_past<H: Processing>(
+        &mut self,
+        alloc: Global,
+        output: &mut OutputAudit<'_, H>,
+        bytes: &[u8],
+        room: usize,
+    ) -> Result<Result<(), OutputFault>, AllocError>
+        requires ready { IsReady (draft_in output.old) }
+        requires sound { IsSound H.hash_of output.old }
+        requires feed { IsFeed self.old }
+        requires room { self.old.taken + room ≡ 536870912 }
+        requires past { room < length bytes.now }
+        ensures never { IfOk result (λ r. OnOk r ⊥) }
+        ensures refused { IfOk result (λ r. IfErr r (λ fault. (at : ℕ)
+            → at + length self.old.line.items ≡ self.old.taken
+            → RefusesBytes H.hash_of (draft_in output.old) at bytes.now self.old.line.items
+            self.old.lines self.new.lines output.old fault)) }
+        ensures few { IfOk result (λ r. self.new.lines < 2 ^ 63) }
+    {
         match self.feed_within(alloc, output, &bytes[..room])? {
             Ok(()) => Ok(Err(OutputFault::TooLong)),
             Err(fault) => Ok(Err(fault)),
         }
     }
+
+    /// Takes the next bytes; or tells the first fault of the first faulty line among those that are whole, which is then the one that has
+    /// begun. Want of memory is the one outer error.
+    pub fn feed<H: Processing>(
+        &mut self,
+        alloc: Global,
+        output: &mut OutputAudit<'_, H>,
+        bytes: &[u8],
+    ) -> Result<Result<(), OutputFault>, AllocError>
+        requires ready { IsReady (draft_in output.old) }
+        requires sound { IsSound H.hash_of output.old }
+        requires feed { IsFeed self.old }
+        ensures feed { IfOk result (λ r. OnOk r (IsFeed self.new)) }
+        ensures fed { IfOk result (λ r. OnOk r (Feeds H.hash_of (draft_in output.old) bytes.now
+            self.old.line.items self.new.line.items self.old.lines self.new.lines
+            output.old output.new)) }
+        ensures taken { IfOk result (λ r. OnOk r (self.new.taken
+            ≡ self.old.taken + length bytes.now)) }
+        ensures refused { IfOk result (λ r. IfErr r (λ fault. (at : ℕ)
+            → at + length self.old.line.items ≡ self.old.taken
+            → RefusesBytes H.hash_of (draft_in output.old) at bytes.now self.old.line.items
+            self.old.lines self.new.lines output.old fault)) }
+        ensures few { IfOk result (λ r. self.new.lines < 2 ^ 63) }
+    {
+        let room = self.bytes_left();
+        if bytes.len() > room {
+            return self.feed_past(alloc, output, bytes, room);
+        }
+        self.feed_whole(alloc, output, bytes)
+    }
 }
 
 // A line, without its end.
-fn judge_line<H: Hash128>(
+fn judge_line<H: Processing>(
     alloc: Global,
     output: &mut OutputAudit<'_, H>,
     line: &[u8],
 ) -> Result<Result<(), OutputFault>, AllocError>
-    requires ready { IsReady (draft_of output.old.topology.now) }
+    requires ready { IsReady (draft_in output.old) }
     requires sound { IsSound H.hash_of output.old }
-    ensures { IfOk result (λ r. OnOk r (TakesOutput H.hash_of line.now output.old output.new)) }
+    ensures taken { IfOk result (λ r. OnOk r (TakesOutput H.hash_of line.now
+        output.old output.new)) }
+    ensures short { IfOk result (λ r. OnOk r (length line.now ≤ 67108864)) }
+    ensures refused { IfOk result (λ r. IfErr r (IsRefusal (rules_of H.hash_of)
+        (draft_in output.old) (place_in output.old) line.now)) }
 {
     if line.len() > MOST_LINE {
         return Ok(Err(OutputFault::TooLong));

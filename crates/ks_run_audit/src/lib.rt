@@ -2,13 +2,8 @@
 #![tactic(auto)]
 
 mod auditing;
-mod cutting;
 mod ending;
-mod fault;
 mod feeding;
-mod opening;
 mod output;
-mod texts;
 
 pub use auditing::{AuditAnswer, audit_source};
-pub use fault::OutputFault;

@@ -18,7 +18,8 @@ use Rattle.ks_iq.specs.Reads.{IsRead, ReadsTopology}
 use Rattle.ks_iq.proofs.Lasting.{reads_last}
 use Rattle.ks_run_workers.specs.declared.asking.Asker.{Asker}
 use Rattle.ks_run_workers.specs.Members.{pass_key}
-use Rattle.ks_run_workers.specs.Asking.{AreAnswers, HasAsked, HasAskedOne, HasAskedUnlessStarved, last_position}
+use Rattle.ks_iq.specs.Answered.{AreAnswers, last_position}
+use Rattle.ks_run_workers.specs.Asking.{HasAsked, HasAskedOne, HasAskedUnlessStarved}
 use Rattle.ks_run_workers.specs.Asked.{option_list, asked_by, AreAnswered}
 use Rattle.ks_run_workers.proofs.Left.{network_of}
 

@@ -24,7 +24,8 @@ use Rattle.ks_iq.proofs.Lasting.{reads_last}
 use Rattle.ks_standby.specs.declared.replica.Replica.{Replica}
 use Rattle.ks_run_workers.specs.declared.asking.Asker.{Asker}
 use Rattle.ks_run_workers.specs.Members.{pass_key}
-use Rattle.ks_run_workers.specs.Asking.{last_position, PositionsRise, MayAsk, HasAsked}
+use Rattle.ks_iq.specs.Answered.{last_position, PositionsRise}
+use Rattle.ks_run_workers.specs.Asking.{MayAsk, HasAsked}
 
 -- ---- positions
 pub last_found : (xs : List Answer) (x : Answer) → slice_get xs (length xs - 1) ≡ Some x → x.position ≡ last_position xs

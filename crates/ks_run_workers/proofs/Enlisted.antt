@@ -31,7 +31,7 @@ use Rattle.ks_shared.specs.declared.state.Frame.{Frame}
 use Rattle.ks_shared.specs.Calls.{frame_of, setup_in, good_in}
 use Rattle.ks_worker_client.specs.Turns.{HasRoomFor}
 use Rattle.ks_words.specs.Ranges.{IsBetween}
-use Rattle.ks_run_workers.proofs.Fresh.{fresh_setup, fresh_seen}
+use Rattle.ks_run_feed.proofs.Fresh.{fresh_setup, fresh_seen}
 use Rattle.ks_worker.specs.Beginning.{MayRun, HasRoomForTurns}
 use Rattle.ks_worker_state.specs.declared.state.WorkerState.{WorkerState}
 use Rattle.ks_worker.proofs.Beginning.{new_may_act}

@@ -13,13 +13,13 @@ use Rattle.ks_shared.specs.Calls.{frame_of}
 use Rattle.ks_shared.specs.Reserved.{is_callers}
 use Rattle.ks_cluster.specs.View.{ClusterView}
 use Rattle.ks_job_source.specs.declared.rest.JobEnd.{JobEnd}
-use Rattle.ks_run_workers.specs.declared.feeding.JobFeed.{JobFeed}
+use Rattle.ks_run_feed.specs.declared.feeding.JobFeed.{JobFeed}
 use Rattle.ks_plan.specs.Drafts.{DraftView}
 use Rattle.ks_plan.specs.Plan.{plan_of}
-use Rattle.ks_run_workers.specs.Feeding.{HasFed}
-use Rattle.ks_run_workers.proofs.Produced.{same_produces, same_drains, filled}
-use Rattle.ks_run_workers.specs.declared.feeding.JobInput.{JobInput}
-use Rattle.ks_run_workers.specs.Placing.{placed_all}
+use Rattle.ks_run_feed.specs.Feeding.{HasFed}
+use Rattle.ks_run_feed.proofs.Produced.{same_produces, same_drains, filled}
+use Rattle.ks_run_feed.specs.declared.feeding.JobInput.{JobInput}
+use Rattle.ks_run_feed.specs.Placing.{placed_all}
 use Rattle.ks_law_settled.specs.Jobs.{produces}
 use Rattle.ks_job.specs.Items.{item_views}
 use Rattle.ks_job_source.specs.Opening.{EndsFrom}

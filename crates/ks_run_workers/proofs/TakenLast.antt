@@ -25,9 +25,10 @@ use Rattle.ks_iq.specs.declared.ask.Ask.{Ask}
 use Rattle.ks_iq.specs.Asks.{ask_fault, task_of, log_of}
 use Rattle.ks_iq.specs.Readers.{IsReader, position_at}
 use Rattle.ks_run_workers.specs.declared.asking.Asker.{Asker}
-use Rattle.ks_run_workers.specs.Asking.{MayAsk, last_position}
+use Rattle.ks_run_workers.specs.Asking.{MayAsk}
+use Rattle.ks_iq.specs.Answered.{last_position}
 use Rattle.ks_run_workers.specs.Asked.{option_list, TakesLast}
-use Rattle.ks_run_workers.proofs.Fresh.{fresh_setup, fresh_seen}
+use Rattle.ks_run_feed.proofs.Fresh.{fresh_setup, fresh_seen}
 use Rattle.ks_run_workers.proofs.Enlisted.{empty_history}
 
 module _ {W : Type 0} where

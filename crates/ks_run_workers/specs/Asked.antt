@@ -9,7 +9,7 @@ use Rattle.ks_shared.specs.declared.state.Frame.{Frame}
 use Rattle.ks_iq.specs.declared.ask.Ask.{Ask}
 use Rattle.ks_run_workers.specs.declared.asking.Asker.{Asker}
 use Rattle.ks_run_workers.specs.declared.workers.Asked.{Asked}
-use Rattle.ks_run_workers.specs.Asking.{AreAnswers}
+use Rattle.ks_iq.specs.Answered.{AreAnswers}
 
 abbrev pub option_list : {A : Type 0} → Option A → List A
 option_list None = []

@@ -1,28 +1,15 @@
 -- A question that is asked beside the workers, before and after.
-use Rattle.std.specs.Prelude.{◌≡◌, ◌≤◌, ℕ, List, [], ◌∷◌, ◌++◌, length, None, Option, Some, false}
-use Rattle.std.specs.List.{All}
+use Rattle.std.specs.Prelude.{◌≡◌, ◌≤◌, ℕ, List, ◌++◌, length, None, Option, Some, false}
 use Rattle.atomic_table.specs.Seated.{TableId}
 use Rattle.ks_plan.specs.Drafts.{DraftView}
 use Rattle.ks_history.specs.Machine.{TaskPlan}
-use Rattle.ks_history.specs.State.{State}
 use Rattle.ks_worker_client.specs.Calls.{Later, state_seen}
-use Rattle.ks_iq.specs.declared.ask.Ask.{Ask}
 use Rattle.ks_iq.specs.declared.answer.Answer.{Answer}
 use Rattle.ks_iq.specs.Asks.{ask_fault, task_of, log_of}
-use Rattle.ks_iq.specs.Reads.{IsRead}
 use Rattle.ks_iq.specs.Readers.{MayRead, IsReader, position_at}
 use Rattle.ks_run_workers.specs.declared.asking.Asker.{Asker}
 use Rattle.ks_run_workers.specs.Members.{pass_key}
-
-abbrev pub last_position : List Answer → ℕ
-last_position [] = 0
-last_position (x ∷ []) = x.position
-last_position (x ∷ y ∷ ys) = last_position (y ∷ ys)
-
--- from a position on none falls
-abbrev pub PositionsRise : ℕ → List Answer → Type 0
-PositionsRise from [] = Unit {0}
-PositionsRise from (x ∷ xs) = (from ≤ x.position) × PositionsRise x.position xs
+use Rattle.ks_iq.specs.Answered.{last_position, AreAnswers}
 
 -- its replica of the question's task is as far as the last answer
 abbrev pub HasReached : {W : Type 0} → DraftView → Asker W → Type 0
@@ -34,11 +21,6 @@ pub record MayAsk {W : Type 0} (plan : W → TaskPlan) (lock : TableId) (d : Dra
   pub may : MayRead plan lock d asker.reader.pass
   pub reader : IsReader plan asker.reader.pass asker.reader.replicas.items
   pub reached : HasReached d asker
-
--- each is a read of a state, and no position falls
-pub record AreAnswers (d : DraftView) (s : State) (ask : Ask) (from : ℕ) (answers : List Answer) : Type 0 where
-  pub reads : All (IsRead d s ask) answers
-  pub rise : PositionsRise from answers
 
 -- it has asked so often more: each answer is a read of what its pass has seen, and no position fell
 pub record HasAsked {W : Type 0} (plan : W → TaskPlan) (d : DraftView) (times : ℕ) (old new : Asker W) : Type 0 where

@@ -2,7 +2,6 @@
 use Rattle.std.specs.Prelude.{◌≡◌, ◌+◌, ◌≤◌, ℕ, Bool, List, map, unwrap_or}
 use Rattle.atomic_table.specs.Seated.{TableId}
 use Rattle.ks_growing.specs.Passes.{PassView, IsPass, Each}
-use Rattle.ks_assign.specs.declared.clients.Placing.{Placing}
 use Rattle.ks_worker_client.specs.Turns.{GateCounts}
 use Rattle.ks_words.specs.declared.settings.Settings.{Settings}
 use Rattle.ks_worker_state.specs.declared.state.WorkerState.{WorkerState}
@@ -32,14 +31,6 @@ pub record IsEnlisted {W G : Type 0} (s : WorkerState W G) : Type 0 where
   pub few : number ≤ 15
   pub small : instance ≤ 3
   pub new : IsNew number instance s
-
--- how the workers of a run form clients, and what is wanted of an assignment (Kafka Streams: `acceptable.recovery.lag` of 10,000,
--- `max.warmup.replicas` of 2)
-abbrev pub placing_of : Settings → Placing
-placing_of settings = record {
-  threads = settings.threads;
-  wants = record { standbys = settings.standbys; lag = 10000; warmups = 2 };
-}
 
 -- how many turns each worker may take
 abbrev pub turns_in : Settings → ℕ

@@ -15,11 +15,11 @@ use Rattle.ks_job.specs.Items.{ItemView, item_views}
 use Rattle.ks_job_source.specs.declared.rest.JobEnd.{JobEnd}
 use Rattle.ks_job_source.specs.Opening.{StandsPast, EndsFrom}
 use Rattle.ks_law_inputs.specs.Records.{AreRecords}
-use Rattle.ks_run_workers.specs.declared.feeding.JobInput.{JobInput}
+use Rattle.ks_run_feed.specs.declared.feeding.JobInput.{JobInput}
 use Rattle.ks_topo.specs.Places.{HasPlaces}
-use Rattle.ks_run_workers.specs.Placing.{counts_in, placed_all}
-use Rattle.ks_run_workers.specs.declared.feeding.JobFeed.{JobFeed}
-use Rattle.ks_run_workers.specs.Producing.{IsFilled, begins_drain}
+use Rattle.ks_run_feed.specs.Placing.{counts_in, placed_all}
+use Rattle.ks_run_feed.specs.declared.feeding.JobFeed.{JobFeed}
+use Rattle.ks_run_feed.specs.Producing.{IsFilled, begins_drain}
 use Rattle.ks_shared.specs.Calls.{frame_of}
 use Rattle.ks_law_settled.specs.Jobs.{produces}
 

@@ -9,8 +9,8 @@ use Rattle.ks_worker_state.specs.declared.state.WorkerState.{WorkerState}
 use Rattle.ks_worker_state.specs.State.{IsWorkerState}
 use Rattle.ks_worker.specs.Beginning.{MayRun}
 use Rattle.ks_worker.specs.Running.{HasCounted, HasEndedBy, ShowsCalls}
-use Rattle.ks_run_workers.specs.declared.feeding.JobFeed.{JobFeed}
-use Rattle.ks_run_workers.specs.Feeding.{MayFeed}
+use Rattle.ks_run_feed.specs.declared.feeding.JobFeed.{JobFeed}
+use Rattle.ks_run_feed.specs.Feeding.{MayFeed}
 use Rattle.ks_run_workers.specs.Asking.{MayAsk}
 use Rattle.ks_run_workers.specs.declared.working.WorkerThread.{WorkerThread}
 use Rattle.ks_run_workers.specs.declared.working.Team.{Team}

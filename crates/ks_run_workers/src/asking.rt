@@ -2,7 +2,8 @@
 ghost use Rattle.std.specs.Prelude.{◌≡◌, ◌≤◌, [], OnOk, false};
 ghost use Rattle.ks_topo.specs.Topologies.{draft_of};
 ghost use Rattle.ks_run_workers.specs.Members.{pass_key};
-ghost use Rattle.ks_run_workers.specs.Asking.{last_position, MayAsk, HasAsked};
+ghost use Rattle.ks_iq.specs.Answered.{last_position};
+ghost use Rattle.ks_run_workers.specs.Asking.{MayAsk, HasAsked};
 
 use ks_cluster::Work;
 use ks_growing::Pass;

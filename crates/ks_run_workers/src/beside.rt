@@ -5,18 +5,18 @@ ghost use Rattle.std.specs.List.{All};
 ghost use Rattle.ks_topo.specs.Topologies.{draft_of};
 ghost use Rattle.ks_worker.specs.Beginning.{MayRun};
 ghost use Rattle.ks_run_workers.specs.Asking.{MayAsk, HasAskedUnlessStarved};
-ghost use Rattle.ks_run_workers.specs.Feeding.{MayFeed, FaultsBy, HasFed};
+ghost use Rattle.ks_run_feed.specs.Feeding.{MayFeed, FaultsBy, HasFed};
 ghost use Rattle.ks_run_workers.specs.Members.{HaveKeys};
 ghost use Rattle.ks_run_workers.specs.Working.{MayWork, AllTurnedUnlessStarved, HaveTurned, is_one_starved};
 
 use crate::asking::Asker;
 use crate::working::{Team, WorkerThread, work_and_ask};
-use crate::{JobFeed, feed};
 use ks_cluster::Work;
 use ks_edge::{Gate, Source};
-use ks_hash::Hash128;
 use ks_job_source::JobEnd;
+use ks_run_feed::{JobFeed, feed};
 use ks_shared::Shared;
+use ks_task_processing::Processing;
 use ks_topo::{Topology, share_topology};
 use std::alloc::{AllocError, Global};
 use std::sync::Wait;
@@ -46,7 +46,7 @@ fn feed_while<R: Threads + Wait + Sync, W: Work, S: Source>(
 
 // All records are fed, and then the workers take their turns.
 fn feed_first<
-    H: Hash128 + Sync,
+    H: Processing + Sync,
     R: Threads + Wait + Sync,
     W: Work + Send + Sync,
     G: Gate + Send,
@@ -81,7 +81,7 @@ fn feed_first<
 
 // The workers take their turns while the records are fed.
 fn feed_beside<
-    H: Hash128 + Sync,
+    H: Processing + Sync,
     R: Threads + Wait + Sync,
     W: Work + Send + Sync,
     G: Gate + Send,
@@ -143,7 +143,7 @@ fn feed_beside<
 
 // Feeds the records of a job while the workers take their turns, or before where they wait.
 fn feed_team<
-    H: Hash128 + Sync,
+    H: Processing + Sync,
     R: Threads + Wait + Sync,
     W: Work + Send + Sync,
     G: Gate + Send,
@@ -202,7 +202,7 @@ fn is_one_starved<W: Work, G: Gate>(members: &[WorkerThread<W, G>]) -> bool
 /// Feeds the records of a job while the workers take their turns, or before where they wait. Want of memory, also in a
 /// worker, is the one error.
 pub fn feed_and_work<
-    H: Hash128 + Sync,
+    H: Processing + Sync,
     R: Threads + Wait + Sync,
     W: Work + Send + Sync,
     G: Gate + Send,

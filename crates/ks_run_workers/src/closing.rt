@@ -9,22 +9,23 @@ ghost use Rattle.ks_growing.specs.Passes.{IsPass};
 ghost use Rattle.ks_shared.specs.Calls.{frame_of};
 ghost use Rattle.ks_shared.specs.Reserved.{is_callers};
 ghost use Rattle.ks_run_workers.specs.Asked.{option_list, asked_by, AreAnswered};
-ghost use Rattle.ks_run_workers.specs.Feeding.{FaultsBy};
+ghost use Rattle.ks_run_feed.specs.Feeding.{FaultsBy};
 ghost use Rattle.ks_run_workers.specs.Members.{ArePasses};
 ghost use Rattle.ks_run_workers.specs.Ready.{HasClosed};
 ghost use Rattle.ks_run_workers.specs.Working.{MayWork};
 
+use crate::Asked;
 use crate::asking::Asker;
 use crate::beside::feed_and_work;
 use crate::working::{Crew, Team, WorkerThread};
-use crate::{Asked, JobFeed};
 use ks_cluster::{Cluster, Work};
 use ks_edge::{Gate, Source};
 use ks_growing::Pass;
-use ks_hash::Hash128;
 use ks_job_source::JobEnd;
+use ks_run_feed::JobFeed;
 use ks_shared::{Shared, SharedState};
 use ks_standby::Replica;
+use ks_task_processing::Processing;
 use ks_topo::Topology;
 use std::alloc::{AllocError, Global};
 use std::sync::Wait;
@@ -119,7 +120,7 @@ fn close_with<W: Work, G: Gate>(
     let passes = passes_of(alloc, first, members, last, &mut replicas)?;
     let cluster = shared.close(passes);
     // The journal is a history: the replicas follow it.
-    let _journal = cluster.journal();
+    cluster.is_history();
     Ok((cluster, replicas))
 }
 
@@ -127,7 +128,7 @@ fn close_with<W: Work, G: Gate>(
 /// all of them, and gives the cluster back, and how the feed ended: of the caller's entries the first pass has seen each. Want of
 /// memory, also in a worker, is the one error; the cluster is let go then.
 pub fn work_and_close<
-    H: Hash128 + Sync,
+    H: Processing + Sync,
     R: Threads + Wait + Sync,
     W: Work + Send + Sync,
     G: Gate + Send,

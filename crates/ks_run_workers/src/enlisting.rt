@@ -2,13 +2,14 @@
 ghost use Rattle.std.specs.Prelude.{◌≡◌, ◌<◌, ◌≤◌, ◌*◌, ℕ, length, map, IfOk};
 ghost use Rattle.std.specs.List.{All};
 ghost use Rattle.ks_words.specs.Ranges.{HasRanges};
-ghost use Rattle.ks_run_workers.specs.Members.{IsEnlisted, placing_of};
+ghost use Rattle.ks_run_workers.specs.Members.{IsEnlisted};
+ghost use Rattle.ks_run_feed.specs.Wanted.{placing_of};
 
-use crate::placing::placing_of;
 use crate::working::WorkerThread;
 use ks_cluster::Work;
 use ks_edge::Gate;
 use ks_growing::Pass;
+use ks_run_feed::placing_of;
 use ks_shared::SharedState;
 use ks_words::Settings;
 use ks_worker::Worker;

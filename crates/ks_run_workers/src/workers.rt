@@ -4,9 +4,10 @@ ghost use Rattle.ks_topo.specs.Topologies.{draft_of};
 ghost use Rattle.ks_words.specs.Ranges.{HasRanges};
 ghost use Rattle.ks_iq.specs.Asks.{ask_fault};
 ghost use Rattle.ks_run_workers.specs.Asked.{TakesLast, AreAnswered};
-ghost use Rattle.ks_run_workers.specs.Feeding.{FaultsBy};
+ghost use Rattle.ks_run_feed.specs.Feeding.{FaultsBy};
 ghost use Rattle.ks_run_workers.specs.Left.{AreStandbysOf};
-ghost use Rattle.ks_run_workers.specs.Members.{turns_in, placing_of};
+ghost use Rattle.ks_run_workers.specs.Members.{turns_in};
+ghost use Rattle.ks_run_feed.specs.Wanted.{placing_of};
 ghost use Rattle.ks_run_workers.specs.Ready.{IsReady, HasWorked};
 
 use crate::asking::Asker;
@@ -14,13 +15,13 @@ use crate::boxed_gate::{BoxedGate, box_gates};
 use crate::closing::{WorkEnd, work_and_close};
 use crate::enlisting::enlist;
 use crate::working::{Crew, Team, WorkerThreads};
-use crate::{JobFeed, JobInput, split_first};
 use ks_cluster::{Cluster, Work};
 use ks_edge::{Gate, Source};
 use ks_growing::Pass;
-use ks_hash::Hash128;
 use ks_iq::{Answer, Ask};
+use ks_run_feed::{JobFeed, JobInput, split_first};
 use ks_shared::{Shared, SharedState};
+use ks_task_processing::Processing;
 use ks_topo::Topology;
 use ks_words::Settings;
 use std::alloc::{AllocError, Global};
@@ -102,7 +103,7 @@ fn asker_of<W: Work>(
 
 // The same for gates of any type.
 fn run_gated<
-    H: Hash128 + Sync,
+    H: Processing + Sync,
     R: Threads + Wait + Sync,
     W: Work + Send + Sync,
     G: Gate + Send,
@@ -166,7 +167,12 @@ fn run_gated<
 /// Gives back the cluster, whose journal has produced the records up to where reading the job ended and no other, the replicas that
 /// the workers leave, how reading ended, and what was answered. Want of memory, also in a worker or in who asks, is the one error; the
 /// cluster is let go then.
-pub fn run_workers<H: Hash128 + Sync, R: Threads + Wait + Sync, W: Work + Send + Sync, S: Source>(
+pub fn run_workers<
+    H: Processing + Sync,
+    R: Threads + Wait + Sync,
+    W: Work + Send + Sync,
+    S: Source,
+>(
     rt: &R,
     alloc: Global,
     topology: &Topology,

@@ -12,8 +12,8 @@ ghost use Rattle.ks_run_workers.specs.Working.{TurnedUnlessStarved, AllTurnedUnl
 use crate::asking::{Asker, ask_often};
 use ks_cluster::Work;
 use ks_edge::Gate;
-use ks_hash::Hash128;
 use ks_shared::Shared;
+use ks_task_processing::Processing;
 use ks_topo::{Topology, share_topology};
 use ks_worker::Worker;
 use std::alloc::Global;
@@ -64,7 +64,7 @@ impl<W: Work, G: Gate> Team<W, G> {
 }
 
 // One worker takes its turns, or is starved.
-fn take_turns<H: Hash128, R: Wait, W: Work, G: Gate>(
+fn take_turns<H: Processing, R: Wait, W: Work, G: Gate>(
     rt: &R,
     alloc: Global,
     topology: &Topology,
@@ -89,7 +89,7 @@ fn take_turns<H: Hash128, R: Wait, W: Work, G: Gate>(
 /// All workers take their turns, each in a thread of its own where one can be made; who runs out of memory is starved. Their
 /// passes are of this lock still, with their numbers, and none holds the value.
 pub fn work_together<
-    H: Hash128 + Sync,
+    H: Processing + Sync,
     R: Threads + Wait + Sync,
     W: Work + Send + Sync,
     G: Gate + Send,
@@ -126,7 +126,7 @@ pub fn work_together<
 /// All workers take their turns, and who asks a question asks it meanwhile, in a thread of its own where one can be made. Want of
 /// memory marks each of them alone.
 pub fn work_and_ask<
-    H: Hash128 + Sync,
+    H: Processing + Sync,
     R: Threads + Wait + Sync,
     W: Work + Send + Sync,
     G: Gate + Send,

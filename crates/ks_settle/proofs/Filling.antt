@@ -1,9 +1,9 @@
 -- What a task hands over after it has read a topic.
 use Rattle.std.proofs.Common.{◌≡◌, ℕ, Bool, true, false, cond, not, ◌&&◌, List, [], ◌∷◌, ◌++◌, refl, sym, ap, subst, ◌∙◌, Some, None, get_or}
 use Rattle.std.proofs.lemmas.Bool.{true≢false}
-use Rattle.ks_row.specs.Records.{Record as Rec}
-use Rattle.ks_row.specs.declared.record.PartId.{PartId}
-use Rattle.ks_row.specs.Parts.{same_part}
+use Rattle.ks_record.specs.Records.{Record as Rec}
+use Rattle.ks_record.specs.declared.record.PartId.{PartId}
+use Rattle.ks_record.specs.Parts.{same_part}
 use Rattle.ks_history.specs.declared.journal.Entry.{Entry}
 use Rattle.ks_history.specs.Machine.{TaskPlan, has_topic}
 use Rattle.ks_history.specs.State.{Setup}
@@ -12,7 +12,7 @@ use Rattle.ks_law_restore.specs.Views.{WorkView, IsFrozen, recs_at, names_part, 
 use Rattle.ks_law_restore.proofs.Freezing.{frozen_is_work}
 use Rattle.ks_law_restore.proofs.Inside.{frozen_is_inside}
 use Rattle.ks_task.specs.declared.task.Task.{Task}
-use Rattle.ks_row.specs.declared.record.TaskId.{TaskId}
+use Rattle.ks_record.specs.declared.record.TaskId.{TaskId}
 use Rattle.ks_plan.specs.Drafts.{DraftView}
 use Rattle.ks_plan.specs.Plan.{plan_of}
 use Rattle.ks_plan.specs.Faults.{fault_of}

@@ -5,7 +5,7 @@ use Rattle.std.specs.List.{All, filter}
 use Rattle.std.specs.List.Sorted.{IsStrictlyIncreasing}
 use Rattle.std.proofs.lemmas.Bool.{true≢false, eqb-true, eqb-false}
 use Rattle.std.proofs.lemmas.Bool.Decides.{nat_tests}
-use Rattle.ks_row.specs.declared.record.TaskId.{TaskId}
+use Rattle.ks_record.specs.declared.record.TaskId.{TaskId}
 use Rattle.ks_plan.specs.Drafts.{DraftView}
 use Rattle.ks_plan.specs.Plan.{Plan as Topology, plan_of}
 use Rattle.ks_plan.specs.declared.node.Topic.{Topic}
@@ -15,7 +15,7 @@ use Rattle.ks_def_tasks.specs.Messages.{Rules}
 use Rattle.ks_history.specs.Machine.{TaskPlan, has_topic}
 use Rattle.ks_history.specs.State.{Setup}
 use Rattle.ks_history.specs.Settled.{IsSettled}
-use Rattle.ks_law_quiescence.specs.WellFormed.{IsWellFormed}
+use Rattle.ks_law_topology.specs.WellFormed.{IsWellFormed}
 use Rattle.ks_law_topology.specs.Work.{setup_of as topology_setup}
 use Rattle.ks_law_topology.proofs.Order.{drain_rises}
 use Rattle.ks_law_topology.proofs.Caused.{made_in_order}

@@ -19,7 +19,7 @@ use Rattle.ks_history.specs.History.{at, IsHistory}
 use Rattle.ks_law_restore.specs.Views.{WorkView}
 use Rattle.ks_cluster.specs.View.{ClusterView, setup_of, state_of, AddsEntry}
 use Rattle.ks_law_settled.specs.Jobs.{produces}
-use Rattle.ks_row.specs.declared.record.TaskId.{TaskId}
+use Rattle.ks_record.specs.declared.record.TaskId.{TaskId}
 use Rattle.ks_commit.specs.Committed.{tasks_in, Committed, EachEnds, IsReady}
 use Rattle.ks_commit.specs.declared.publisher.Publisher.{Publisher}
 use Rattle.ks_history.specs.Reads.{end_of}

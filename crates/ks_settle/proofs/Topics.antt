@@ -6,8 +6,8 @@ use Rattle.std.proofs.lemmas.Bool.{eqb-true, eqb-false, true≢false}
 use Rattle.std.proofs.lemmas.List.{length-map}
 use Rattle.ks_def_tasks.proofs.Names.{same_task-is}
 use Rattle.std.proofs.lemmas.Bool.Decides.{nat_tests}
-use Rattle.ks_row.specs.declared.record.TaskId.{TaskId}
-use Rattle.ks_row.specs.Parts.{same_task}
+use Rattle.ks_record.specs.declared.record.TaskId.{TaskId}
+use Rattle.ks_record.specs.Parts.{same_task}
 use Rattle.ks_history.specs.declared.journal.Entry.{Entry}
 use Rattle.ks_history.specs.Machine.{part_of, has_topic}
 use Rattle.ks_history.specs.State.{Setup, has_task}

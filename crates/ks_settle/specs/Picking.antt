@@ -1,7 +1,7 @@
 -- A replica of a task that is taken out of a list of replicas.
 use Rattle.std.specs.Prelude.{◌≡◌, ◌<◌, ℕ, List, length, Option, Some, None, slice_index_or}
 use Rattle.std.specs.List.{remove}
-use Rattle.ks_row.specs.declared.record.TaskId.{TaskId}
+use Rattle.ks_record.specs.declared.record.TaskId.{TaskId}
 use Rattle.ks_standby.specs.declared.replica.Replica.{Replica}
 
 -- a replica of the task stands at this place

@@ -1,7 +1,7 @@
 -- Tasks that are restored side by side, and put into their order.
 use Rattle.std.specs.Prelude.{◌≡◌, ℕ, ◌<◌, true, List, ◌++◌, length, map, Option, IfOk, IfSome, slice_index_or}
 use Rattle.std.specs.List.{All}
-use Rattle.ks_row.specs.declared.record.TaskId.{TaskId}
+use Rattle.ks_record.specs.declared.record.TaskId.{TaskId}
 use Rattle.ks_plan.specs.Drafts.{DraftView}
 use Rattle.ks_plan.specs.Plan.{plan_of}
 use Rattle.ks_history.specs.declared.journal.Entry.{Entry}

@@ -1,6 +1,6 @@
 -- Replicas that are fed up to the ends of their changelogs (KIP-441: a task is restored before it is active).
 use Rattle.std.specs.Prelude.{◌≡◌, ℕ, ◌+◌, ◌<◌, ◌≤◌, Bool, true, false, List, slice_index}
-use Rattle.ks_row.specs.declared.record.TaskId.{TaskId}
+use Rattle.ks_record.specs.declared.record.TaskId.{TaskId}
 use Rattle.ks_history.specs.declared.journal.Entry.{Entry}
 use Rattle.ks_history.specs.Machine.{TaskPlan, part_of}
 use Rattle.ks_history.specs.State.{Setup, has_task}

@@ -5,7 +5,7 @@ ghost use Rattle.ks_topo.specs.Topologies.{draft_of};
 ghost use Rattle.ks_task.specs.Tasks.{IsTaskOf};
 ghost use Rattle.ks_settle.specs.Drained.{ends_for, IsToldTask, AreToldBy};
 
-use ks_row::{Seq, TaskId};
+use ks_record::{Seq, TaskId};
 use ks_task::Task;
 use ks_topo::Topology;
 use std::alloc::AllocError;

@@ -19,10 +19,10 @@ use crate::removing::{remove_workers, write_all_markers};
 use crate::restoring::restore_tasks;
 use ks_cluster::{Cluster, Work};
 use ks_commit::{Frozen, Publisher, commit};
-use ks_hash::Hash128;
-use ks_row::TaskId;
+use ks_record::TaskId;
 use ks_standby::Replica;
 use ks_task::Task;
+use ks_task_processing::Processing;
 use ks_topo::{Topology, share_topology};
 use std::alloc::{AllocError, Global};
 use std::thread::Threads;
@@ -72,7 +72,7 @@ fn attempts_of(alloc: Global, tasks: Vec<Task>) -> Result<Vec<Attempt>, AllocErr
 }
 
 // A task reads the topic to its end, where it is one of its inputs.
-fn read_own<H: Hash128, W: Work>(
+fn read_own<H: Processing, W: Work>(
     alloc: Global,
     topology: &Topology,
     cluster: &Cluster<W>,
@@ -91,7 +91,7 @@ fn read_own<H: Hash128, W: Work>(
 }
 
 // All of the tasks, side by side.
-fn read_each<H: Hash128 + Sync, R: Threads + Sync, W: Work + Sync>(
+fn read_each<H: Processing + Sync, R: Threads + Sync, W: Work + Sync>(
     rt: &R,
     alloc: Global,
     topology: &Topology,
@@ -118,7 +118,7 @@ fn read_each<H: Hash128 + Sync, R: Threads + Sync, W: Work + Sync>(
 }
 
 // Each task that reads the topic reads it to its end; what they then have to commit.
-fn read_tasks<H: Hash128 + Sync, R: Threads + Sync, W: Work + Sync>(
+fn read_tasks<H: Processing + Sync, R: Threads + Sync, W: Work + Sync>(
     rt: &R,
     alloc: Global,
     topology: &Topology,
@@ -190,7 +190,7 @@ impl TaskManager {
         write_all_markers(alloc, cluster)?;
         let publisher = Publisher::start(alloc, cluster, WORKER, topology.tasks())?;
         // The journal is a history: the replicas follow it.
-        let _journal = cluster.journal();
+        cluster.is_history();
         let tasks = restore_tasks(rt, alloc, topology, cluster, &publisher, replicas, cache)?;
         Ok(TaskManager { tasks, publisher })
     }
@@ -226,7 +226,7 @@ impl TaskManager {
         }
         let worked = workers(alloc, works.as_slice())?;
         let ends = commit(alloc, cluster, &mut self.publisher, works)?;
-        let _journal = cluster.journal();
+        cluster.is_history();
         tell(
             topology,
             &mut self.tasks,
@@ -237,7 +237,7 @@ impl TaskManager {
     }
 
     // The tasks that read the topic read it to its end, and then one transaction commits what they made.
-    fn drain_topic<H: Hash128 + Sync, R: Threads + Sync, W: Work + Sync>(
+    fn drain_topic<H: Processing + Sync, R: Threads + Sync, W: Work + Sync>(
         &mut self,
         rt: &R,
         alloc: Global,
@@ -261,7 +261,7 @@ impl TaskManager {
     }
 
     // Topic by topic, in the drain order.
-    fn drain_all<H: Hash128 + Sync, R: Threads + Sync, W: Work + Sync>(
+    fn drain_all<H: Processing + Sync, R: Threads + Sync, W: Work + Sync>(
         &mut self,
         rt: &R,
         alloc: Global,
@@ -294,7 +294,7 @@ impl TaskManager {
 /// furthest of these replicas, where there is one. Then topic by topic, in the drain
 /// order, the tasks that read it read it to its end, and one transaction commits what they made. Its tasks' stores hold back at most
 /// `cache` pairs each. Want of memory is the one error, after which the journal has what was done before, and no further input.
-pub fn drain<H: Hash128 + Sync, R: Threads + Sync, W: Work + Sync>(
+pub fn drain<H: Processing + Sync, R: Threads + Sync, W: Work + Sync>(
     rt: &R,
     alloc: Global,
     topology: &Topology,

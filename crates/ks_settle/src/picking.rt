@@ -2,7 +2,7 @@
 ghost use Rattle.std.specs.Prelude.{◌<◌, length, IfSome};
 ghost use Rattle.ks_settle.specs.Picking.{StandsAt, TakesOf};
 
-use ks_row::TaskId;
+use ks_record::TaskId;
 use ks_standby::Replica;
 
 // Whether one of the replicas is found, and is as far as this one.

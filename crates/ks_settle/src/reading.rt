@@ -13,9 +13,9 @@ ghost use Rattle.ks_settle.specs.Drained.{MayRead, Rests, IsFetched, IsReadOn, I
 
 use ks_cluster::{Cluster, Work};
 use ks_commit::Frozen;
-use ks_hash::Hash128;
-use ks_row::{PartId, Rec};
+use ks_record::{PartId, Rec};
 use ks_task::{MOST_FETCHED, Task};
+use ks_task_processing::Processing;
 use ks_topo::Topology;
 use std::alloc::{AllocError, Global};
 
@@ -34,7 +34,7 @@ fn has_number(numbers: &[u16], topic: u16) -> bool
 }
 
 // Takes these records of an input, one after another.
-fn take_fetched<H: Hash128>(
+fn take_fetched<H: Processing>(
     alloc: Global,
     topology: &Topology,
     task: &mut Task,
@@ -54,7 +54,7 @@ fn take_fetched<H: Hash128>(
 }
 
 // One fetch from where the task stands; false where it doesn't move it, and then it stands at the end.
-fn fetch_on<H: Hash128, W: Work>(
+fn fetch_on<H: Processing, W: Work>(
     alloc: Global,
     topology: &Topology,
     cluster: &Cluster<W>,
@@ -67,7 +67,7 @@ fn fetch_on<H: Hash128, W: Work>(
     ensures { IfOk result (λ moved. IsFetched (draft_of topology.now) (setup_of W.plan cluster.now)
         cluster.now.journal topic moved task.old task.new) }
 {
-    let _journal = cluster.journal();
+    cluster.is_history();
     let part = PartId {
         topic,
         part: task.id().part,
@@ -83,7 +83,7 @@ fn fetch_on<H: Hash128, W: Work>(
 }
 
 // Fetches until a fetch doesn't move the task; whether any did.
-fn read_on<H: Hash128, W: Work>(
+fn read_on<H: Processing, W: Work>(
     alloc: Global,
     topology: &Topology,
     cluster: &Cluster<W>,
@@ -105,7 +105,7 @@ fn read_on<H: Hash128, W: Work>(
 
 /// A task reads a topic to its end, where it is one of its inputs; what it then has to commit, if it has taken anything or passed
 /// over anything. `AllocError`: memory ran out; the task may have taken a part of the topic, and its owner lets it go.
-pub fn read_task<H: Hash128, W: Work>(
+pub fn read_task<H: Processing, W: Work>(
     alloc: Global,
     topology: &Topology,
     cluster: &Cluster<W>,

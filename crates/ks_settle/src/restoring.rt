@@ -15,7 +15,7 @@ ghost use Rattle.ks_settle.specs.Restored.{MayRestore, MayBegin, IsRestoredAs, n
 use crate::picking::take_furthest;
 use ks_cluster::{Cluster, Work};
 use ks_commit::Publisher;
-use ks_row::{PartId, TaskId};
+use ks_record::{PartId, TaskId};
 use ks_standby::Replica;
 use ks_task::{MOST_FED, Task};
 use ks_topo::{Topology, share_topology};
@@ -49,7 +49,7 @@ fn feed_on<W: Work>(
     ensures { IfOk result (λ moved. IsFedOn (setup_of W.plan cluster.now) cluster.now.journal
         replica.old.id changelog moved replica.old replica.new) }
 {
-    let _journal = cluster.journal();
+    cluster.is_history();
     let part = PartId {
         topic: changelog,
         part: replica.id().part,
@@ -79,7 +79,7 @@ fn feed_to_end<W: Work>(
         replica.old.id changelog replica.old replica.new) }
 {
     // The journal is a history: a fetch stands at the end only where all is stable.
-    let _journal = cluster.journal();
+    cluster.is_history();
     let mut moved = true;
     while moved {
         moved = feed_on(alloc, cluster, replica, changelog)?;
@@ -103,7 +103,7 @@ fn replica_or_new<W: Work>(
         task changelogs.now 0 r) }
 {
     // The journal is a history: a new replica follows it.
-    let _journal = cluster.journal();
+    cluster.is_history();
     match given {
         Some(replica) => Ok(replica),
         None => {
@@ -128,7 +128,7 @@ fn fed_replica<W: Work>(
     ensures { IfOk result (λ r. HasReachedFirst (setup_of W.plan cluster.now) cluster.now.journal
         task changelogs.now (length changelogs.now) r) }
 {
-    let _journal = cluster.journal();
+    cluster.is_history();
     let mut replica = replica_or_new(alloc, cluster, task, changelogs, given)?;
     for i in 0..changelogs.len() {
         feed_to_end(alloc, cluster, &mut replica, changelogs[i])?;
@@ -174,7 +174,7 @@ fn restore<W: Work>(
     ensures id { IfOk result (λ t. t.id ≡ task) }
     ensures cache { IfOk result (λ t. t.cache ≡ cache) }
 {
-    let _journal = cluster.journal();
+    cluster.is_history();
     let offsets = publisher.committed(alloc, cluster, task)?;
     let changelogs = topology.changelogs(task.sub);
     let replica = fed_replica(alloc, cluster, task, changelogs, given)?;

@@ -5,7 +5,7 @@ use Rattle.std.specs.Option.{option_or}
 use Rattle.std.proofs.lemmas.Bool.{and_parts, true≢false}
 use Rattle.std.proofs.lemmas.List.{length-map}
 use Rattle.std.proofs.lemmas.Option.{slice_get_within, get_or_from_slice_get}
-use Rattle.ks_row.specs.Records.{Record as Rec}
+use Rattle.ks_record.specs.Records.{Record as Rec}
 use Rattle.ks_expr.specs.declared.terms.JoinKind.{JoinKind}
 use Rattle.ks_expr.specs.Terms.{Set}
 use Rattle.ks_expr.specs.Eval.{Row}
@@ -19,8 +19,8 @@ use Rattle.ks_plan.specs.Layout.{up_to, topics_of, number_of, parts_of, parts_of
 use Rattle.ks_plan.specs.Infos.{NodePlace, node_place, place_in, built_view, name_at}
 use Rattle.ks_history.specs.State.{State, Setup, IsPart}
 use Rattle.ks_history.specs.Reads.{decided_records}
-use Rattle.ks_law_quiescence.proofs.Fits.{each_at, node_stands}
-use Rattle.ks_law_quiescence.proofs.WellFormed.{well_formed_fits}
+use Rattle.ks_law_topology.proofs.Fits.{each_at, node_stands}
+use Rattle.ks_law_topology.proofs.WellFormed.{well_formed_fits}
 use Rattle.ks_law_fk_quiescence.proofs.TableInputs.{is_table_at, TableInputs, EachInputs, table_inputs}
 use Rattle.ks_law_settled.specs.Folded as folded
 use Rattle.ks_law_settled.specs.Collision.{OffsetPair, NodePair, row_by, same_keys, rows_collide, collide, earlier, pair_at, first_from, first_in, in_parts, of_node, of_nodes, first_pair}

@@ -9,7 +9,7 @@ use Rattle.std.specs.Cmp.Lexicographic.{nat_list_cmp_total}
 use Rattle.std.specs.FinMap.{slice_cmp-IsAntisymmetric, nat_cmp-IsAntisymmetric}
 use Rattle.std.proofs.lemmas.Bool.{true≢false, and_parts, and_from}
 use Rattle.std.proofs.lemmas.Bool.Decides.{Decides-eqb}
-use Rattle.ks_row.specs.Records.{Record as Rec}
+use Rattle.ks_record.specs.Records.{Record as Rec}
 use Rattle.ks_row.specs.Reading.{number_at, row_from}
 use Rattle.ks_row.specs.Spelling.{FitsRow, spelling}
 use Rattle.ks_row.proofs.Spelled.{row_again}
@@ -22,7 +22,7 @@ use Rattle.ks_expr.specs.Eval.{Row, same_bytes}
 use Rattle.ks_plan.specs.Plan.{Kind}
 use Rattle.ks_def_tasks.specs.Messages.{same_row}
 use Rattle.ks_def_tasks.proofs.Same.{bytes-is, row-is}
-use Rattle.ks_law_topology.proofs.Writes.{row_itself}
+use Rattle.ks_def_tasks.proofs.Itself.{row_itself}
 use Rattle.ks_law_settled.specs.Collision.{row_by, same_keys, rows_collide, collide, earlier, pair_at, first_from}
 use Rattle.ks_settle_report.specs.Search.{spot, entry, entry_of, is_other, meets_other, with_entry, search_from, HaveSpellings, OnePassFindsTheFirst}
 

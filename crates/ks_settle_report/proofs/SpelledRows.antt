@@ -5,7 +5,7 @@ use Rattle.std.specs.Ordering.{is_eq}
 use Rattle.std.specs.Cmp.{tied_itself}
 use Rattle.std.specs.Cmp.Lexicographic.{nat_list_cmp_total}
 use Rattle.std.proofs.lemmas.Bool.{true≢false}
-use Rattle.ks_row.specs.Records.{Record as Rec}
+use Rattle.ks_record.specs.Records.{Record as Rec}
 use Rattle.ks_row.specs.Reading.{row_from}
 use Rattle.ks_row.specs.Spelling.{FitsRow, spelling}
 use Rattle.ks_row.proofs.Spelled.{row_again}
@@ -16,7 +16,7 @@ use Rattle.ks_query.specs.Aggregates.{agg_row}
 use Rattle.ks_def_tasks.specs.Messages.{shown, same_row}
 use Rattle.ks_def_tasks.specs.Messages.Stored.{OfRow, OfAgg}
 use Rattle.ks_def_tasks.proofs.Same.{bytes-is, row-is}
-use Rattle.ks_law_topology.proofs.Writes.{row_itself}
+use Rattle.ks_def_tasks.proofs.Itself.{row_itself}
 use Rattle.ks_law_settled.specs.Folded as folded
 use Rattle.ks_def_runs.specs.Bytes.{Store, empty_store}
 use Rattle.ks_plan.specs.Plan.{Kind}

@@ -1,7 +1,7 @@
 -- What a cluster has come to. KIP-98 on committed offsets and transactions; Kafka's consumer groups on lags.
 use Rattle.std.specs.Prelude.{◌≡◌, ℕ, Bool, not, ◌==◌, ◌&&◌, List, [], ◌∷◌, ◌++◌, length, map, get_or}
 use Rattle.std.specs.List.{filter}
-use Rattle.ks_row.specs.declared.record.TaskId.{TaskId}
+use Rattle.ks_record.specs.declared.record.TaskId.{TaskId}
 use Rattle.ks_plan.specs.Layout.{tasks}
 use Rattle.ks_plan.specs.Infos.{inputs_by_sub}
 use Rattle.ks_topo.specs.declared.built.Topology.{Topology}

@@ -4,7 +4,7 @@
 use Rattle.std.specs.Prelude.{◌≡◌, ◌<◌, ◌^◌, ℕ, not, Bool, false, List, [], ◌∷◌, ◌++◌, Option, Some, None, IfSome, cond}
 use Rattle.std.specs.List.{AllByRecursion}
 use Rattle.ks_row.specs.Spelling.{FitsRow, spelling}
-use Rattle.ks_row.specs.Records.{Record as Rec}
+use Rattle.ks_record.specs.Records.{Record as Rec}
 use Rattle.ks_def_runs.specs.FinMap as fin
 use Rattle.ks_def_runs.specs.Bytes.{Store, empty_store}
 use Rattle.ks_wire.specs.Spelling.{hash_bytes}

@@ -13,7 +13,7 @@ ghost use Rattle.ks_settle_report.specs.Partitions.{first_of};
 use crate::{Collision, first_collision};
 use ks_cluster::{Cluster, Work};
 use ks_hash::Hash128;
-use ks_row::PartId;
+use ks_record::PartId;
 use ks_settle_tables::rows::StoredForm;
 use std::alloc::{AllocError, Global};
 use std::thread::{Threads, join};

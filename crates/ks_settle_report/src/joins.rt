@@ -11,7 +11,7 @@ use crate::Collision;
 use crate::collisions::first_in_parts;
 use ks_cluster::{Cluster, Work};
 use ks_hash::Hash128;
-use ks_row::Name;
+use ks_record::Name;
 use ks_settle_tables::rows::form_of;
 use ks_topo::{Node, Topology, Wiring};
 use std::alloc::{AllocError, Global};

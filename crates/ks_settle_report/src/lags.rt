@@ -9,7 +9,7 @@ ghost use Rattle.ks_cluster.specs.View.{setup_of, state_of};
 ghost use Rattle.ks_settle_report.specs.Report.{IsOf, lag_at, is_behind, task_lags, lags_of};
 
 use ks_cluster::{Cluster, Work};
-use ks_row::{PartId, TaskId};
+use ks_record::{PartId, TaskId};
 use ks_topo::Topology;
 use std::alloc::{AllocError, Global};
 

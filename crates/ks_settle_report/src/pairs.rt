@@ -6,7 +6,7 @@ ghost use Rattle.ks_law_settled.specs.Collision.{row_by, same_keys, collide as c
 ghost use Rattle.ks_settle_report.specs.Hashed.{row_hash, kind_as, is_same_hash};
 
 use ks_hash::Hash128;
-use ks_row::{Blob, Rec};
+use ks_record::{Blob, Rec};
 use ks_settle_tables::rows::{StoredForm, read_row};
 use std::alloc::{AllocError, Global};
 

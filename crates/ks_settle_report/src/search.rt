@@ -7,7 +7,7 @@ ghost use Rattle.ks_settle_report.specs.Hashed.{row_hash, kind_as, pair_of};
 
 use crate::pairs::{Collision, are_equal, earlier, row_bytes};
 use ks_hash::Hash128;
-use ks_row::{Blob, Rec};
+use ks_record::{Blob, BlobBuilder, Rec};
 use ks_settle_tables::rows::StoredForm;
 use ks_store::{KvStore, OrderedStore};
 use std::alloc::{AllocError, Global};
@@ -16,10 +16,10 @@ use std::alloc::{AllocError, Global};
 fn spot(alloc: Global, key: &[u8], hash: u128) -> Result<Blob, AllocError>
     ensures { IfOk result (λ b. b ≡ spot_at key.now hash) }
 {
-    let mut out = Vec::new(alloc);
+    let mut out = BlobBuilder::new(alloc);
     out.extend_from_slice(&hash.to_be_bytes())?;
     out.extend_from_slice(key)?;
-    Blob::of(out)
+    out.into_blob()
 }
 
 // Of a record with a key and a row: its spot, and the row's bytes.

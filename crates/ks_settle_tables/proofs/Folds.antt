@@ -8,7 +8,7 @@ use Rattle.std.specs.Ordering.{match_ordering}
 use Rattle.std.specs.FinMap.Entries.{put}
 use Rattle.std.proofs.lemmas.Cmp.{nat_list_cmp_total}
 use Rattle.std.proofs.lemmas.List.{length-map, map-append}
-use Rattle.ks_row.specs.Texts.{key_from}
+use Rattle.ks_record.specs.Texts.{key_from}
 use Rattle.ks_expr.specs.Eval.{Row}
 use Rattle.ks_plan.specs.Drafts.{Name, DraftView, OpView, op_view}
 use Rattle.ks_plan.specs.declared.node.Node.{Node}

@@ -25,7 +25,7 @@ use Rattle.ks_plan.specs.Plan.Kind.{StreamFilter, TableFilter, StreamMap, TableM
 use Rattle.ks_plan.specs.Layout.{same_topic, topics_of, place_of, number_of, parts_of, parts_of_topic, kind_at, no_kind, by_node, input_topics, through_topics, changelogs_of, wired_changelogs}
 use Rattle.ks_plan.specs.Infos.{NodePlace, node_place, node_places, place_in, places_from, built_view}
 use Rattle.ks_plan.specs.Faults.{fault_of, has_name, names_of}
-use Rattle.ks_plan.proofs.Resolving.{known_names_from}
+use Rattle.ks_topo_layout.proofs.Resolving.{known_names_from}
 use Rattle.ks_topo.proofs.Lines.{no_line}
 use Rattle.ks_query.specs.Aggregates.{agg_row}
 use Rattle.ks_def_tasks.specs.Messages.{shown}

@@ -13,7 +13,7 @@ use crate::rows::table_rows;
 use crate::windows::window_rows;
 use ks_cluster::{Cluster, Work};
 use ks_query::{Table, TableRow};
-use ks_row::Seq;
+use ks_record::Seq;
 use ks_topo::{Node, Op, Topology};
 use std::alloc::{AllocError, Global};
 use std::thread::Threads;

@@ -1,7 +1,7 @@
 //! The rows that a changelog keeps.
 ghost use Rattle.std.specs.Prelude.{◌≡◌, ◌+◌, ◌≤◌, ℕ, List, [], map, IfOk, OnOk, option_map};
 ghost use Rattle.std.specs.Thread.{IsSync};
-ghost use Rattle.ks_row.specs.Texts.{key_from};
+ghost use Rattle.ks_record.specs.Texts.{key_from};
 ghost use Rattle.ks_plan.specs.Drafts.{op_view};
 ghost use Rattle.ks_plan.specs.Layout.{up_to};
 ghost use Rattle.ks_history.specs.State.{IsPart};
@@ -15,7 +15,8 @@ use crate::merging::merge_rows;
 use ks_agg::agg_row;
 use ks_cluster::{Cluster, Work};
 use ks_query::TableRow;
-use ks_row::{Blob, Key, PartId, Row, decode};
+use ks_record::{Blob, Key, PartId};
+use ks_row::{Row, decode};
 use ks_store::{KvStore, PlainStore, restore};
 use ks_topo::Op;
 use ks_wire::read_agg;

@@ -12,7 +12,8 @@ ghost use Rattle.ks_settle_tables.specs.Windows.{put_window, put_pairs as with_p
 use crate::rows::{read_total, stored_pairs};
 use ks_cluster::{Cluster, Work};
 use ks_query::TableRow;
-use ks_row::{Blob, Key, PartId, Row};
+use ks_record::{Blob, Key, PartId};
+use ks_row::Row;
 use ks_wire::read_window_key;
 use std::alloc::{AllocError, Global};
 use std::collections::BTreeMap;

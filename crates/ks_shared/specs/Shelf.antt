@@ -1,6 +1,6 @@
 -- What the shelf holds beside a cluster: replicas that follow its journal, for exactly the pairs of instance and task that are parked there.
 use Rattle.std.specs.Prelude.{◌≡◌, ℕ, Some, List, is_some}
-use Rattle.ks_row.specs.declared.record.TaskId.{TaskId}
+use Rattle.ks_record.specs.declared.record.TaskId.{TaskId}
 use Rattle.ks_history.specs.declared.journal.Entry.{Entry}
 use Rattle.ks_history.specs.Machine.{TaskPlan}
 use Rattle.ks_history.specs.State.{Setup}

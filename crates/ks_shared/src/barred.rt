@@ -1,5 +1,5 @@
 //! Why a worker's own request isn't done.
-use ks_row::Refused;
+use ks_record::Refused;
 
 /// Why a request by which a worker changes its own transaction isn't done.
 #[derive(Drop)]

@@ -10,7 +10,7 @@ ghost use Rattle.ks_shared.specs.Own.{IsOwn};
 use crate::barred::Barred;
 use crate::touched::touched_in;
 use ks_cluster::{Cluster, Work};
-use ks_row::{PartId, SharedRecords, TaskId};
+use ks_record::{PartId, SharedRecords, TaskId};
 use std::alloc::{AllocError, Global};
 
 pub(crate) fn init_own<W: Work>(

@@ -22,7 +22,7 @@ ghost use Rattle.ks_shared.specs.Calls.{setup_in, good_in, frame_of, Called};
 ghost use Rattle.ks_shared.specs.Reserved.{is_callers};
 ghost use Rattle.ks_shared.specs.Own.{IsOwn};
 ghost use Rattle.ks_shared.specs.Shelf.{IsReplicaOf};
-ghost use Rattle.ks_row.specs.declared.record.TaskId.{TaskId as Task};
+ghost use Rattle.ks_record.specs.declared.record.TaskId.{TaskId as Task};
 ghost use Rattle.ks_shared.specs.declared.state.Frame.{Frame};
 
 use crate::barred::Barred;
@@ -30,7 +30,7 @@ use crate::state::SharedState;
 use ks_cluster::{Cluster, Work};
 use ks_growing::{Growing, Pass};
 use ks_history::Status;
-use ks_row::{Assignment, PartId, Rec, Refused, SharedRecords, TaskId};
+use ks_record::{Assignment, PartId, Rec, Refused, SharedRecords, TaskId};
 use ks_standby::{Parked, Replica};
 use std::alloc::{AllocError, AllocFailed, Global};
 use std::sync::Wait;

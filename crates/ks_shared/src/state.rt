@@ -21,7 +21,7 @@ use crate::own::{add_own, append_own, decide_own, init_own, send_own};
 use ks_cluster::{Cluster, Work};
 use ks_growing::Journaled;
 use ks_history::{Entry, Status};
-use ks_row::{Assignment, PartId, Rec, Refused, Seq, SharedRecords, TaskId};
+use ks_record::{Assignment, PartId, Rec, Refused, Seq, SharedRecords, TaskId};
 use ks_standby::{Parked, Replica};
 use std::alloc::{AllocError, AllocFailed, Global};
 use std::marker::Model;
@@ -74,7 +74,7 @@ impl<W: Work> SharedState<W> {
     pub(crate) fn tell(&self)
         ensures { IsHistory (setup_of W.plan self.now) self.now.journal }
     {
-        let _journal = self.cluster.journal();
+        self.cluster.is_history();
     }
 
     pub(crate) fn produce(
@@ -91,7 +91,7 @@ impl<W: Work> SharedState<W> {
         ensures grew { Grew self.old self.new }
     {
         let answer = self.cluster.produce(alloc, part, rec);
-        let _journal = self.cluster.journal();
+        self.cluster.is_history();
         answer
     }
 
@@ -106,7 +106,7 @@ impl<W: Work> SharedState<W> {
         ensures grows { Grows self.old self.new }
     {
         let answer = self.cluster.mark_next(alloc, w);
-        let _journal = self.cluster.journal();
+        self.cluster.is_history();
         answer
     }
 
@@ -118,7 +118,7 @@ impl<W: Work> SharedState<W> {
         ensures grows { w ≢ 16 → Grows self.old self.new }
     {
         let answer = self.cluster.join(alloc, w);
-        let _journal = self.cluster.journal();
+        self.cluster.is_history();
         answer
     }
 
@@ -129,7 +129,7 @@ impl<W: Work> SharedState<W> {
         ensures grows { Grows self.old self.new }
     {
         let answer = self.cluster.expire(alloc, w);
-        let _journal = self.cluster.journal();
+        self.cluster.is_history();
         answer
     }
 
@@ -145,7 +145,7 @@ impl<W: Work> SharedState<W> {
         ensures grows { Grows self.old self.new }
     {
         let answer = self.cluster.hold(alloc, w, held);
-        let _journal = self.cluster.journal();
+        self.cluster.is_history();
         answer
     }
 
@@ -163,7 +163,7 @@ impl<W: Work> SharedState<W> {
         ensures grows { Grows self.old self.new }
     {
         let answer = self.cluster.probe(alloc, w, generation);
-        let _journal = self.cluster.journal();
+        self.cluster.is_history();
         answer
     }
 
@@ -184,7 +184,7 @@ impl<W: Work> SharedState<W> {
         ensures grows { Grows self.old self.new }
     {
         let answer = self.cluster.assign(alloc, w, generation, a);
-        let _journal = self.cluster.journal();
+        self.cluster.is_history();
         answer
     }
 
@@ -198,7 +198,7 @@ impl<W: Work> SharedState<W> {
         ensures grows { w ≢ 16 → Grows self.old self.new }
     {
         let answer = init_own(&mut self.cluster, alloc, w, last);
-        let _journal = self.cluster.journal();
+        self.cluster.is_history();
         answer
     }
 
@@ -219,7 +219,7 @@ impl<W: Work> SharedState<W> {
         ensures grows { Grows self.old self.new }
     {
         let answer = add_own(&mut self.cluster, alloc, w, epoch, part, last);
-        let _journal = self.cluster.journal();
+        self.cluster.is_history();
         answer
     }
 
@@ -253,7 +253,7 @@ impl<W: Work> SharedState<W> {
             recs,
             last,
         );
-        let _journal = self.cluster.journal();
+        self.cluster.is_history();
         answer
     }
 
@@ -289,7 +289,7 @@ impl<W: Work> SharedState<W> {
             late,
             last,
         );
-        let _journal = self.cluster.journal();
+        self.cluster.is_history();
         answer
     }
 
@@ -313,7 +313,7 @@ impl<W: Work> SharedState<W> {
         ensures grows { Grows self.old self.new }
     {
         let answer = decide_own(&mut self.cluster, alloc, w, epoch, commit, last);
-        let _journal = self.cluster.journal();
+        self.cluster.is_history();
         answer
     }
 
@@ -389,7 +389,7 @@ impl<W: Work> SharedState<W> {
             Ok(()) => {}
             Err(_) => return Err(AllocFailed { value: replica }),
         }
-        let _journal = self.cluster.journal();
+        self.cluster.is_history();
         self.shelf.set(instance, replica);
         Ok(())
     }
@@ -410,7 +410,7 @@ impl<W: Work> SharedState<W> {
         ensures grows { Grows self.old self.new }
     {
         let _is_parked = self.cluster.unpark(alloc, instance, task)?;
-        let _journal = self.cluster.journal();
+        self.cluster.is_history();
         Ok(self.shelf.take(instance, task))
     }
 }

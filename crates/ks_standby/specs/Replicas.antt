@@ -1,7 +1,7 @@
 -- Changelogs as lists, and the replica that they are (KIP-441).
 use Rattle.std.specs.Prelude.{◌≡◌, ◌≤◌, ◌+◌, ◌-◌, ◌^◌, ℕ, ◌==◌, true, if◌then◌else◌, min, List, [], ◌∷◌, map}
-use Rattle.ks_row.specs.Records.{Record as Rec}
-use Rattle.ks_row.specs.declared.record.TaskId.{TaskId}
+use Rattle.ks_record.specs.Records.{Record as Rec}
+use Rattle.ks_record.specs.declared.record.TaskId.{TaskId}
 use Rattle.ks_history.specs.declared.journal.Entry.{Entry}
 use Rattle.ks_history.specs.Machine.{TaskPlan, part_of, has_topic}
 use Rattle.ks_history.specs.State.{Setup}

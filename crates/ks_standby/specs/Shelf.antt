@@ -1,7 +1,7 @@
 -- A shelf: at each pair of instance and task what its first place holds.
 use Rattle.std.specs.Prelude.{ℕ, ◌+◌, ◌<◌, ◌==◌, ◌&&◌, length, Bool, if◌then◌else◌, Option, None, List, [], ◌∷◌}
-use Rattle.ks_row.specs.declared.record.TaskId.{TaskId}
-use Rattle.ks_row.specs.Parts.{same_task}
+use Rattle.ks_record.specs.declared.record.TaskId.{TaskId}
+use Rattle.ks_record.specs.Parts.{same_task}
 use Rattle.ks_standby.specs.declared.replica.Replica.{Replica}
 use Rattle.ks_standby.specs.declared.parked.Place.{Place}
 use Rattle.ks_standby.specs.declared.parked.Parked.{Parked}

@@ -4,7 +4,7 @@ ghost use Rattle.ks_cache.specs.Kept.{empty_kept};
 ghost use Rattle.ks_standby.specs.Replicas.{positions_in, fed};
 
 use ks_cache::{Changelog, TaskStore};
-use ks_row::Rec;
+use ks_record::Rec;
 use std::alloc::{AllocError, Global};
 
 /// New changelogs, with empty stores.

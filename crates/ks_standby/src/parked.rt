@@ -1,10 +1,10 @@
 //! A shelf of replicas.
 ghost use Rattle.std.specs.Prelude.{◌≡◌, ℕ, Some, None, OnOk, IfErr, is_some};
-ghost use Rattle.ks_row.specs.declared.record.TaskId.{TaskId as Task};
+ghost use Rattle.ks_record.specs.declared.record.TaskId.{TaskId as Task};
 ghost use Rattle.ks_standby.specs.Shelf.{is_here, place_in, parked, with_replica, HasPlace};
 
 use crate::replica::Replica;
-use ks_row::TaskId;
+use ks_record::TaskId;
 use std::alloc::{AllocError, AllocFailed, Global};
 use std::mem;
 

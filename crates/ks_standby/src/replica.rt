@@ -9,7 +9,7 @@ ghost use Rattle.ks_standby.specs.Replicas.{replica_view, changelogs_of, positio
 
 use crate::changelogs::{feed_changelogs, new_changelogs, position_in_changelog};
 use ks_cache::{Changelog, find_bytes};
-use ks_row::{Rec, TaskId};
+use ks_record::{Rec, TaskId};
 use std::alloc::{AllocError, Global};
 
 /// The stores of a task, and a position in each of its changelogs. Kafka Streams: a `StandbyTask`.

@@ -18,7 +18,7 @@ use Rattle.std.proofs.lemmas.Bool.{true≢false}
 use Rattle.std.proofs.lemmas.Cmp.{nat_list_cmp_total}
 use Rattle.ks_def_runs.specs.Bytes.{Store, by_bytes, empty_store}
 use Rattle.ks_def_runs.specs.FinMap as fin
-use Rattle.ks_row.specs.Spelling.{IsBytes}
+use Rattle.ks_record.specs.Bytes.{IsBytes}
 use Rattle.ks_store.specs.Pairs.{pairs_of, Rises}
 use Rattle.ks_def_runs.specs.Pairs.{ArePairs}
 use Rattle.ks_def_runs.specs.Prefixes.{pairs_under}

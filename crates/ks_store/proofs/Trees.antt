@@ -17,7 +17,7 @@ use Rattle.ks_def_runs.specs.Bytes.{by_bytes, empty_store}
 use Rattle.ks_def_runs.specs.FinMap as fin
 use Rattle.ks_store.specs.Pairs.{pairs_of, Rises, IsTree, store_of}
 use Rattle.ks_def_runs.specs.Pairs.{ArePairs}
-use Rattle.ks_row.specs.Spelling.{IsBytes}
+use Rattle.ks_record.specs.Bytes.{IsBytes}
 use Rattle.std.specs.Prelude.{Result, Ok, Err, OnOk, OnErr, ⊤}
 use Rattle.std.specs.declared.alloc.AllocError.{AllocError}
 

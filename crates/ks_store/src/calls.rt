@@ -3,7 +3,7 @@ ghost use Rattle.std.specs.Prelude.{◌≡◌, ◌≤◌, IfOk, OnOk, OnErr, ℕ
 ghost use Rattle.ks_store.specs.Calls.{reply_to, store_after, replies_to, after_calls};
 
 use crate::store::KvStore;
-use ks_row::{Blob, Seq};
+use ks_record::{Blob, Seq};
 use std::alloc::{AllocError, Global};
 
 /// A call of a store.

@@ -6,7 +6,7 @@ ghost use Rattle.ks_store.specs.Groups.{front_end, front_in, is_some_of, keys_in
 
 use crate::pairs::{Pairs, pairs_from, set_at, take_away};
 use crate::rows::Rows;
-use ks_row::Blob;
+use ks_record::Blob;
 use std::alloc::{AllocError, Global};
 use std::collections::{BTreeMap, HashMap};
 

@@ -6,7 +6,7 @@ ghost use Rattle.ks_def_runs.specs.Pairs.{ArePairs};
 
 use crate::store::KvStore;
 use crate::table::Table;
-use ks_row::Blob;
+use ks_record::Blob;
 use std::alloc::{AllocError, Global};
 use std::marker::Model;
 

@@ -6,7 +6,7 @@ ghost use Rattle.std.specs.FinMap.Entries.{find, put, where_key, is_sorted};
 ghost use Rattle.ks_def_runs.specs.Bytes.{by_bytes};
 ghost use Rattle.ks_store.specs.Pairs.{pairs_of, Rises};
 
-use ks_row::Blob;
+use ks_record::Blob;
 use std::alloc::{AllocError, Global};
 use std::collections::BTreeMap;
 

@@ -5,7 +5,7 @@ ghost use Rattle.ks_history.specs.Machine.{applied, latest_from};
 ghost use Rattle.ks_store.specs.Restored.{records_of};
 
 use crate::store::KvStore;
-use ks_row::Rec;
+use ks_record::Rec;
 use std::alloc::AllocError;
 
 // Puts the value of a key, or deletes it where there is none.

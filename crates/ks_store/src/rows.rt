@@ -7,7 +7,7 @@ ghost use Rattle.ks_store.specs.Pairs.{pairs_of, Rises};
 ghost use Rattle.ks_store.specs.Rows.{rows_of, ListsAll, with_found, rows_for};
 
 use crate::pairs::{Pairs, set_at};
-use ks_row::Blob;
+use ks_record::Blob;
 use std::alloc::{AllocError, Global};
 use std::collections::{BTreeMap, HashMap};
 

@@ -4,7 +4,7 @@ ghost use Rattle.ks_def_runs.specs.Bytes.{Store};
 ghost use Rattle.ks_def_runs.specs.FinMap as map;
 ghost use Rattle.ks_def_runs.specs.Prefixes.{pairs_under};
 
-use ks_row::Blob;
+use ks_record::Blob;
 use std::alloc::AllocError;
 
 /// A finite map from bytes to bytes.

@@ -9,7 +9,7 @@ ghost use Rattle.ks_def_runs.specs.Prefixes.{pairs_under};
 use crate::groups::{Groups, is_front, keys_under, list_key, unlist_key};
 use crate::pairs::pairs_from;
 use crate::rows::{Rows, all_keys, put_row, row_at, rows_at, take_row};
-use ks_row::Blob;
+use ks_record::Blob;
 use std::alloc::{AllocError, Global};
 use std::collections::HashMap;
 use std::marker::Model;

@@ -6,7 +6,7 @@ ghost use Rattle.ks_def_runs.specs.Pairs.{ArePairs};
 ghost use Rattle.ks_def_runs.specs.Prefixes.{pairs_under};
 
 use crate::pairs::{Pairs, pairs_with, set_at, take_away, value_at};
-use ks_row::Blob;
+use ks_record::Blob;
 use std::alloc::{AllocError, Global};
 use std::collections::BTreeMap;
 use std::marker::Model;

@@ -23,7 +23,7 @@ use Rattle.serde_json.specs.Written.{outline, items_outline, members_outline, co
 use Rattle.serde_json.proofs.Numbers.{number_of-decimal, number_of-negative}
 use Rattle.serde_json.proofs.Texts.{print-outline}
 use Rattle.ks_row.specs.Rows.{Member, names_of, rises, is_row, row_of}
-use Rattle.ks_row.specs.Texts.{IsKey, IsName, key_of, name_of}
+use Rattle.ks_record.specs.Texts.{IsKey, IsName, key_of, name_of}
 use Rattle.ks_row.specs.Spelling.{FitsField, FitsMember, FitsRow}
 use Rattle.ks_row.specs.declared.row.Field.{Field}
 use Rattle.ks_row.specs.declared.row.Field.TheVariants.{Int, Text}

@@ -1,6 +1,6 @@
 -- Rows of tables as the types allow them, and their lines.
 use Rattle.std.specs.Prelude.{◌≡◌, ℕ, ◌<◌, ◌^◌, Bool, true, false, List, [], ◌∷◌, ◌++◌, Option, Some, None, ⊤}
-use Rattle.ks_row.specs.Texts.{IsKey}
+use Rattle.ks_record.specs.Texts.{IsKey}
 use Rattle.ks_row.specs.Spelling.{FitsRow}
 use Rattle.ks_query.specs.declared.table.TableRow.{TableRow}
 use Rattle.ks_query.specs.Printed.{row_line}

@@ -3,7 +3,7 @@ use Rattle.std.specs.Prelude.{ℕ, ℤ, Bool, cond, List, [], ◌∷◌, ◌++�
 use Rattle.serde_json.specs.Data.{Data, Items, no_items, item, Members, no_members, member}
 use Rattle.serde_json.specs.Find.{as_str, as_number, as_array, as_object, as_i64, as_u64}
 use Rattle.ks_row.specs.Rows.{Member, row_of}
-use Rattle.ks_row.specs.Texts.{key_of, name_of, text_of}
+use Rattle.ks_record.specs.Texts.{key_of, name_of, text_of}
 use Rattle.ks_row.specs.declared.row.Field.{Field}
 use Rattle.ks_row.specs.declared.row.Field.TheVariants.{Int, Text}
 use Rattle.ks_query.specs.declared.table.TableRow.{TableRow}

@@ -4,7 +4,8 @@ ghost use Rattle.serde_json.specs.View.{view, items_view, members_view};
 ghost use Rattle.ks_table_line.specs.Reading.{field_by, field_in, member_in, members_from, row_in, key_in, row_at, row_last, row_from_start, row_of_items, table_row_in};
 
 use ks_query::TableRow;
-use ks_row::{Field, Key, Name, Row, Text};
+use ks_record::{Key, Name, Text};
+use ks_row::{Field, Row};
 use serde_json::Value;
 use serde_json::value::Map;
 use std::alloc::{AllocError, Global};

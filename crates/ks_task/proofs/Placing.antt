@@ -2,9 +2,9 @@
 use Rattle.std.proofs.Common.{◌≡◌, ℕ, suc, ◌+◌, ◌<◌, ◌≤◌, true, false, cond, List, [], ◌∷◌, ◌++◌, length, drop, refl, sym, ap, ap₂, ◌∙◌, arith, zero, Option, Some, None}
 use Rattle.std.proofs.Math.Seq.{drop-append_seam}
 use Rattle.std.proofs.lemmas.List.{drop_more}
-use Rattle.ks_row.specs.Records.{Record as Rec, no_part, no_rec, part_of_list, placed_of_list}
-use Rattle.ks_row.specs.declared.record.PartId.{PartId}
-use Rattle.ks_row.specs.Parts.{same_part}
+use Rattle.ks_record.specs.Records.{Record as Rec, no_part, no_rec, part_of_list, placed_of_list}
+use Rattle.ks_record.specs.declared.record.PartId.{PartId}
+use Rattle.ks_record.specs.Parts.{same_part}
 use Rattle.ks_def_runs.specs.Bytes.{Store}
 use Rattle.ks_def_tasks.specs.Bytes.{keep_bytes, keep_all, records_at}
 use Rattle.ks_history.specs.Machine.{applied}

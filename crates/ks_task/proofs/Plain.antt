@@ -1,8 +1,8 @@
 -- What the nodes of a task make of a record: which partitions an arrival says that subscriptions name doesn't matter, since the nodes know it.
 use Rattle.std.proofs.Common.{◌≡◌, ℕ, ◌+◌, List, [], ◌∷◌, ◌++◌, map, Option, Some, None, refl, ap, ap₂, ◌∙◌}
 use Rattle.std.specs.List.{flat_map}
-use Rattle.ks_row.specs.Records.{Record as Rec}
-use Rattle.ks_row.specs.declared.record.PartId.{PartId}
+use Rattle.ks_record.specs.Records.{Record as Rec}
+use Rattle.ks_record.specs.declared.record.PartId.{PartId}
 use Rattle.ks_plan.specs.Plan.{Kind}
 use Rattle.ks_plan.specs.Plan.Kind.{StreamSource, TableSource, StreamFilter, TableFilter, StreamMap, TableMap, KeySelected, StreamAggregate, TableAggregate, Windowed, KeyJoin, ForeignKeyJoin}
 use Rattle.ks_query.specs.Streams.{Key, StreamItem}
@@ -12,8 +12,9 @@ use Rattle.ks_def_tasks.specs.Bytes.{ByteStores}
 use Rattle.ks_def_lookups.specs.Windows.{CountedBytes}
 use Rattle.ks_def_lookups.specs.Lists.{item_in, all_items, value_in}
 use Rattle.ks_task_nodes.specs.Nodes.{TaskNode, kinds_in}
-use Rattle.ks_task_nodes.specs.Stored.{in_list}
-use Rattle.ks_task_step.specs.Steps.{old_list, new_from, new_list, sends_of, sent_by, all_sends, change_by, counts_by, at_part, hashed_by, all_recs, late_of, late_in, made_with, made_at, made_of}
+use Rattle.ks_task_values.specs.Changes.{in_list}
+use Rattle.ks_task_values.specs.Values.{old_list, new_from, new_list}
+use Rattle.ks_task_processing.specs.Steps.{sends_of, sent_by, all_sends, change_by, counts_by, at_part, hashed_by, all_recs, late_of, late_in, made_with, made_at, made_of}
 
 module _ (a : Arrival) (names : ℕ → Option ℕ) where
   abbrev b : Arrival

@@ -1,7 +1,7 @@
 -- The nodes that a record can reach are those of the topic that it was read from.
 use Rattle.std.proofs.Common.{◌≡◌, ℕ, List, [], map, Option, Some, None, sym, ap, ◌∙◌, is_some, true≢false}
 use Rattle.std.specs.Prelude.{option_map}
-use Rattle.ks_row.specs.Records.{Record as Rec}
+use Rattle.ks_record.specs.Records.{Record as Rec}
 use Rattle.ks_plan.specs.Plan.{Kind}
 use Rattle.ks_plan.specs.declared.node.Topic.{Topic}
 use Rattle.ks_def_tasks.specs.Messages.{Message}

@@ -1,7 +1,7 @@
 -- Records that a task takes one after another.
 use Rattle.std.proofs.Common.{◌≡◌, ℕ, zero, suc, ◌+◌, ◌<◌, take, get_or, List, [], ◌∷◌, ◌++◌, length, refl, sym, ap, subst, ◌∙◌, arith, add-one, Result}
 use Rattle.std.specs.Prelude.{OnOk}
-use Rattle.ks_row.specs.Records.{Record as Rec}
+use Rattle.ks_record.specs.Records.{Record as Rec}
 use Rattle.ks_history.specs.Machine.{TaskPlan}
 use Rattle.ks_history.specs.Follows.{TaskView}
 use Rattle.ks_law_restore.specs.Views.{take_view, take_all}

@@ -4,10 +4,10 @@ use Rattle.std.specs.Prelude.{if◌then◌else◌}
 use Rattle.std.proofs.Math.Path.{fun_ext}
 use Rattle.std.proofs.lemmas.Bool.{true≢false}
 use Rattle.std.proofs.lemmas.Bool.Decides.{Decides-eqb}
-use Rattle.ks_row.specs.Records.{Record as Rec}
-use Rattle.ks_row.specs.declared.record.PartId.{PartId}
-use Rattle.ks_row.specs.declared.record.TaskId.{TaskId}
-use Rattle.ks_row.specs.Parts.{same_part}
+use Rattle.ks_record.specs.Records.{Record as Rec}
+use Rattle.ks_record.specs.declared.record.PartId.{PartId}
+use Rattle.ks_record.specs.declared.record.TaskId.{TaskId}
+use Rattle.ks_record.specs.Parts.{same_part}
 use Rattle.ks_def_runs.specs.Bytes.{Store}
 use Rattle.ks_def_runs.specs.Run.{Outcome, sent_to}
 use Rattle.ks_plan.specs.Drafts.{DraftView}
@@ -28,7 +28,7 @@ use Rattle.ks_def_tasks.specs.Rules.{rules_of}
 use Rattle.ks_law_step.specs.Whole.{IsRecord, AreStores}
 use Rattle.ks_task_nodes.specs.Nodes.{nodes_of}
 use Rattle.ks_task_nodes.specs.Records.{arrival_at}
-use Rattle.ks_task_step.specs.Steps.{made_or_none, late_or_none}
+use Rattle.ks_task_processing.specs.Steps.{made_or_none, late_or_none}
 use Rattle.ks_cache.specs.Changelogs.{stores_in}
 use Rattle.ks_cache.specs.Lists.{cached_after}
 use Rattle.ks_cache.proofs.Taking.{cached_after-append}

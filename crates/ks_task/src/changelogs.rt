@@ -1,31 +1,37 @@
 //! What a task keeps in its changelogs, with their stores.
-ghost use Rattle.std.specs.Prelude.{◌≡◌, ◌∷◌, List, OnOk, length, map, drop};
+ghost use Rattle.std.specs.Prelude.{◌≡◌, ◌<◌, ◌∷◌, List, OnOk, length, map, drop};
 ghost use Rattle.ks_def_tasks.specs.Bytes.{records_at};
 ghost use Rattle.ks_history.specs.State.{offset_in};
-ghost use Rattle.ks_row.specs.Spelling.{IsBytes};
-ghost use Rattle.ks_row.specs.Records.{Record, record_seen};
-ghost use Rattle.ks_row.specs.declared.record.PartId.{PartId as Part};
+ghost use Rattle.ks_record.specs.Bytes.{IsBytes};
+ghost use Rattle.ks_record.specs.Records.{Record, record_seen, placed_of_list};
+ghost use Rattle.ks_record.specs.declared.record.PartId.{PartId as Part};
 ghost use Rattle.ks_law_step.specs.Whole.{IsRecord, AreStores};
 ghost use Rattle.ks_cache.specs.Changelogs.{stores_in};
 ghost use Rattle.ks_standby.specs.Replicas.{numbers_of};
 ghost use Rattle.ks_task.specs.Views.{with_records, log_after, ended, holding, plain_log, cached_in};
 
 use ks_cache::{Changelog, TaskStore};
-use ks_row::{PartId, PlacedRecords, RecordRef};
+use ks_record::{PartId, PlacedRecords, RecordRef};
 use std::alloc::{AllocError, Global};
 
-// A record, where it is for this partition: whatever comes behind it is kept after it.
+// The record at a place, which is for the partition `at`, where that is this one: whatever comes behind it is kept after it.
 fn keep_own(
     store: &mut TaskStore,
     part: PartId,
     at: PartId,
-    rec: RecordRef<'_>,
+    made: &PlacedRecords,
+    place: usize,
 ) -> Result<(), AllocError>
+    requires { place < length made.now }
     ensures { OnOk result ((rest : List (Part × Record))
         → with_records store.new (records_at part rest)
-        ≡ with_records store.old (records_at part ((at, record_seen rec.entry) ∷ rest))) }
+        ≡ with_records store.old (records_at part ((at, placed_of_list made.now place) ∷ rest))) }
 {
-    if part.is(at) { store.keep(rec) } else { Ok(()) }
+    if part.is(at) {
+        store.keep(made.get(place))
+    } else {
+        Ok(())
+    }
 }
 
 fn keep_all(
@@ -38,7 +44,7 @@ fn keep_all(
         ≡ with_records store.old (records_at part (drop from made.now))) }
 {
     for place in from..made.len() {
-        keep_own(store, part, made.part(place), made.get(place))?;
+        keep_own(store, part, made.part(place), made, place)?;
     }
     Ok(())
 }

@@ -10,7 +10,7 @@ ghost use Rattle.ks_law_topology.specs.Spelled.{FitsTerm, FitsSet};
 ghost use Rattle.ks_law_kinds.specs.Fitting.{FitsFk, FitsOp, FitsPlan};
 
 use ks_expr::{Expr, Fk, Proj};
-use ks_row::Name;
+use ks_record::Name;
 use ks_topo::{Node, Op, Topology};
 
 fn term_fits(term: &Expr)

@@ -1,6 +1,6 @@
 //! A task at work.
 ghost use Rattle.std.specs.Prelude.{◌≡◌, ◌≤◌, ◌-◌, ◌^◌, ◌++◌, ℕ, List, [], IfOk, IfErr, OnOk, false, length, map, min, true, slice_get, option_map};
-ghost use Rattle.ks_row.specs.Records.{record_seen};
+ghost use Rattle.ks_record.specs.Records.{record_seen};
 ghost use Rattle.ks_plan.specs.Drafts.{DraftView};
 ghost use Rattle.ks_plan.specs.Plan.{plan_of};
 ghost use Rattle.ks_topo.specs.Topologies.{draft_of, plan_in};
@@ -18,7 +18,7 @@ ghost use Rattle.ks_def_tasks.specs.Rules.{HaveParts, rules_of};
 ghost use Rattle.ks_task_nodes.specs.Nodes.{node_view, kinds_in, nodes_of};
 ghost use Rattle.ks_task_nodes.specs.Reach.{are_numbered};
 ghost use Rattle.ks_task_nodes.specs.Records.{arrival_of, arrival_at};
-ghost use Rattle.ks_task_step.specs.Steps.{made_or_none, late_or_none};
+ghost use Rattle.ks_task_processing.specs.Steps.{made_or_none, late_or_none};
 ghost use Rattle.ks_cache.specs.Changelogs.{stores_in};
 ghost use Rattle.ks_cache.specs.Lists.{cached_after};
 ghost use Rattle.ks_def_tasks.specs.Bytes.{records_at};
@@ -37,13 +37,13 @@ use crate::inputs::{
 };
 use ks_cache::{Changelog, find_bytes};
 use ks_commit::Frozen;
-use ks_hash::Hash128;
-use ks_row::{PartId, PlacedRecords, Rec, RecordRef, Seq, TaskId};
+use ks_record::{PartId, PlacedRecords, Rec, RecordRef, Seq, TaskId};
 use ks_standby::{Replica, position_in_changelog};
 use ks_task_nodes::{
     NodeTopics, ProcessorNode, StampedRecord, live_nodes, node_topics, processor_nodes, read_record,
 };
-use ks_task_step::{Step, process};
+use ks_task_processing::Processing;
+use ks_task_values::Step;
 use ks_topo::{Topic, Topology};
 use std::alloc::{AllocError, AllocFailed, Global};
 
@@ -116,7 +116,7 @@ fn live_for(
 
 // All that these nodes make of a record, at the end of what was made before; these of them are those that the topic can reach. How many
 // pairs were late.
-fn process_record<H: Hash128>(
+fn process_record<H: Processing>(
     alloc: Global,
     made: &mut PlacedRecords,
     purposes: &[Topic],
@@ -147,7 +147,7 @@ fn process_record<H: Hash128>(
                 partition: at.part,
                 stamped: &stamped,
             };
-            process::<H>(alloc, made, &step)
+            H::process(alloc, made, &step)
         }
         None => Ok(0),
     }
@@ -235,7 +235,7 @@ impl Task {
     }
 
     // All that its nodes make of a record of a topic, at the end of what it made before. How many pairs were late.
-    fn process<H: Hash128>(
+    fn process<H: Processing>(
         &mut self,
         alloc: Global,
         topology: &Topology,
@@ -278,7 +278,7 @@ impl Task {
     }
 
     // Takes the next readable record of an input by its nodes.
-    fn take_by<H: Hash128>(
+    fn take_by<H: Processing>(
         &mut self,
         alloc: Global,
         topology: &Topology,
@@ -315,7 +315,7 @@ impl Task {
     }
 
     /// Takes the next readable record of an input. After want of memory the task is to be dropped.
-    pub fn take<H: Hash128>(
+    pub fn take<H: Processing>(
         &mut self,
         alloc: Global,
         topology: &Topology,
@@ -340,7 +340,7 @@ impl Task {
     }
 
     /// Takes these records of an input, with their offsets, one after another. After want of memory the task is to be dropped.
-    pub fn take_all<H: Hash128>(
+    pub fn take_all<H: Processing>(
         &mut self,
         alloc: Global,
         topology: &Topology,

@@ -19,7 +19,7 @@ use Rattle.ks_def_tasks.specs.Messages.{Stored, shown, same_option, same_row, Me
 use Rattle.ks_def_tasks.specs.Foreign.{answer_all, subscriptions}
 use Rattle.ks_def_tasks.specs.Windowed.{Counted, count_item, not_counted}
 use Rattle.ks_def_tasks.specs.Step.{Arrival, Values, Sent, Written, step_key, arrived, item_given, item_keyed, item_at, item_into, items_from, row_in, changed, of_row, kept_row, taken_row, added, applied, direct, responded, value_at, values_from, counted_at, hash_changes, regroup, regroup_rows, send_deltas, send_subscriptions, send_responses, answer_one, join_sends, sends_at, value_changes, write_all, changes_at}
-use Rattle.ks_law_topology.proofs.Writes.{row_itself, nothing_changes}
+use Rattle.ks_def_tasks.proofs.Itself.{row_itself, nothing_changes}
 use Rattle.ks_task_nodes.specs.Nodes.{TaskNode, kinds_in}
 use Rattle.ks_task_nodes.specs.Reach.{is_among, is_named, is_fed, is_reached_by, is_reached, with_reached, live_in, are_numbered, NoItems, SameValues, OutOfReachStays}
 

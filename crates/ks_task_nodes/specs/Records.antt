@@ -1,7 +1,7 @@
 -- What a record of a topic says to a task, in the machine's own words.
 use Rattle.std.specs.Prelude.{ℕ, List, get_or, Option, Some, None, option_map}
-use Rattle.ks_row.specs.Texts.{key_from}
-use Rattle.ks_row.specs.Records.{Record as Rec}
+use Rattle.ks_record.specs.Texts.{key_from}
+use Rattle.ks_record.specs.Records.{Record as Rec}
 use Rattle.ks_wire.specs.Reading.{subscription_from, response_from}
 use Rattle.ks_plan.specs.Plan.{Kind}
 use Rattle.ks_plan.specs.Layout.{no_kind}

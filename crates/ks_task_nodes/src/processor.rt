@@ -10,7 +10,7 @@ use crate::topics::NodeTopics;
 use crate::windows::HoppingWindow;
 use ks_expr::{Fk, JoinKind, Pred, Proj};
 use ks_plan::{Node, Op, TopicInfo, Wiring};
-use ks_row::Name;
+use ks_record::Name;
 use std::alloc::{AllocError, Global};
 
 /// A join of two tables on their keys.

@@ -1,8 +1,9 @@
 //! What a record of a topic says to a task.
-ghost use Rattle.std.specs.Prelude.{◌≡◌, Some, None, IfOk, map, option_map, option_copied};
-ghost use Rattle.ks_row.specs.Texts.{key_from};
-ghost use Rattle.ks_row.specs.Records.{record_seen};
+ghost use Rattle.std.specs.Prelude.{◌≡◌, Some, None, IfOk, not, map, option_map, option_copied};
+ghost use Rattle.ks_record.specs.Texts.{key_from};
+ghost use Rattle.ks_record.specs.Records.{record_seen};
 ghost use Rattle.ks_row.specs.Reading.{row_from};
+ghost use Rattle.ks_plan.specs.Layout.{same_topic};
 ghost use Rattle.ks_wire.specs.Reading.{delta_from, subscription_from, response_from};
 ghost use Rattle.ks_def_tasks.specs.Messages.{subscription_of};
 ghost use Rattle.ks_def_tasks.specs.Messages.Message.{Keyed, Moved, Asked, Answered};
@@ -13,8 +14,9 @@ ghost use Rattle.ks_task_nodes.specs.Records.{message_of, message_from, arrival_
 
 use crate::encoded::EncodedRow;
 use crate::processor::{Processor, ProcessorNode};
+use crate::topics::is_same_topic;
 use ks_plan::Topic;
-use ks_row::{Key, RecordRef};
+use ks_record::{Key, RecordRef};
 use ks_wire::{Delta, Response, Subscription, read_delta, read_response, read_subscription};
 use std::alloc::{AllocError, Global};
 
@@ -54,6 +56,13 @@ pub struct StampedRecord<'a> {
     pub topic: Topic,
     pub payload: Payload<'a>,
     pub time: u64,
+}
+
+/// Whether a record is of another topic than this. Takes no memory.
+pub fn is_elsewhere(stamped: &StampedRecord<'_>, topic: Topic) -> bool
+    ensures { result ≡ not (same_topic (arrival_of stamped.now).topic topic) }
+{
+    !is_same_topic(stamped.topic, topic)
 }
 
 // None where the bytes are there and spell no key.

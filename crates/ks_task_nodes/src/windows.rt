@@ -1,10 +1,10 @@
 //! The windows of a windowed count.
 ghost use Rattle.std.specs.Prelude.{◌≡◌, ◌≤◌, Some, None, cond};
 ghost use Rattle.ks_plan.specs.Plan.{natural, or_number, window_of};
-ghost use Rattle.ks_window.specs.Shape.{shape};
+ghost use Rattle.ks_plan.specs.Shape.{shape};
 ghost use Rattle.ks_task_nodes.specs.Windows.{fits_window};
 
-use ks_window::Window;
+use ks_plan::Window;
 use std::marker::Model;
 
 /// Hopping windows whose advance is at least 1 ms and at most the size; contracts see size, advance and grace.
@@ -16,7 +16,7 @@ pub struct HoppingWindow {
 impl Model for HoppingWindow {
     ghost use Rattle.std.specs.Prelude.{◌≡◌, ◌≤◌};
     ghost use Rattle.ks_plan.specs.Plan.{Window as PlanWindow};
-    ghost use Rattle.ks_window.specs.Shape.{shape};
+    ghost use Rattle.ks_plan.specs.Shape.{shape};
 
     ghost Value = { PlanWindow };
 

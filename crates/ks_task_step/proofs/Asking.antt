@@ -6,7 +6,7 @@ use Rattle.ks_def_tasks.specs.Messages.{Subscription, value_of}
 use Rattle.ks_def_tasks.specs.Step.{Sent, send_subscriptions}
 use Rattle.ks_fk_left.specs.Asked.{told}
 use Rattle.ks_task_nodes.specs.Nodes.{TaskNode}
-use Rattle.ks_task_step.specs.Steps.{sent_by, asked_by}
+use Rattle.ks_task_processing.specs.Steps.{sent_by, asked_by}
 
 pub asked_is : (s : TaskNode) (time : ℕ) (k : Key) (ss : List (Key × Subscription)) → map (asked_by s time) (told k ss) ≡ flat_map (sent_by s time) (send_subscriptions s.topics.number k ss)
 asked_is s time k [] = refl

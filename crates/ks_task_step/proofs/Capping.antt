@@ -5,7 +5,7 @@ use Rattle.ks_history.specs.Faithful.{capped}
 use Rattle.ks_def_tasks.specs.Step.{Arrival}
 use Rattle.ks_def_tasks.specs.Bytes.{ByteStores}
 use Rattle.ks_task_nodes.specs.Nodes.{TaskNode}
-use Rattle.ks_task_step.specs.Steps.{late_at_numbers}
+use Rattle.ks_task_processing.specs.Steps.{late_at_numbers}
 
 pub none_late : (stores : ByteStores) (a : Arrival) (items : ℕ → Option StreamItem) (all : List TaskNode) (ns : List ℕ) → length ns < 1 → late_at_numbers stores a items all ns ≡ 0
 none_late stores a items all [] lt = refl

@@ -1,5 +1,4 @@
 pub mod Looking
 pub mod Asking
 pub mod Capping
-pub mod LiveValues
 pub mod Quiet

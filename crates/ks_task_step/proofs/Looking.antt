@@ -14,7 +14,7 @@ use Rattle.ks_def_tasks.specs.Step.{regroup_rows, send_deltas}
 use Rattle.ks_def_tasks.proofs.Same.{row-is}
 use Rattle.ks_task_nodes.specs.declared.processor.ProcessorNode.{ProcessorNode}
 use Rattle.ks_task_nodes.specs.Nodes.{node_view}
-use Rattle.ks_task_step.specs.Steps.{stored_at}
+use Rattle.ks_task_values.specs.Values.{stored_at}
 
 -- ---- of a row that stays a table tells its groups nothing
 same_is : (old new : Option Row) → same_option same_row old new ≡ true → old ≡ new

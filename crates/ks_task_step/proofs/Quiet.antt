@@ -4,8 +4,8 @@ use Rattle.std.specs.Prelude.{slice_get}
 use Rattle.std.specs.List.{flat_map}
 use Rattle.std.proofs.Math.Path.{fun_ext}
 use Rattle.std.proofs.lemmas.Bool.{true≢false}
-use Rattle.ks_row.specs.Records.{Record as Rec}
-use Rattle.ks_row.specs.declared.record.PartId.{PartId}
+use Rattle.ks_record.specs.Records.{Record as Rec}
+use Rattle.ks_record.specs.declared.record.PartId.{PartId}
 use Rattle.ks_plan.specs.Plan.{Plan, Kind}
 use Rattle.ks_plan.specs.Plan.Kind.{StreamSource, TableSource, StreamFilter, TableFilter, StreamMap, TableMap, KeySelected, StreamAggregate, TableAggregate, Windowed, KeyJoin, ForeignKeyJoin}
 use Rattle.ks_query.specs.Streams.{Key, StreamItem}
@@ -18,12 +18,12 @@ use Rattle.ks_def_lookups.specs.Counts.{nothing_counted, counted_item}
 use Rattle.ks_def_lookups.specs.Windows.{CountedBytes}
 use Rattle.ks_def_lookups.specs.Lists.{item_in, all_items}
 use Rattle.ks_def_lookups.proofs.Lists.{nodes_act_as_lists}
-use Rattle.ks_law_topology.proofs.Writes.{nothing_changes}
+use Rattle.ks_def_tasks.proofs.Itself.{nothing_changes}
 use Rattle.ks_task_nodes.specs.Nodes.{TaskNode, kinds_in}
 use Rattle.ks_task_nodes.specs.Reach.{is_among, live_in, are_numbered, at_numbers, NoItems, SameValues}
 use Rattle.ks_task_nodes.proofs.Still.{IsOut, is_out, Closed, live_closed, items_stay, number_is, and_second, or_first, or_second, out_item, no_item, no_change, unchanged, left_of, right_of, none_into, none_sent, none_asked, stays_parts, with_same}
 use Rattle.ks_task_nodes.proofs.Going.{goes, chosen, StandAt, all_stand, live_chosen}
-use Rattle.ks_task_step.specs.Steps.{sends_of, sends_by, all_sends, sent_by, join_here, answer_here, named_by, kept_at, recs_by, all_recs, told_by, at_part, counts_by, counts_at, hash_here, hash_told, late_by, late_at_numbers, late_of}
+use Rattle.ks_task_processing.specs.Steps.{sends_of, sends_by, all_sends, sent_by, join_here, answer_here, named_by, kept_at, recs_by, all_recs, told_by, at_part, counts_by, counts_at, hash_here, hash_told, late_by, late_at_numbers, late_of}
 use Rattle.ks_task_step.specs.Streams.{is_stream, is_stream_at, has_live_stream}
 
 -- ---- what it sends

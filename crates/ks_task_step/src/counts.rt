@@ -3,14 +3,14 @@ ghost use Rattle.std.specs.Prelude.{◌≡◌, ◌++◌, IfOk, OnOk, map};
 ghost use Rattle.ks_def_lookups.specs.Windows.{counted};
 ghost use Rattle.ks_task_nodes.specs.Nodes.{node_view};
 ghost use Rattle.ks_task_nodes.specs.Records.{arrival_of};
-ghost use Rattle.ks_task_step.specs.Steps.{items_in, counts_at, at_part};
+ghost use Rattle.ks_task_values.specs.Values.{items_in};
+ghost use Rattle.ks_task_processing.specs.Steps.{counts_at, at_part};
 ghost use Rattle.ks_cache.specs.Changelogs.{stores_in};
 
-use crate::step::NodeValues;
-use crate::taken::Step;
 use ks_cache::{Changelog, TaskStore};
-use ks_row::{Key, PartId, PlacedRecords, RecordList};
-use ks_task_nodes::{HoppingWindow, Processor, ProcessorNode, item_into};
+use ks_record::{Key, PartId, PlacedRecords, RecordList};
+use ks_task_nodes::{HoppingWindow, Processor, ProcessorNode};
+use ks_task_values::{NodeValues, Step, item_into};
 use ks_window::count;
 use std::alloc::{AllocError, Global};
 

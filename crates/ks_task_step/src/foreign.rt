@@ -1,167 +1,41 @@
 //! The sides of a join on a foreign key (KIP-213).
 ghost use Rattle.std.specs.Prelude.{◌≡◌, ◌≤◌, ◌++◌, ◌∷◌, [], IfOk, OnOk, Some, None, map, option_map, option_copied, nat_eq};
 ghost use Rattle.std.specs.List.{flat_map};
-ghost use Rattle.ks_expr.specs.Terms.{set_of};
-ghost use Rattle.ks_plan.specs.declared.node.Topic.TheVariants.{Subscriptions, Responses};
+ghost use Rattle.ks_plan.specs.declared.node.Topic.TheVariants.{Subscriptions};
 ghost use Rattle.ks_def_tasks.specs.Messages.{shown, subscription_of, same_option, same_subscriber};
-ghost use Rattle.ks_def_tasks.specs.Foreign.{subscriptions as asked_of, is_direct as direct_is, key_of_row, direct_row, answer_to, answer_all};
-ghost use Rattle.ks_def_tasks.specs.Step.{arrived, step_key, row_in, direct, responded, send_subscriptions, send_responses, answer_of};
+ghost use Rattle.ks_def_tasks.specs.Foreign.{subscriptions as asked_of, answer_to, answer_all};
+ghost use Rattle.ks_def_tasks.specs.Step.{arrived, step_key, row_in, send_responses, answer_of};
 ghost use Rattle.ks_wire.specs.Spelling.{subscriber_bytes};
 ghost use Rattle.ks_wire.specs.Values.{IsPart};
-ghost use Rattle.ks_def_tasks.specs.Messages.Message.{Asked, Answered, KeptHash};
+ghost use Rattle.ks_def_tasks.specs.Messages.Message.{Asked, Answered};
 ghost use Rattle.ks_fk_left.specs.Asked.{told};
 ghost use Rattle.ks_def_lookups.specs.Kept.{kept_under};
 ghost use Rattle.ks_def_tasks.specs.Rules.{rules_of};
 ghost use Rattle.ks_task_nodes.specs.Nodes.{node_view};
 ghost use Rattle.ks_task_nodes.specs.Records.{arrival_of, message_of};
-ghost use Rattle.ks_task_nodes.specs.Stored.{stored_in, value_view, in_list};
-ghost use Rattle.ks_task_step.specs.Steps.{olds_in, news_in, old_list, named_by, asked_at, answered_part, answered_at, sent_at, sent_by, asked_by, kept_at, subscriber_found, hash_here, hash_told, hashed_by, left_sends, right_sends, join_here, answer_here, foreign_value as foreign_stored};
+ghost use Rattle.ks_task_values.specs.Changes.{in_list};
+ghost use Rattle.ks_task_values.specs.Values.{olds_in, news_in, old_list};
+ghost use Rattle.ks_task_processing.specs.Steps.{named_by, asked_at, answered_part, answered_at, sent_at, sent_by, asked_by, kept_at, subscriber_under, kept_told, hash_here, hash_told, hashed_by, left_sends, right_sends, join_here, answer_here};
 ghost use Rattle.ks_cache.specs.Changelogs.{stores_in};
 
-use crate::hashes::new_hash;
-use crate::sends::{part_for, push_send, push_told};
-use crate::step::{NodeValues, change_at, is_changed, new_row, old_row, stored_value};
-use crate::taken::Step;
-use crate::values::value_of_row;
+use crate::sends::{push_send, push_told};
 use ks_cache::{Changelog, TaskStore, find_bytes};
-use ks_expr::{Fk, fk_of};
-use ks_fk_left::{is_answer_to, subscriptions_by};
+use ks_fk_left::subscriptions_by;
 use ks_fk_right::{answer, kept_of, on_right};
 use ks_hash::Hash128;
 use ks_plan::Topic;
-use ks_row::{Blob, Change, Key, PartId, PlacedRecords, Row};
-use ks_table_ops::join_rows;
+use ks_record::{Blob, Key, PartId, PlacedRecords};
+use ks_row::{Change, Row};
 use ks_task_nodes::{
-    ForeignKeyJoin, NewValue, Payload, ProcessorNode, StampedRecord, StoredValue, is_same_topic,
-    stored_row,
+    ForeignKeyJoin, Payload, ProcessorNode, StampedRecord, is_same_topic, stored_row,
 };
+use ks_task_processing::part_for;
+use ks_task_values::{NodeValues, Step, change_at, is_changed, new_hash, new_row, stored_value};
 use ks_wire::{
     Response, Subscriber, Subscription, read_subscriber, write_response, write_subscriber,
     write_subscription, write_subscription_key,
 };
 use std::alloc::{AllocError, Global};
-
-// ---- the result
-
-fn foreign_key(
-    alloc: Global,
-    fk: &Fk,
-    key: &Key,
-    row: &Option<Row>,
-) -> Result<Option<Key>, AllocError>
-    ensures { IfOk result (λ k. k ≡ key_of_row fk.now key.now row.now) }
-{
-    match row {
-        Some(row) => fk_of(alloc, fk, key, row),
-        None => Ok(None),
-    }
-}
-
-// Whether no answer will come to a changed left row, so that the result is set at once. The row before is read only where there is none
-// after.
-fn is_direct(
-    alloc: Global,
-    join: &ForeignKeyJoin<'_>,
-    key: &Key,
-    values: &NodeValues<'_, '_>,
-    new: &Option<Row>,
-) -> Result<bool, AllocError>
-    ensures { IfOk result (λ b. b ≡ direct_is join.now.foreign_key.now key.now
-        (row_in (olds_in values.now) join.now.left) new.now) }
-{
-    match new {
-        Some(_) => Ok(foreign_key(alloc, join.foreign_key, key, new)?.is_none()),
-        None => {
-            let old = old_row(alloc, values, join.left)?;
-            Ok(foreign_key(alloc, join.foreign_key, key, &old)?.is_none())
-        }
-    }
-}
-
-// The result of a left row without a right one.
-fn left_alone(
-    alloc: Global,
-    join: &ForeignKeyJoin<'_>,
-    row: &Option<Row>,
-) -> Result<Option<Row>, AllocError>
-    ensures { IfOk result (λ r. r ≡ direct_row join.now.kind (set_of join.now.set.now) row.now) }
-{
-    match row {
-        Some(row) => join_rows(alloc, join.kind, join.set, Some(row), None),
-        None => Ok(None),
-    }
-}
-
-fn direct_value<'a>(
-    alloc: Global,
-    join: &ForeignKeyJoin<'_>,
-    key: Option<&Key>,
-    old: Option<StoredValue<'a>>,
-    values: &NodeValues<'_, '_>,
-) -> Result<NewValue<'a>, AllocError>
-    ensures { IfOk result (λ v. value_view v ≡ direct join.now.foreign_key.now
-        (option_copied key.entry) join.now.kind (set_of join.now.set.now)
-        (row_in (olds_in values.now) join.now.left) (row_in (news_in values.now) join.now.left)
-        (stored_in old.entry)) }
-{
-    let Some(key) = key else {
-        return Ok(NewValue::Unchanged(old));
-    };
-    let now = new_row(alloc, values, join.left)?;
-    if is_direct(alloc, join, key, values, &now)? {
-        Ok(value_of_row(left_alone(alloc, join, &now)?))
-    } else {
-        Ok(NewValue::Unchanged(old))
-    }
-}
-
-fn responded_value<'a, H: Hash128>(
-    alloc: Global,
-    number: u8,
-    join: &ForeignKeyJoin<'_>,
-    old: Option<StoredValue<'a>>,
-    values: &NodeValues<'_, '_>,
-    stamped: &StampedRecord<'_>,
-) -> Result<NewValue<'a>, AllocError>
-    ensures { IfOk result (λ v. value_view v ≡ responded (rules_of H.hash_of) join.now.kind
-        (set_of join.now.set.now) (row_in (news_in values.now) join.now.left)
-        (arrived (arrival_of stamped.now) (Responses number)) (stored_in old.entry)) }
-{
-    if !is_same_topic(stamped.topic, Topic::Responses(number)) {
-        return Ok(NewValue::Unchanged(old));
-    }
-    let Payload::Response { response, .. } = &stamped.payload else {
-        return Ok(NewValue::Unchanged(old));
-    };
-    if !is_answer_to(new_hash::<H>(alloc, values, join.left)?, response) {
-        return Ok(NewValue::Unchanged(old));
-    }
-    let left = new_row(alloc, values, join.left)?;
-    let (left, right) = (left.as_ref(), response.right.as_ref());
-    Ok(value_of_row(join_rows(alloc, join.kind, join.set, left, right)?))
-}
-
-/// What a join on a foreign key stores after the step: by its left row where that changed, else by a response to it. Want of memory is
-/// the one error.
-pub fn foreign_value<'a, H: Hash128>(
-    alloc: Global,
-    number: u8,
-    join: &ForeignKeyJoin<'_>,
-    old: Option<StoredValue<'a>>,
-    values: &NodeValues<'_, '_>,
-    stamped: &StampedRecord<'_>,
-) -> Result<NewValue<'a>, AllocError>
-    ensures { IfOk result (λ v. value_view v ≡ foreign_stored (rules_of H.hash_of)
-        join.now.foreign_key.now (step_key (message_of stamped.now.payload)) join.now.kind
-        (set_of join.now.set.now) (olds_in values.now) (news_in values.now) join.now.left
-        (arrived (arrival_of stamped.now) (Responses number)) (stored_in old.entry)) }
-{
-    if is_changed(values, join.left) {
-        direct_value(alloc, join, stamped.key(), old, values)
-    } else {
-        responded_value::<H>(alloc, number, join, old, values, stamped)
-    }
-}
 
 // ---- what a changed row of a side sends
 
@@ -495,23 +369,20 @@ pub fn push_answer(
 
 // ---- what is kept of a subscription
 
-fn stored_subscriber(
-    alloc: Global,
+// The subscriber that is kept at a subscription's key.
+fn subscriber_at(
     changelogs: &[Changelog],
     node: &ProcessorNode<'_>,
-    foreign: &Key,
-    left: &Key,
-) -> Result<Option<Subscriber>, AllocError>
-    ensures { IfOk result (λ s. s ≡ subscriber_found (stores_in changelogs.now)
-        (node_view node.now) foreign.now left.now) }
+    key: &Blob,
+) -> Option<Subscriber>
+    ensures { result ≡ subscriber_under (stores_in changelogs.now) (node_view node.now) key.now }
 {
     if !node.topics.has_right {
-        return Ok(None);
+        return None;
     }
-    let key = write_subscription_key(alloc, foreign, left)?;
     match find_bytes(changelogs, node.topics.hash_changelog, key.as_slice()) {
-        Some(bytes) => Ok(read_subscriber(bytes)),
-        None => Ok(None),
+        Some(bytes) => read_subscriber(bytes),
+        None => None,
     }
 }
 
@@ -552,15 +423,13 @@ fn push_new_subscriber(
     out: &mut PlacedRecords,
     step: &Step<'_>,
     node: &ProcessorNode<'_>,
-    foreign: &Key,
-    left: &Key,
+    key: &Blob,
     subscriber: Option<Subscriber>,
 ) -> Result<(), AllocError>
     ensures { OnOk result (out.new ≡ out.old
-        ++ hash_told (node_view node.now) step.now.partition step.now.stamped.now.time
-        (KeptHash foreign.now left.now subscriber) ∷ []) }
+        ++ kept_told (node_view node.now) step.now.partition step.now.stamped.now.time key.now
+        subscriber ∷ []) }
 {
-    let key = write_subscription_key(alloc, foreign, left)?;
     let value = subscriber_value(alloc, subscriber)?;
     let to = PartId {
         topic: node.topics.hash_changelog,
@@ -583,12 +452,14 @@ fn push_other_subscriber(
         (Some (Asked foreign.now subscription.now.left (subscription_of subscription.now))))) }
 {
     let left = subscription.left();
-    let old = stored_subscriber(alloc, step.changelogs, node, foreign, left)?;
+    let key = write_subscription_key(alloc, foreign, left)?;
+    let old = subscriber_at(step.changelogs, node, &key);
     let new = kept_of(subscription);
     if is_same_subscriber(old, new) {
-        return Ok(());
+        Ok(())
+    } else {
+        push_new_subscriber(alloc, out, step, node, &key, new)
     }
-    push_new_subscriber(alloc, out, step, node, foreign, left, new)
 }
 
 /// The changelog record of what is kept of a subscription, where it is other than it was. Want of memory is the one error.

@@ -4,15 +4,9 @@
 
 mod counts;
 mod foreign;
-mod hashes;
-mod live;
 mod processing;
 mod sends;
-mod step;
+mod steps;
 mod streams;
-mod taken;
-mod values;
 
-pub use processing::process;
-pub use sends::part_for;
-pub use taken::Step;
+pub use steps::StepsBy;

@@ -7,20 +7,20 @@ ghost use Rattle.ks_def_tasks.specs.Rules.{rules_of};
 ghost use Rattle.ks_task_nodes.specs.Nodes.{node_view};
 ghost use Rattle.ks_task_nodes.specs.Reach.{NoItems, of_node, at_numbers};
 ghost use Rattle.ks_task_nodes.specs.Records.{arrival_of, message_of};
-ghost use Rattle.ks_task_nodes.specs.Stored.{views, changed_bytes};
-ghost use Rattle.ks_task_step.specs.Steps.{items_in, olds_in, news_in, olds_at, change_by, counts_at, at_part, recs_by, all_recs, late_of, late_by, late_at_numbers, late_in, made_with, made_at, made_of, IsQuiet};
+ghost use Rattle.ks_task_values.specs.Items.{views};
+ghost use Rattle.ks_task_values.specs.Changes.{changed_bytes};
+ghost use Rattle.ks_task_values.specs.Values.{items_in, olds_in, news_in, olds_at};
+ghost use Rattle.ks_task_processing.specs.Steps.{change_by, counts_at, at_part, recs_by, all_recs, late_of, late_by, late_at_numbers, late_in, made_with, made_at, made_of, IsQuiet};
 ghost use Rattle.ks_cache.specs.Changelogs.{stores_in};
 
 use crate::counts::{count_of, push_recs};
 use crate::foreign::push_subscriber;
 use crate::sends::{push_all_sends, push_told};
-use crate::step::{NodeValues, live_value, node_at};
 use crate::streams::passed_items;
-use crate::taken::Step;
-use crate::values::live_values;
 use ks_hash::Hash128;
-use ks_row::{Blob, PartId, PlacedRecords};
-use ks_task_nodes::{Item, ProcessorNode, changed_value};
+use ks_record::{Blob, PartId, PlacedRecords};
+use ks_task_nodes::ProcessorNode;
+use ks_task_values::{Item, NodeValues, Step, changed_value, live_value, live_values, node_at};
 use std::alloc::{AllocError, Global};
 
 // ---- what changelogs are told

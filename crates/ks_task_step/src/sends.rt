@@ -1,45 +1,27 @@
 //! What the nodes of a step send to repartition topics and between the sides of joins.
 ghost use Rattle.std.specs.Prelude.{◌≡◌, ◌≤◌, ◌++◌, ◌∷◌, [], IfOk, OnOk, Some, map, option_copied, slice_get};
 ghost use Rattle.std.specs.List.{flat_map};
-ghost use Rattle.ks_expr.specs.Keys.{spread_part};
 ghost use Rattle.ks_query.specs.Streams.{group_key};
 ghost use Rattle.ks_def_tasks.specs.Step.{row_in, regroup, regroup_rows, send_deltas};
 ghost use Rattle.ks_def_tasks.specs.Rules.{rules_of};
 ghost use Rattle.ks_task_nodes.specs.Nodes.{node_view};
 ghost use Rattle.ks_task_nodes.specs.Reach.{of_node, at_numbers};
 ghost use Rattle.ks_task_nodes.specs.Records.{arrival_of};
-ghost use Rattle.ks_task_nodes.specs.Stored.{item_view};
-ghost use Rattle.ks_task_step.specs.Steps.{items_in, olds_in, news_in, part_in, grouped_at, sent_by, sends_by, all_sends, IsQuiet};
+ghost use Rattle.ks_task_values.specs.Items.{item_view};
+ghost use Rattle.ks_task_values.specs.Values.{items_in, olds_in, news_in};
+ghost use Rattle.ks_task_processing.specs.Steps.{grouped_at, sent_by, sends_by, all_sends, IsQuiet};
 ghost use Rattle.ks_cache.specs.Changelogs.{stores_in};
 
 use crate::foreign::{push_answer, push_join};
-use crate::step::{NodeValues, change_at, is_changed, node_at};
-use crate::taken::Step;
 use ks_agg::table_parts;
-use ks_expr::spread_part;
-use ks_hash::{Hash128, murmur2};
-use ks_row::{Blob, Change, Key, Name, PartId, PlacedRecords, RecordRef, key_of_field};
-use ks_task_nodes::{Item, Processor, ProcessorNode, copy_key, item_at};
+use ks_hash::Hash128;
+use ks_record::{Blob, Key, Name, PartId, PlacedRecords, RecordRef};
+use ks_row::{Change, key_of_field};
+use ks_task_nodes::{Processor, ProcessorNode};
+use ks_task_processing::part_for;
+use ks_task_values::{Item, NodeValues, Step, change_at, copy_key, is_changed, item_at, node_at};
 use ks_wire::{Delta, write_delta};
 use std::alloc::{AllocError, Global};
-
-// The partition of a key, as `partition_of` of ks_hash gives it, for any number of partitions; 0 of none.
-fn part_of_bytes(key: &[u8], n: u8) -> u8
-    ensures { result ≡ part_in key.now n }
-{
-    if n == 0 {
-        0
-    } else {
-        ((murmur2(key) & 0x7fff_ffff) % n as u32) as u8
-    }
-}
-
-/// The partition of a key, of so many, by its front part before a text, where one is given, else by all of it; 0 of none. Takes no memory.
-pub fn part_for(before: Option<&Name>, key: &Key, partitions: u8) -> u8
-    ensures { result ≡ part_in (spread_part (option_copied before.entry) key.now) partitions }
-{
-    part_of_bytes(spread_part(before, key.as_str().as_bytes()), partitions)
-}
 
 /// One more record for a partition. Want of memory is the one error.
 pub fn push_send(

@@ -3,12 +3,11 @@ ghost use Rattle.std.specs.Prelude.{◌≡◌, [], IfOk, map, slice_get};
 ghost use Rattle.ks_def_lookups.specs.Lists.{item_in, all_items};
 ghost use Rattle.ks_task_nodes.specs.Nodes.{kind_of, kinds_in, node_view};
 ghost use Rattle.ks_task_nodes.specs.Records.{arrival_of};
-ghost use Rattle.ks_task_nodes.specs.Stored.{views};
+ghost use Rattle.ks_task_values.specs.Items.{views};
 ghost use Rattle.ks_task_step.specs.Streams.{is_stream, is_stream_at, has_live_stream};
 
-use crate::step::node_at;
-use crate::taken::Step;
-use ks_task_nodes::{Item, Processor, ProcessorNode, items_of};
+use ks_task_nodes::{Processor, ProcessorNode};
+use ks_task_values::{Item, Step, items_of, node_at};
 use std::alloc::{AllocError, Global};
 
 fn is_stream(processor: &Processor<'_>) -> bool

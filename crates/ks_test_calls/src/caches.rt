@@ -4,7 +4,7 @@ ghost use Rattle.std.specs.Prelude.{◌≤◌};
 use crate::replies::push_replies;
 use crate::stores::push_pairs;
 use ks_cache::{CachedStore, run_cached};
-use ks_row::Blob;
+use ks_record::Blob;
 use ks_store::{KvStore, OrderedStore, StoreCall};
 use std::alloc::{AllocError, Global};
 use std::test::Fail;

@@ -1,7 +1,8 @@
 //! What the calls share, and parts of what they are given.
 use crate::calls::{Changed, Form};
 use ks_expr::{Expr, Fk, Proj};
-use ks_row::{Change, Key, Name, Seq, decode};
+use ks_record::{Key, Name, Seq};
+use ks_row::{Change, decode};
 use std::alloc::{AllocError, Global};
 use std::process::Abort;
 

@@ -1,7 +1,8 @@
-//! Tests over the lower layers, of what no run of the program shows: hashes, the bytes of rows, the layout of topologies. The crate has
-//! nothing else.
+//! Tests of the calls of lower crates, of what no run of the program shows: stores and caches, the sides of joins, windows, assignments. The crate has nothing else.
 #![tactic(auto)]
 
+#[cfg(test)]
+mod assignments;
 #[cfg(test)]
 mod caches;
 #[cfg(test)]
@@ -9,18 +10,10 @@ mod calls;
 #[cfg(test)]
 mod given;
 #[cfg(test)]
-mod hashes;
-#[cfg(test)]
 mod joins;
 #[cfg(test)]
 mod replies;
 #[cfg(test)]
-mod rows;
-#[cfg(test)]
 mod stores;
 #[cfg(test)]
 mod tables;
-#[cfg(test)]
-mod topologies;
-#[cfg(test)]
-mod wires;

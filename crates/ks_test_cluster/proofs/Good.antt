@@ -1,6 +1,6 @@
 -- Any assignment is good at any time.
 use Rattle.std.proofs.Common.{◌≡◌, ℕ, true, List, [], refl, append-nil}
-use Rattle.ks_row.specs.declared.assignment.Assignment.{Assignment}
+use Rattle.ks_record.specs.declared.assignment.Assignment.{Assignment}
 use Rattle.ks_history.specs.declared.journal.Entry.{Entry}
 use Rattle.ks_history.specs.State.{Setup}
 use Rattle.ks_history.specs.History.{at}

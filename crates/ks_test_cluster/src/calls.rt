@@ -10,7 +10,7 @@ ghost use Rattle.ks_test_cluster.specs.Ours.{IsOurs};
 use crate::copying::{Copying, TASK};
 use crate::tables::OneRecord;
 use ks_cluster::Cluster;
-use ks_row::{Assignment, PartId, Rec, Refused, Seq, SharedRecords, TaskId};
+use ks_record::{Assignment, PartId, Rec, Refused, Seq, SharedRecords, TaskId};
 use std::alloc::{AllocError, Global};
 
 /// A call. All are of the only task and of partition 0 of the topic that is named.

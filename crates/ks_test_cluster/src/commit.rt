@@ -5,7 +5,7 @@ ghost use Rattle.ks_test_cluster.specs.Stages.{Stands};
 use crate::calls::active;
 use crate::copying::{Copying, TASK, new_cluster};
 use ks_cluster::Cluster;
-use ks_row::{PartId, Rec, SharedRecords};
+use ks_record::{PartId, Rec, SharedRecords};
 use std::alloc::{AllocError, Global};
 
 /// A new cluster with one record in partition 0 of topic 0.

@@ -3,7 +3,7 @@ ghost use Rattle.std.specs.Prelude.{◌≡◌, ◌∷◌, [], IfOk};
 ghost use Rattle.ks_test_cluster.specs.Ours.{IsOurs};
 
 use ks_cluster::{Cluster, Work};
-use ks_row::TaskId;
+use ks_record::TaskId;
 use std::alloc::{AllocError, Global};
 
 /// The only task.

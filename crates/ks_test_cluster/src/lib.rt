@@ -8,8 +8,6 @@ mod calls;
 mod commit;
 pub mod copying;
 #[cfg(test)]
-mod parts;
-#[cfg(test)]
 mod report;
 #[cfg(test)]
 mod tables;

@@ -12,7 +12,7 @@ use crate::tables::{OneRecord, record};
 use ks_cluster::Cluster;
 use ks_hash::Murmur3;
 use ks_plan::{Draft, NodeDraft, Op, TopicDraft};
-use ks_row::{Blob, Name, Seq};
+use ks_record::{Blob, Name, Seq};
 use ks_settle_report::report;
 use ks_topo::Topology;
 use std::alloc::{AllocError, Global};

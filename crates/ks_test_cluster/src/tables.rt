@@ -9,7 +9,7 @@ use crate::copying::{Copying, new_cluster};
 use ks_cluster::Cluster;
 use ks_history::Reply;
 use ks_journal::push_journal;
-use ks_row::{Rec, RecordList, RecordRef, SharedRecords};
+use ks_record::{Rec, RecordList, RecordRef, SharedRecords};
 use std::alloc::{AllocError, Global};
 use std::process::Abort;
 use std::test::Fail;

@@ -2,7 +2,7 @@
 ghost use Rattle.std.specs.Prelude.{◌<◌};
 
 use ks_assign::{Assignment, Client, Held, Wants};
-use ks_row::{Seq, TaskId};
+use ks_record::{Seq, TaskId};
 use rand_core::SeedableRng;
 use rand_core::utils::NextWord;
 use rand_pcg::Lcg64Xsh32;

@@ -1,7 +1,7 @@
 //! Groups and places as text: a line for a group, a line for an assignment.
 use crate::drawing::Setting;
 use ks_assign::Client;
-use ks_row::TaskId;
+use ks_record::TaskId;
 use std::io;
 
 // `I:W,W,`

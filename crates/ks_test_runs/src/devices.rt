@@ -4,8 +4,6 @@ use crate::runs::{Piece, expect_piece};
 use crate::workers::{ORDER, SHOWN};
 use std::test::Fail;
 
-const NONE_JOINED: &str = "settled\ntable e 0\n";
-
 /// What the front of the job is answered, and its status: a line that is cut off is no JSON, and what ends with a line is a job.
 fn answer_to(front: &[u8], job: &[u8]) -> (u8, &'static str) {
     let mut line: u32 = 1;
@@ -20,7 +18,7 @@ fn answer_to(front: &[u8], job: &[u8]) -> (u8, &'static str) {
     match (front.is_empty(), is_whole, line) {
         (true, _, _) => (2, "bad job line 1: 25 NoTopology\n"),
         (_, true, 3) if begun => (0, SHOWN),
-        (_, true, _) => (0, NONE_JOINED),
+        (_, true, _) => (0, "settled\ntable e 0\n"),
         (_, _, 1) => (2, "bad job line 1: 20 NotJson\n"),
         (_, _, 2) => (2, "bad job line 2: 20 NotJson\n"),
         (_, _, _) => (2, "bad job line 3: 20 NotJson\n"),

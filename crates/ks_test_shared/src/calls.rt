@@ -7,7 +7,7 @@ ghost use Rattle.ks_shared.specs.Shelf.{IsReplicaOf};
 ghost use Rattle.ks_test_shared.specs.Ours.{IsOurs};
 
 use ks_growing::Pass;
-use ks_row::{PartId, Rec, RecordList, RecordRef, SharedRecords};
+use ks_record::{PartId, Rec, RecordList, RecordRef, SharedRecords};
 use ks_shared::{Barred, Shared, SharedState};
 use ks_standby::Replica;
 use ks_test_cluster::copying::{Copying, TASK};

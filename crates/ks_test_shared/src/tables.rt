@@ -3,7 +3,7 @@ ghost use Rattle.std.specs.Prelude.{◌≡◌};
 ghost use Rattle.ks_test_shared.specs.Ours.{IsOurs};
 
 use crate::calls::{abort, add, append, feed, init, mark, park, unpark};
-use crate::passes::{Locked, close, new_locked};
+use crate::passes::{close, new_locked};
 use ks_growing::Pass;
 use ks_shared::{Barred, Shared, SharedState};
 use ks_test_cluster::copying::Copying;

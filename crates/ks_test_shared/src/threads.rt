@@ -5,7 +5,7 @@ ghost use Rattle.ks_test_shared.specs.Ours.{IsOurs};
 use crate::calls::{fetch, init, produce};
 use crate::passes::{Locked, close, new_locked};
 use ks_growing::Pass;
-use ks_row::{Rec, RecordRef};
+use ks_record::{Rec, RecordRef};
 use ks_shared::{Shared, SharedState};
 use ks_test_cluster::copying::Copying;
 use std::alloc::{AllocError, Global};

@@ -15,7 +15,7 @@ use Rattle.ks_job.specs.Items.{ItemView}
 use Rattle.ks_law_inputs.specs.Records.{AreRecords}
 use Rattle.ks_assign_group.specs.Groups.{good_by}
 use Rattle.ks_topo.specs.Places.{HasPlaces}
-use Rattle.ks_run_workers.specs.Placing.{counts_in}
+use Rattle.ks_run_feed.specs.Placing.{counts_in}
 use Rattle.ks_worker.specs.Beginning.{MayRun}
 use Rattle.ks_test_workers.specs.declared.actors.Actor.{Actor}
 

@@ -8,8 +8,8 @@ use ks_assign::Placing;
 use ks_cluster::Work;
 use ks_edge::{Act, Gate};
 use ks_growing::Pass;
-use ks_hash::Hash128;
 use ks_shared::{Shared, SharedState};
+use ks_task_processing::Processing;
 use ks_topo::Topology;
 use ks_worker::Worker;
 use std::alloc::{AllocError, Global};
@@ -49,7 +49,7 @@ pub fn new_actor<W: Work, G: Gate>(
 
 impl<W: Work, G: Gate> Actor<W, G> {
     /// Takes one turn, whose act its gate says; nothing where none is left.
-    pub fn take_turn<H: Hash128, R: Wait>(
+    pub fn take_turn<H: Processing, R: Wait>(
         &mut self,
         rt: &R,
         alloc: Global,
@@ -75,7 +75,7 @@ impl<W: Work, G: Gate> Actor<W, G> {
     }
 
     /// Does this act, outside of a turn; nothing where none is left.
-    pub fn perform<H: Hash128, R: Wait>(
+    pub fn perform<H: Processing, R: Wait>(
         &mut self,
         rt: &R,
         alloc: Global,

@@ -13,10 +13,10 @@ use crate::telling::{lent, told};
 use ks_cluster::{Cluster, Work};
 use ks_edge::{Act, Gate, ScriptGate};
 use ks_growing::Pass;
-use ks_hash::Hash128;
 use ks_job::JobItem;
-use ks_run_workers::{produce_all, split_first};
+use ks_run_feed::{produce_all, split_first};
 use ks_shared::{Shared, SharedState};
+use ks_task_processing::Processing;
 use ks_topo::Topology;
 use std::alloc::{AllocError, Global};
 use std::process::Abort;
@@ -105,7 +105,7 @@ fn enlist<W: Work>(
 }
 
 // A worker does what a move says.
-fn make_move<H: Hash128, R: Wait, W: Work, G: Gate>(
+fn make_move<H: Processing, R: Wait, W: Work, G: Gate>(
     rt: &R,
     alloc: Global,
     topology: &Topology,
@@ -134,7 +134,7 @@ fn make_move<H: Hash128, R: Wait, W: Work, G: Gate>(
 }
 
 // One of two workers does what a move says.
-fn move_one_of<H: Hash128, R: Wait, W: Work, G: Gate>(
+fn move_one_of<H: Processing, R: Wait, W: Work, G: Gate>(
     rt: &R,
     alloc: Global,
     topology: &Topology,
@@ -171,7 +171,7 @@ fn move_one_of<H: Hash128, R: Wait, W: Work, G: Gate>(
 }
 
 // The workers do all that a scene says.
-fn play_moves<H: Hash128, R: Wait + Abort, W: Work, G: Gate>(
+fn play_moves<H: Processing, R: Wait + Abort, W: Work, G: Gate>(
     rt: &R,
     alloc: Global,
     topology: &Topology,
@@ -223,7 +223,7 @@ fn close<W: Work, G: Gate>(
 }
 
 /// Puts a cluster under a lock, and these records into it; the workers of the scene do what it says, and the cluster comes back.
-pub fn play<H: Hash128, R: Wait + Abort, W: Work>(
+pub fn play<H: Processing, R: Wait + Abort, W: Work>(
     rt: &R,
     alloc: Global,
     topology: &Topology,

@@ -19,14 +19,14 @@ use crate::jobs::{Job, read_text};
 use crate::scenes::Scene;
 use crate::telling::lines;
 use ks_cluster::{Cluster, Work};
-use ks_hash::Hash128;
 use ks_history::{Entry, Reply, Request};
 use ks_job::JobItem;
+use ks_run_feed::counts_of;
 use ks_run_output::print_settled;
-use ks_run_workers::counts_of;
 use ks_settle::drain;
 use ks_settle_tables::tables;
 use ks_task::{TaskWork, everything_is_good};
+use ks_task_processing::Processing;
 use ks_topo::{Topology, share_topology};
 use std::alloc::{AllocError, Global};
 use std::process::Abort;
@@ -61,7 +61,7 @@ fn count_appends(entries: &[Entry]) -> usize {
 }
 
 // Drains a cluster: how many lists of records that appends, and its tables.
-fn drain_all<H: Hash128 + Sync, R: Threads + Wait + Sync, W: Work + Sync>(
+fn drain_all<H: Processing + Sync, R: Threads + Wait + Sync, W: Work + Sync>(
     rt: &R,
     alloc: Global,
     topology: &Topology,
@@ -82,7 +82,7 @@ fn drain_all<H: Hash128 + Sync, R: Threads + Wait + Sync, W: Work + Sync>(
 }
 
 // What a cluster came to after its workers ended.
-fn end_play<H: Hash128 + Sync, R: Threads + Wait + Sync, W: Work + Sync>(
+fn end_play<H: Processing + Sync, R: Threads + Wait + Sync, W: Work + Sync>(
     rt: &R,
     alloc: Global,
     topology: &Topology,
@@ -106,7 +106,7 @@ fn end_play<H: Hash128 + Sync, R: Threads + Wait + Sync, W: Work + Sync>(
 }
 
 // The run of a scene over a job's tasks.
-fn play_tasks<H: Hash128 + Sync, R: Threads + Wait + Sync + Abort, W: Work + Sync>(
+fn play_tasks<H: Processing + Sync, R: Threads + Wait + Sync + Abort, W: Work + Sync>(
     rt: &R,
     alloc: Global,
     topology: &Topology,
@@ -131,7 +131,7 @@ fn play_tasks<H: Hash128 + Sync, R: Threads + Wait + Sync + Abort, W: Work + Syn
 }
 
 // The run of a scene over a job that was read; none where its topology has a fault.
-fn play_read<H: Hash128 + Sync + Send, R: Threads + Wait + Sync + Abort>(
+fn play_read<H: Processing + Sync + Send, R: Threads + Wait + Sync + Abort>(
     rt: &R,
     alloc: Global,
     job: Job,
@@ -151,7 +151,7 @@ fn play_read<H: Hash128 + Sync + Send, R: Threads + Wait + Sync + Abort>(
 }
 
 /// The run of a scene over a job; none where the text is no job, its topology has a fault, or the workers have no thread.
-pub fn play_job<H: Hash128 + Sync + Send, R: Threads + Wait + Sync + Abort>(
+pub fn play_job<H: Processing + Sync + Send, R: Threads + Wait + Sync + Abort>(
     rt: &R,
     alloc: Global,
     job: &str,

@@ -4,6 +4,7 @@ use crate::scenes::{Does, Move, Scene, Who};
 use ks_assign::{Placing, Wants};
 use ks_edge::Act;
 use ks_hash::Murmur3;
+use ks_task_step::StepsBy;
 use std::alloc::Global;
 use std::process::Abort;
 use std::sync::Wait;
@@ -541,7 +542,7 @@ pub fn play_order<R: Threads + Wait + Sync + Abort>(
     alloc: Global,
     scene: &Scene,
 ) -> Result<Played, Fail> {
-    match play_job::<Murmur3, R>(rt, alloc, ORDER, scene)? {
+    match play_job::<StepsBy<Murmur3>, R>(rt, alloc, ORDER, scene)? {
         Some(played) => {
             assert_eq!(rt; played.text.as_slice(), SHOWN.as_bytes());
             Ok(played)

@@ -6,11 +6,11 @@ use denote.Struct.Tuple.{Tuple}
 use Rattle.std.specs.Prelude.{[], ◌∷◌}
 use Rattle.std.proofs.Crossing.{crosses}
 use Rattle.std.proofs.MapsCrossing.{crosses as map_crosses}
-use Rattle.ks_row.proofs.lists.Blob.TheSendSync.{the_sync as blob_sync}
-use Rattle.ks_row.proofs.texts.Name.TheSendSync.{the_sync as name_sync}
-use Rattle.ks_row.specs.contracts.lists.Seq as Seq
-use Rattle.ks_row.specs.contracts.lists.Seq.TheInside as Inside
-use Rattle.ks_row.specs.contracts.texts.Name as Name
+use Rattle.ks_record.proofs.lists.Blob.TheSendSync.{the_sync as blob_sync}
+use Rattle.ks_record.proofs.texts.Name.TheSendSync.{the_sync as name_sync}
+use Rattle.ks_record.specs.contracts.lists.Seq as Seq
+use Rattle.ks_record.specs.contracts.lists.Seq.TheInside as Inside
+use Rattle.ks_record.specs.contracts.texts.Name as Name
 use Rattle.ks_topo.specs.contracts.built.Topology as Topology
 use Rattle.ks_plan.specs.contracts.draft.TopicDraft as TopicDraft
 use Rattle.ks_plan.specs.contracts.node.Node as Node

@@ -14,9 +14,9 @@ use Rattle.ks_topo.specs.Earlier.{fault_at, IsNode}
 use Rattle.ks_plan.specs.Plan.{Known, Kind, wiring_of, learn, known_from, plan_of}
 use Rattle.ks_plan.specs.Layout.{wired_parts, node_parts, with_origin, node_origins}
 use Rattle.ks_plan.specs.Faults.{node_lines, nodes_fault, parts_before, origins_before, first_of}
-use Rattle.ks_plan.specs.Resolve.{resolved, resolved_from, resolved_op}
+use Rattle.ks_topo_layout.specs.Resolve.{resolved, resolved_from, resolved_op}
 use Rattle.ks_topo.specs.Finds.{Stops, Finds}
-use Rattle.ks_plan.specs.declared.resolve.Resolved.{Resolved}
+use Rattle.ks_topo_layout.specs.declared.resolve.Resolved.{Resolved}
 
 pub fold_push : {A B : Type 0} (f : A → B → A) (a : A) (xs : List B) (x : B) → fold f a (xs ++ x ∷ []) ≡ f (fold f a xs) x
 fold_push f a [] x = refl

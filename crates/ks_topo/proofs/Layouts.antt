@@ -5,10 +5,10 @@ use Rattle.ks_plan.specs.declared.node.Topic.{Topic}
 use Rattle.ks_plan.specs.declared.node.Topic.TheVariants.{Input, Repartition, Subscriptions, Responses, Changelog, HashChangelog}
 use Rattle.ks_plan.specs.declared.node.Wiring.{Wiring}
 use Rattle.ks_plan.specs.declared.node.Wiring.TheVariants as wired
-use Rattle.ks_plan.specs.declared.shape.Shape.{Shape}
+use Rattle.ks_topo_layout.specs.declared.shape.Shape.{Shape}
 use Rattle.ks_plan.specs.Plan.{Plan, Kind, wiring_of}
 use Rattle.ks_plan.specs.Layout.{at, origin_at, with_origin, node_origins, stated_for, before_of, before_of_topic, up_to, firsts, first_in, wired_label, wired_parts, wired_right, wired_reads, wired_through, wired_changelogs, labels, node_parts, parts_of, sub_of, sub_count, kind_at, no_kind, right_of, through_topics, changelogs_of, by_node, input_topics, topics_of, parts_of_topic, any_source_of, is_read, first_source_of, source_of, reads, is_drained, drain_order, subs, tasks_in, tasks}
-use Rattle.ks_plan.specs.Wired.{wired_labels, wired_counts, wired_origins, topic_origin, any_wired, first_wired, right_in, flowing, kept, topic_parts, sub_at, subs_in, topic_reader, flows, read_in, subs_of, tasks_to, tasks_of_sub, all_tasks, numbers_in, numbers_read}
+use Rattle.ks_topo_layout.specs.Wired.{wired_labels, wired_counts, wired_origins, topic_origin, any_wired, first_wired, right_in, flowing, kept, topic_parts, sub_at, subs_in, topic_reader, flows, read_in, subs_of, tasks_to, tasks_of_sub, all_tasks, numbers_in, numbers_read}
 use Rattle.ks_plan.specs.Infos.{input_numbers, changelog_numbers}
 use Rattle.ks_topo.specs.Built.{IsShapeOf}
 

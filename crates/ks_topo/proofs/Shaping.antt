@@ -10,18 +10,18 @@ use Rattle.ks_plan.specs.declared.node.Wiring.TheVariants as wired
 use Rattle.ks_plan.specs.declared.draft.NodeDraft.{NodeDraft}
 use Rattle.ks_plan.specs.declared.draft.Draft.{Draft}
 use Rattle.ks_plan.specs.declared.node.Node.{Node}
-use Rattle.ks_plan.proofs.Resolving.{known_names_from}
-use Rattle.ks_plan.specs.declared.resolve.Resolved.{Resolved}
-use Rattle.ks_plan.specs.declared.shape.Shape.{Shape}
+use Rattle.ks_topo_layout.proofs.Resolving.{known_names_from}
+use Rattle.ks_topo_layout.specs.declared.resolve.Resolved.{Resolved}
+use Rattle.ks_topo_layout.specs.declared.shape.Shape.{Shape}
 use Rattle.ks_plan.specs.Drafts.{Name, Topics, NodeView, DraftView, node_view, nodes_view, draft_view}
 use Rattle.ks_plan.specs.Plan.{Known, wiring_of, gives_stream, known_from, plan_of}
 use Rattle.ks_plan.specs.Layout.{at, sub_of, number_of, kind_at, up_to, wired_through, wired_changelogs, topics_of, drain_order, by_node}
-use Rattle.ks_plan.specs.Resolve.{resolved, resolved_from}
-use Rattle.ks_plan.specs.Wired.{wired_labels, wired_counts, wired_origins, flowing, kept, flows, wired_topics, wired_drained, numbers_read, numbers_in, all_tasks}
+use Rattle.ks_topo_layout.specs.Resolve.{resolved, resolved_from}
+use Rattle.ks_topo_layout.specs.Wired.{wired_labels, wired_counts, wired_origins, flowing, kept, flows, wired_topics, wired_drained, numbers_read, numbers_in, all_tasks}
 use Rattle.ks_topo.specs.Built.{IsShapeOf, IsBuilt, wired_topic_info, wired_place, kept_draft}
 use Rattle.ks_plan.specs.Infos.{NodePlace, node_place, built_view, places_from, place_in, store_of, topic_name, role_of, info_of}
 use Rattle.ks_plan.specs.Faults.{fault_of}
-use Rattle.ks_row.specs.declared.record.TaskId.{TaskId}
+use Rattle.ks_record.specs.declared.record.TaskId.{TaskId}
 use Rattle.ks_plan.specs.declared.node.TopicInfo.{TopicInfo}
 use Rattle.ks_topo.proofs.Layouts.{length_over, few_each, map_same, same_flowing, same_kept, same_drained, same_topic_parts, same_topic_before, same_wiring, same_sub, same_part, same_tasks, same_inputs, same_changelogs}
 

@@ -2,20 +2,20 @@
 use Rattle.std.specs.Prelude.{◌≡◌, ℕ, suc, List, [], ◌∷◌, map, get_or, Option, Some, None, cond, if◌then◌else◌}
 use Rattle.std.specs.Ordering.{nat_cmp, is_lt}
 use Rattle.std.specs.Cmp.Lexicographic.{slice_cmp}
-use Rattle.ks_row.specs.declared.record.TaskId.{TaskId}
+use Rattle.ks_record.specs.declared.record.TaskId.{TaskId}
 use Rattle.ks_plan.specs.declared.node.Topic.{Topic}
 use Rattle.ks_plan.specs.declared.node.Topic.TheVariants.{Changelog}
 use Rattle.ks_plan.specs.declared.node.TopicInfo.{TopicInfo}
 use Rattle.ks_plan.specs.declared.node.Node.{Node}
 use Rattle.ks_plan.specs.declared.node.Wiring.TheVariants.{StreamSource}
-use Rattle.ks_plan.specs.declared.shape.Shape.{Shape}
+use Rattle.ks_topo_layout.specs.declared.shape.Shape.{Shape}
 use Rattle.ks_plan.specs.declared.draft.TopicDraft.{TopicDraft}
 use Rattle.ks_plan.specs.Drafts.{Name, Topics, DraftView}
 use Rattle.ks_plan.specs.Plan.{Plan, wiring_of, gives_stream, natural, plan_of}
 use Rattle.ks_plan.specs.Layout.{at, place_of, tasks, topics_of, stated_for}
 use Rattle.ks_plan.specs.Infos.{NodePlace, built_view, node_places, topic_infos, topic_name, role_of, inputs_by_sub, changelogs_by_sub, drain_numbers}
 use Rattle.ks_plan.specs.Faults.{fault_of}
-use Rattle.ks_plan.specs.Wired.{wired_labels, wired_counts, wired_origins, sub_at, topic_parts, topic_origin}
+use Rattle.ks_topo_layout.specs.Wired.{wired_labels, wired_counts, wired_origins, sub_at, topic_parts, topic_origin}
 
 -- ---- of the partition counts and wirings of a plan
 pub record IsShapeOf (s : Shape) (p : Plan) : Type 0 where

@@ -3,12 +3,12 @@ use Rattle.std.specs.Prelude.{◌≡◌, ◌≤◌, ℕ, List, [], ◌∷◌, le
 use Rattle.ks_plan.specs.declared.draft.Draft.{Draft}
 use Rattle.ks_plan.specs.declared.draft.NodeDraft.{NodeDraft}
 use Rattle.ks_plan.specs.declared.fault.TopoFault.{TopoFault}
-use Rattle.ks_plan.specs.declared.resolve.Resolved.{Resolved}
+use Rattle.ks_topo_layout.specs.declared.resolve.Resolved.{Resolved}
 use Rattle.ks_topo.specs.declared.check.Earlier.{Earlier}
 use Rattle.ks_plan.specs.Drafts.{Topics, nodes_view, node_view, op_view}
 use Rattle.ks_plan.specs.Faults.{first_of, node_lines}
 use Rattle.ks_plan.specs.Plan.{Known, known_from, with_topic}
-use Rattle.ks_plan.specs.Resolve.{resolved_from, resolved_op}
+use Rattle.ks_topo_layout.specs.Resolve.{resolved_from, resolved_op}
 
 abbrev pub known_of : Earlier → List Known
 known_of e = known_from e.topics.now (nodes_view e.nodes.now)

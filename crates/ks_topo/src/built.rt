@@ -4,7 +4,7 @@ ghost use Rattle.ks_plan.specs.Infos.{node_place};
 ghost use Rattle.ks_topo.specs.Built.{IsBuilt, kept_draft};
 
 use ks_plan::{Node, Topic, TopicDraft, TopicInfo};
-use ks_row::{Blob, Name, Seq, TaskId};
+use ks_record::{Blob, Name, Seq, TaskId};
 
 /// A well-formed draft with its subtopologies, topics and tasks.
 #[derive(Drop)]

@@ -9,15 +9,15 @@ ghost use Rattle.ks_plan.specs.Faults.{same_before, are_apart, first_fitting, fi
 ghost use Rattle.ks_topo.specs.Finds.{Finds};
 ghost use Rattle.ks_topo.specs.Earlier.{IsEarlier, known_of};
 ghost use Rattle.ks_plan.specs.Infos.{internal_names};
-ghost use Rattle.ks_plan.specs.Resolve.{resolved_op};
+ghost use Rattle.ks_topo_layout.specs.Resolve.{resolved_op};
 
 use crate::stop::Refusal;
-use ks_plan::{
-    NodeDraft, Op, Resolved, TopicDraft, TopoFault, Wiring, find_input, gives_stream,
-    internal_name, is_node, is_source, is_topic, number_at, origin_at, push_changelogs,
-    push_through, resolve_op,
+use ks_plan::{NodeDraft, Op, TopicDraft, TopoFault, Wiring};
+use ks_record::{Blob, Name, equal_bytes};
+use ks_topo_layout::{
+    Resolved, find_input, gives_stream, internal_name, is_node, is_source, is_topic, number_at,
+    origin_at, push_changelogs, push_through, resolve_op,
 };
-use ks_row::{Blob, Name, equal_bytes};
 use std::alloc::{AllocError, Global};
 
 fn blob_of(alloc: Global, bytes: &[u8]) -> Result<Blob, AllocError>

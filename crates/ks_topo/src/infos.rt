@@ -8,11 +8,12 @@ ghost use Rattle.ks_plan.specs.Infos.{name_in, topic_name as name_of_topic, role
 ghost use Rattle.ks_topo.specs.Built.{topic_place, naturals, wired_topic_info, wired_place, wired_store};
 
 use crate::check::stated_text;
-use ks_plan::{
-    Draft, Node, NodeDraft, Role, Shape, Topic, TopicDraft, TopicInfo, Wiring, gives_stream,
-    internal_name, is_before, number_at, number_of, origin_of_topic, parts_of_topic, sub_of,
+use ks_plan::{Draft, Node, NodeDraft, Role, Topic, TopicDraft, TopicInfo, Wiring};
+use ks_record::{Blob, Name};
+use ks_topo_layout::{
+    Shape, gives_stream, internal_name, is_before, number_at, number_of, origin_of_topic,
+    parts_of_topic, sub_of,
 };
-use ks_row::{Blob, Name};
 use std::alloc::{AllocError, Global};
 
 // The place of a name among sorted topics.

@@ -5,15 +5,13 @@ ghost use Rattle.ks_plan.specs.Plan.{plan_of, with_topic};
 ghost use Rattle.ks_plan.specs.Faults.{first_fitting, size_lines, any_past, nodes_fault, printed_fault, print_lines, parts_fault};
 ghost use Rattle.ks_topo.specs.Finds.{Finds};
 ghost use Rattle.ks_topo.specs.Earlier.{IsEarlier, fault_at, IsNode};
-ghost use Rattle.ks_plan.specs.Resolve.{resolved_from};
+ghost use Rattle.ks_topo_layout.specs.Resolve.{resolved_from};
 
 use crate::check::{Earlier, check_node, duplicate, too_many, unknown, wiring_of, wrong_kind};
 use crate::stop::Refusal;
-use ks_plan::{
-    Draft, NodeDraft, Resolved, TopicDraft, gives_stream, is_listed, is_node, push_origin,
-    push_parts,
-};
-use ks_row::{Blob, Name};
+use ks_plan::{Draft, NodeDraft, TopicDraft};
+use ks_record::{Blob, Name};
+use ks_topo_layout::{Resolved, gives_stream, is_listed, is_node, push_origin, push_parts};
 use std::alloc::Global;
 
 fn is_any_past(topics: &[(Name, TopicDraft)]) -> bool

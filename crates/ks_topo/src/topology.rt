@@ -10,9 +10,9 @@ ghost use Rattle.ks_topo.specs.Places.{spread_in, HasPlaces};
 ghost use Rattle.ks_plan.specs.Infos.{topic_infos as shown_topics, node_places, node_place, built_view, inputs_by_sub, changelogs_by_sub, drain_numbers};
 ghost use Rattle.ks_plan.specs.Faults.{fault_of};
 ghost use Rattle.ks_topo.specs.Finds.{Finds};
-ghost use Rattle.ks_plan.specs.Resolve.{resolved_from};
+ghost use Rattle.ks_topo_layout.specs.Resolve.{resolved_from};
 ghost use Rattle.ks_topo.specs.Built.{IsShapeOf, wired_topic_info};
-ghost use Rattle.ks_plan.specs.Wired.{kept, wired_topics, wired_drained, numbers_read, numbers_in, all_tasks as wired_tasks};
+ghost use Rattle.ks_topo_layout.specs.Wired.{kept, wired_topics, wired_drained, numbers_read, numbers_in, all_tasks as wired_tasks};
 ghost use Rattle.ks_topo.specs.Topologies.{draft_of, plan_in, Builds, BuildsOr};
 
 use crate::built::Topology;
@@ -21,12 +21,12 @@ use crate::judge::{judge_parts, judge_sizes};
 use crate::stop::Refusal;
 use ks_expr::spread_part;
 use ks_hash::partition_of;
-use ks_plan::{
-    Draft, Node, Resolved, Shape, Topic, TopicDraft, TopicInfo, TopoFault, Wiring,
-    changelog_topics, drained_topics, drained_topics_by_node, numbers_by_sub, numbers_of, shape_of,
-    tasks_of,
+use ks_plan::{Draft, Node, Topic, TopicDraft, TopicInfo, TopoFault, Wiring};
+use ks_record::{Blob, Name, Seq, TaskId};
+use ks_topo_layout::{
+    Resolved, Shape, changelog_topics, drained_topics, drained_topics_by_node, numbers_by_sub,
+    numbers_of, shape_of, tasks_of,
 };
-use ks_row::{Blob, Name, Seq, TaskId};
 use std::alloc::{AllocError, Global};
 
 fn wirings_of(alloc: Global, known: &[Resolved]) -> Result<Vec<Wiring>, AllocError>

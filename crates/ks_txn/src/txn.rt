@@ -5,7 +5,7 @@ ghost use Rattle.ks_history.specs.Step.{tx_of, is_undecided, markers_waiting, cl
 ghost use Rattle.ks_txn.specs.Outcomes.{start_fault, has_fault, decide_fault, started, added, first_marker};
 
 use ks_history::{Producer, Transaction};
-use ks_row::{Marker, PartId, Refused, Seq};
+use ks_record::{Marker, PartId, Refused, Seq};
 use std::alloc::{AllocError, Global};
 use std::marker::Model;
 

@@ -6,7 +6,7 @@ ghost use Rattle.ks_txn.specs.Outcomes.{producer_at, done_by, changed_by, start_
 
 use crate::txn::Txn;
 use ks_history::Producer;
-use ks_row::{Marker, PartId, Refused};
+use ks_record::{Marker, PartId, Refused};
 use std::alloc::{AllocError, Global};
 use std::marker::Model;
 

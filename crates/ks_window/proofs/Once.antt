@@ -5,7 +5,7 @@ use Rattle.std.specs.Ordering.{eq_by_cmp}
 use Rattle.std.specs.Cmp.Lexicographic.{nat_list_cmp_total}
 use Rattle.std.specs.FinMap.{slice_cmp-IsAntisymmetric, nat_cmp-IsAntisymmetric}
 use Rattle.std.proofs.Math.Nat.{div-mul-le_self, mul-le-mul_right}
-use Rattle.ks_row.specs.Texts.{IsKey}
+use Rattle.ks_record.specs.Texts.{IsKey}
 use Rattle.ks_row.specs.Reading.{◌>>=◌}
 use Rattle.ks_def_runs.specs.FinMap as fin
 use Rattle.ks_def_runs.specs.Bytes.{Store, by_bytes}
@@ -21,7 +21,7 @@ use Rattle.ks_query.specs.Aggregates.{stream_add}
 use Rattle.ks_def_tasks.specs.Messages.{same_option}
 use Rattle.ks_def_tasks.specs.Windowed.{greater}
 use Rattle.ks_def_tasks.specs.Laws.{AllBelow}
-use Rattle.ks_row.specs.Records.{Record as Rec}
+use Rattle.ks_record.specs.Records.{Record as Rec}
 use Rattle.ks_def_lookups.specs.Windows.{CountedBytes, time_in, count_in, kept_rec, next_rec, time_rec, keep, count_start, counted}
 
 -- ---- what an item makes of a store that is read and not written

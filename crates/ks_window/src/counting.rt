@@ -1,5 +1,5 @@
 //! What an item changes in the store of a windowed count.
-ghost use Rattle.std.specs.Prelude.{◌≡◌, ◌≤◌, ◌++◌, ◌∷◌, [], Some, None, IfOk, OnOk, option_map, nat_eq};
+ghost use Rattle.std.specs.Prelude.{◌≡◌, ◌≤◌, ◌++◌, ◌∷◌, [], Some, None, IfOk, OnOk, nat_eq};
 ghost use Rattle.ks_def_runs.specs.FinMap as fin;
 ghost use Rattle.ks_wire.specs.Spelling.{window_key, time_key, time_bytes};
 ghost use Rattle.ks_query.specs.Grace.{is_open};
@@ -7,21 +7,14 @@ ghost use Rattle.ks_query.specs.Aggregates.{stream_add};
 ghost use Rattle.ks_def_tasks.specs.Messages.{same_option};
 ghost use Rattle.ks_def_tasks.specs.Windowed.{greater};
 ghost use Rattle.ks_def_lookups.specs.Windows.{time_in, next_bytes, kept_rec, next_rec, with_next, counted};
-ghost use Rattle.ks_window.specs.Shape.{shape};
+ghost use Rattle.ks_plan.specs.Shape.{shape};
 
 use crate::windows::starts;
-use ks_row::{Blob, Key, RecordList, RecordRef};
+use ks_plan::Window;
+use ks_record::{Blob, Key, RecordList, RecordRef};
 use ks_store::KvStore;
 use ks_wire::{Agg, read_agg, read_time, write_agg, write_window_key};
 use std::alloc::{AllocError, Global};
-
-/// Windows of a size, one at each multiple of the advance, that take items until the grace period is over. All in milliseconds.
-#[derive(Clone, Copy, PartialEq, Eq, Debug)]
-pub struct Window {
-    pub size: u64,
-    pub advance: u64,
-    pub grace: u64,
-}
 
 // Where the store keeps the greatest timestamp.
 pub(crate) const TIME_KEY: [u8; 1] = [0x54];

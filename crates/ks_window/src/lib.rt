@@ -6,6 +6,7 @@ mod counting;
 mod reading;
 mod windows;
 
-pub use counting::{Window, apply};
+pub use counting::apply;
+pub use ks_plan::Window;
 pub use reading::count;
 pub use windows::{first_start, starts};

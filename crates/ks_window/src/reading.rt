@@ -2,13 +2,12 @@
 ghost use Rattle.std.specs.Prelude.{◌≡◌, ◌≤◌, ◌++◌, ◌∷◌, [], IfOk, OnOk};
 ghost use Rattle.ks_wire.specs.Spelling.{window_key};
 ghost use Rattle.ks_def_lookups.specs.Windows.{time_rec, next_rec, counted};
-ghost use Rattle.ks_window.specs.Shape.{shape};
+ghost use Rattle.ks_plan.specs.Shape.{shape};
 
-use crate::counting::{
-    TIME_KEY, Window, is_kept, is_taken, later_of, next_count, push_rec, time_of,
-};
+use crate::counting::{TIME_KEY, is_kept, is_taken, later_of, next_count, push_rec, time_of};
 use crate::windows::starts;
-use ks_row::{Key, RecordList};
+use ks_plan::Window;
+use ks_record::{Key, RecordList};
 use ks_store::KvStore;
 use ks_wire::write_window_key;
 use std::alloc::{AllocError, Global};

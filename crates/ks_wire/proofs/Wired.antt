@@ -5,9 +5,10 @@ use Rattle.std.specs.Int.{w32, w64, w128, to_be_bytes}
 use Rattle.std.proofs.lemmas.Bool.{eqb-true, leb-true, le-leb}
 use Rattle.std.proofs.lemmas.List.{append-nil, nil_from_length}
 use Rattle.std.proofs.lemmas.Nat.{mod_below}
-use Rattle.ks_row.specs.Texts.{IsKey, key_from}
+use Rattle.ks_record.specs.Texts.{IsKey, key_from}
 use Rattle.ks_row.specs.Rows.{Member}
-use Rattle.ks_row.specs.Spelling.{IsBytes, int_bytes, spelling, FitsRow}
+use Rattle.ks_record.specs.Bytes.{IsBytes}
+use Rattle.ks_row.specs.Spelling.{int_bytes, spelling, FitsRow}
 use Rattle.ks_row.specs.Reading.{◌>>=◌, bytes_at, number_at, int_at, row_from}
 use Rattle.ks_row.specs.Codecs.{IsCodec}
 use Rattle.ks_row.proofs.Fields.{bind_some, guard_some, test_some, some_is, paired, Takes, Takes-then, IsBytes-rest, wide32, wide64, bytes_take, bytes_again, number_takes, number_again, int_takes, int_again}

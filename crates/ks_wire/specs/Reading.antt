@@ -1,7 +1,7 @@
 -- Reading what tasks say to one another and keep: the value that the bytes spell, all of them, or none.
 use Rattle.std.specs.Prelude.{ℕ, zero, suc, ◌-◌, ◌%◌, List, [], ◌∷◌, length, Option, Some, None, Bool, true, false, ◌==◌, nat_le, if◌then◌else◌, option_map}
 use Rattle.std.specs.Int.{w32, w64, w128, cast_signed}
-use Rattle.ks_row.specs.Texts.{key_from}
+use Rattle.ks_record.specs.Texts.{key_from}
 use Rattle.ks_row.specs.Rows.{Member}
 use Rattle.ks_row.specs.Reading.{◌>>=◌, number_at, int_at, bytes_at, row_from}
 use Rattle.ks_wire.specs.Values.{SubscriptionValue}

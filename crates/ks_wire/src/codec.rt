@@ -11,7 +11,7 @@ ghost use Rattle.ks_wire.specs.Reading.{subscription_from, response_from, delta_
 
 use crate::reading;
 use crate::values::{Agg, Delta, Response, Subscriber, Subscription};
-use ks_row::Key;
+use ks_record::Key;
 use std::alloc::{AllocError, Global};
 
 /// The subscription that the bytes spell, all of them; none where they spell none.

@@ -6,7 +6,8 @@ ghost use Rattle.ks_wire.specs.Values.{IsPart};
 ghost use Rattle.ks_wire.specs.Reading.{hash_at, part_from, named_from, subscription_from, part_or_none, subscriber_from, right_from, response_from, delta_from, agg_from, time_from, long_key_at, subscription_key_from, window_key_from};
 
 use crate::values::{Agg, Delta, Response, Subscriber, Subscription};
-use ks_row::{Key, Row, decode, read_bytes, read_i64, read_u32, read_u64};
+use ks_record::Key;
+use ks_row::{Row, decode, read_bytes, read_i64, read_u32, read_u64};
 use std::alloc::{AllocError, Global};
 
 fn read_u128(bytes: &[u8]) -> Option<(u128, &[u8])>

@@ -2,7 +2,8 @@
 ghost use Rattle.std.specs.Prelude.{◌≡◌, ◌≤◌, IfSome};
 ghost use Rattle.ks_wire.specs.Values.{SubscriptionValue, IsPart};
 
-use ks_row::{Key, Row};
+use ks_record::Key;
+use ks_row::Row;
 use std::marker::Model;
 
 /// What the left side of a foreign-key join sends to a foreign key.

@@ -1,11 +1,11 @@
 //! What tasks say to one another and keep, as bytes.
 ghost use Rattle.std.specs.Prelude.{◌≡◌, ◌+◌, ◌++◌, ◌∷◌, [], IfOk, OnOk};
 ghost use Rattle.ks_row.specs.Spelling.{int_bytes};
-ghost use Rattle.ks_row.specs.Texts.{IsKey};
+ghost use Rattle.ks_record.specs.Texts.{IsKey};
 ghost use Rattle.ks_wire.specs.Spelling.{hash_flag, hash_or_nothing, version_of, part_or_nothing, subscriber_bytes, time_bytes, subscription_bytes, response_bytes, delta_bytes, agg_bytes, long_key, subscription_key, window_key, FitsHash, FitsSubscription, FitsSubscriber, FitsResponse, FitsDelta, FitsAgg, FitsKeys, FitsWindow};
 
 use crate::values::{Agg, Delta, Response, Subscriber, Subscription};
-use ks_row::{Blob, BlobBuilder, Key};
+use ks_record::{Blob, BlobBuilder, Key};
 use std::alloc::{AllocError, Global};
 
 const NO_HASH: u8 = 128;

@@ -15,7 +15,7 @@ use Rattle.std.specs.Str.{bytes_eq, chars}
 use Rattle.std.specs.Str.Parse.{digits_value, without_leading_plus}
 use Rattle.ks_words.specs.declared.command.Command.{Command}
 use Rattle.ks_words.specs.declared.command.Command.TheVariants.{Run, Load, Ask, Audit}
-use Rattle.ks_row.specs.Texts.{key_from, name_from}
+use Rattle.ks_record.specs.Texts.{key_from, name_from}
 use Rattle.ks_words.specs.declared.settings.Settings.{Settings}
 
 abbrev pub Text : Type 0

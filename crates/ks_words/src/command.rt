@@ -1,6 +1,6 @@
 //! What a command line asks for.
 use crate::settings::Settings;
-use ks_row::{Key, Name};
+use ks_record::{Key, Name};
 
 /// What a command line asks for.
 #[derive(Drop, Debug)]

@@ -3,7 +3,7 @@ ghost use Rattle.std.specs.Prelude.{◌≡◌, ◌≤◌, ◌<◌, ◌++◌, Lis
 ghost use Rattle.std.specs.List.{flat_map};
 ghost use Rattle.ks_words.specs.Load.{order_front, order_value, order_line, deletion_line, customer_line, record_line, records_of, in_section, section_records, records_with, topology_text, load_text};
 
-use ks_row::Blob;
+use ks_record::Blob;
 use std::alloc::{AllocError, Global};
 use std::fmt::Write;
 

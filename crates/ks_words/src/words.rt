@@ -13,7 +13,7 @@ use crate::parser::{
 };
 use crate::settings::Settings;
 use clap::ArgMatches;
-use ks_row::{Key, Name};
+use ks_record::{Key, Name};
 use std::alloc::{AllocError, Global};
 
 // clap takes a word `--` as the end of the options.

@@ -1,7 +1,7 @@
 -- What each act does to a worker (Kafka Streams: one pass of a StreamThread's run loop).
 use Rattle.std.specs.Prelude.{◌≡◌, ◌≢◌, ◌⊎◌, ◌≤◌, ◌<◌, ℕ, List, [], ◌∷◌, ◌++◌}
 use Rattle.std.specs.List.{filter}
-use Rattle.ks_row.specs.declared.record.TaskId.{TaskId}
+use Rattle.ks_record.specs.declared.record.TaskId.{TaskId}
 use Rattle.ks_edge.specs.declared.gate.Act.{Act}
 use Rattle.ks_edge.specs.declared.gate.Act.TheVariants.{Work, Commit, Abort, Crash, Leave, Pump, Probe, Evict, Stop}
 use Rattle.ks_plan.specs.Drafts.{DraftView}

@@ -10,22 +10,22 @@ ghost use Rattle.ks_worker.specs.Running.{IsCutOnce};
 use crate::worker::Worker;
 use ks_cluster::Work;
 use ks_edge::{Act, Gate};
-use ks_hash::Hash128;
 use ks_shared::Shared;
+use ks_task_processing::Processing;
 use ks_topo::Topology;
 use ks_worker_acts::{abort, commit_tasks, evict, leave, probe, pump, work};
 use ks_worker_client::Halt;
 use std::alloc::{AllocError, Global};
 use std::sync::Wait;
 
-// How many acts `Work` there were since one moved something, after one more.
+// How many acts `Work` in a row moved nothing, with one more, of which it is told whether it moved something.
 fn count_dry(dry: u32, moved: bool) -> u32 {
     if moved { 0 } else { dry.saturating_add(1) }
 }
 
 impl<W: Work, G: Gate> Worker<W, G> {
     // Its tasks read; how often in a row that moved nothing is counted.
-    fn work<H: Hash128, R: Wait>(
+    fn work<H: Processing, R: Wait>(
         &mut self,
         rt: &R,
         alloc: Global,
@@ -49,7 +49,7 @@ impl<W: Work, G: Gate> Worker<W, G> {
     }
 
     // It commits its tasks.
-    fn commit<H: Hash128, R: Wait>(
+    fn commit<H: Processing, R: Wait>(
         &mut self,
         rt: &R,
         alloc: Global,
@@ -71,7 +71,7 @@ impl<W: Work, G: Gate> Worker<W, G> {
     }
 
     // It does an act.
-    fn act<H: Hash128, R: Wait>(
+    fn act<H: Processing, R: Wait>(
         &mut self,
         rt: &R,
         alloc: Global,
@@ -127,7 +127,7 @@ impl<W: Work, G: Gate> Worker<W, G> {
     ///
     /// Before each call its gate is asked whether it is cut off; if it is, it crashes, and nothing else is done. Want of memory is the
     /// one error: the worker ends then, and the lock is free.
-    pub fn perform<H: Hash128, R: Wait>(
+    pub fn perform<H: Processing, R: Wait>(
         &mut self,
         rt: &R,
         alloc: Global,

@@ -9,8 +9,8 @@ ghost use Rattle.ks_worker.specs.Running.{HasCounted, ShowsCalls, IsCutOnce, Has
 use crate::worker::Worker;
 use ks_cluster::Work;
 use ks_edge::{Act, Gate};
-use ks_hash::Hash128;
 use ks_shared::Shared;
+use ks_task_processing::Processing;
 use ks_topo::Topology;
 use ks_worker_client::Halt;
 use ks_worker_turn::begin_turn;
@@ -24,7 +24,7 @@ const REST_MS: u64 = 10;
 
 impl<W: Work, G: Gate> Worker<W, G> {
     // A turn up to its act; whether the worker was cut off, and crashed.
-    fn begin<H: Hash128, R: Wait>(
+    fn begin<H: Processing, R: Wait>(
         &mut self,
         rt: &R,
         alloc: Global,
@@ -63,7 +63,7 @@ impl<W: Work, G: Gate> Worker<W, G> {
     }
 
     // Asks its gate for the act and performs it, and rests where it is idle while records are still fed; whether the gate ended the worker.
-    fn obey<H: Hash128, R: Wait>(
+    fn obey<H: Processing, R: Wait>(
         &mut self,
         rt: &R,
         alloc: Global,
@@ -98,7 +98,7 @@ impl<W: Work, G: Gate> Worker<W, G> {
     }
 
     // One turn; whether the gate ended the worker.
-    fn take_turn<H: Hash128, R: Wait>(
+    fn take_turn<H: Processing, R: Wait>(
         &mut self,
         rt: &R,
         alloc: Global,
@@ -133,7 +133,7 @@ impl<W: Work, G: Gate> Worker<W, G> {
     /// says the act (`perform`). A turn that is cut off before its act ends so. The gate is shown whether the input is still being fed.
     ///
     /// Want of memory is the one error: the worker ends then, and the lock is free.
-    pub fn run<H: Hash128, R: Wait>(
+    pub fn run<H: Processing, R: Wait>(
         &mut self,
         rt: &R,
         alloc: Global,

@@ -4,7 +4,7 @@ use Rattle.std.specs.List.{All, filter}
 use Rattle.std.proofs.lemmas.Bool.{true≢false}
 use Rattle.std.proofs.lemmas.List.Elements.{All-head, All-take, All-drop, All-push, filter-append}
 use Rattle.std.proofs.Math.Seq.{take-append_seam, drop-append_seam}
-use Rattle.ks_row.specs.declared.record.TaskId.{TaskId}
+use Rattle.ks_record.specs.declared.record.TaskId.{TaskId}
 use Rattle.ks_plan.specs.Drafts.{DraftView}
 use Rattle.ks_plan.specs.Plan.{plan_of}
 use Rattle.ks_plan.specs.Infos.{changelog_numbers}

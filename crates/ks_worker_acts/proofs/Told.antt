@@ -6,9 +6,9 @@ use Rattle.std.specs.List.{All}
 use Rattle.std.proofs.lemmas.Bool.{eqb-true, eqb-false}
 use Rattle.std.proofs.lemmas.List.{length-set, get_or-set_same, get_or-set_other}
 use Rattle.std.proofs.lemmas.List.Elements.{All-nil, All-cons}
-use Rattle.ks_row.specs.declared.record.PartId.{PartId}
-use Rattle.ks_row.specs.declared.record.TaskId.{TaskId}
-use Rattle.ks_row.specs.Parts.{same_task}
+use Rattle.ks_record.specs.declared.record.PartId.{PartId}
+use Rattle.ks_record.specs.declared.record.TaskId.{TaskId}
+use Rattle.ks_record.specs.Parts.{same_task}
 use Rattle.ks_plan.specs.Drafts.{DraftView}
 use Rattle.ks_history.specs.Follows.{TaskView}
 use Rattle.ks_task.specs.declared.task.Task.{Task}

@@ -1,7 +1,7 @@
 -- A worker after a commit of its tasks.
 use Rattle.std.proofs.Common.{◌≡◌, ◌≤◌, ℕ, List, [], refl, sym, ap, subst, arith, append-nil}
 use Rattle.std.specs.List.{All}
-use Rattle.ks_row.specs.declared.record.PartId.{PartId}
+use Rattle.ks_record.specs.declared.record.PartId.{PartId}
 use Rattle.ks_plan.specs.Drafts.{DraftView}
 use Rattle.ks_plan.specs.Plan.{plan_of}
 use Rattle.ks_plan.specs.Infos.{changelog_numbers}
@@ -26,7 +26,7 @@ use Rattle.ks_worker_state.specs.Tasks.{IsHeldTask}
 use Rattle.ks_worker_state.specs.Topology.{RunsTopology}
 use Rattle.ks_worker_state.specs.Worker.{HaveOwnNames, IsWorker, lost}
 use Rattle.ks_worker_state.proofs.Workers.{standbys_later, crashed}
-use Rattle.ks_row.specs.declared.record.TaskId.{TaskId}
+use Rattle.ks_record.specs.declared.record.TaskId.{TaskId}
 use Rattle.ks_worker_acts.specs.Works.{AreWorksOf, AreCleanOf}
 use Rattle.ks_worker_acts.specs.Told.{AreTold}
 use Rattle.ks_worker_acts.proofs.Lists.{names_stay, no_more}

@@ -3,8 +3,8 @@ use Rattle.std.proofs.Common.{◌≡◌, ◌≢◌, ◌⊎◌, inl, inr, ℕ, ze
 use Rattle.std.specs.List.{All}
 use Rattle.std.proofs.lemmas.Bool.{true≢false}
 use Rattle.std.proofs.lemmas.List.Elements.{All-head, All-tail}
-use Rattle.ks_row.specs.declared.record.TaskId.{TaskId}
-use Rattle.ks_row.specs.Parts.{same_task}
+use Rattle.ks_record.specs.declared.record.TaskId.{TaskId}
+use Rattle.ks_record.specs.Parts.{same_task}
 use Rattle.ks_plan.specs.Drafts.{DraftView}
 use Rattle.ks_plan.specs.Plan.{plan_of}
 use Rattle.ks_history.specs.declared.journal.Entry.{Entry}
@@ -12,7 +12,7 @@ use Rattle.ks_history.specs.Machine.{TaskPlan}
 use Rattle.ks_history.specs.State.{Setup, has_task, are_once}
 use Rattle.ks_history.specs.History.{at}
 use Rattle.ks_history.proofs.Names.{same_task-is, same_task-refl}
-use Rattle.ks_law_quiescence.specs.WellFormed.{IsWellFormed}
+use Rattle.ks_law_topology.specs.WellFormed.{IsWellFormed}
 use Rattle.ks_law_restore.specs.Views.{WorkView, IsFrozen, SendsInside, are_topics_once}
 use Rattle.ks_law_settled.proofs.Once.{inputs_once}
 use Rattle.ks_law_settled.proofs.Inside.{topologies_send_inside}

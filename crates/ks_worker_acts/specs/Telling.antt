@@ -1,7 +1,7 @@
 -- What a worker tells its group, and what it leaves (KIP-441: the positions that members hold).
 use Rattle.std.specs.Prelude.{◌≡◌, ◌+◌, ◌-◌, ◌^◌, ℕ, Bool, false, min, List, [], ◌∷◌, ◌++◌, map}
 use Rattle.std.specs.List.{All, filter}
-use Rattle.ks_row.specs.declared.record.TaskId.{TaskId}
+use Rattle.ks_record.specs.declared.record.TaskId.{TaskId}
 use Rattle.ks_plan.specs.Drafts.{DraftView}
 use Rattle.ks_history.specs.declared.journal.Entry.{Entry}
 use Rattle.ks_history.specs.declared.journal.Request.{Request}

@@ -12,7 +12,7 @@ ghost use Rattle.ks_worker_acts.specs.Telling.{position_total, task_positions, r
 use ks_cluster::Work;
 use ks_edge::Gate;
 use ks_hash::Hash128;
-use ks_row::TaskId;
+use ks_record::TaskId;
 use ks_shared::Shared;
 use ks_standby::Replica;
 use ks_task::Task;

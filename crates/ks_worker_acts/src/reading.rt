@@ -12,8 +12,8 @@ ghost use Rattle.ks_worker_acts.specs.Picking.{HasPicked};
 use crate::places::{InputPlace, places_of};
 use ks_cluster::Work;
 use ks_edge::Gate;
-use ks_hash::Hash128;
 use ks_shared::Shared;
+use ks_task_processing::Processing;
 use ks_topo::Topology;
 use ks_worker_client::{Halt, or_halt};
 use ks_worker_state::{WorkerState, read_once};
@@ -21,7 +21,7 @@ use std::alloc::Global;
 use std::sync::Wait;
 
 // Looks at one input; whether its task moved there.
-fn read_place<H: Hash128, R: Wait, W: Work, G: Gate>(
+fn read_place<H: Processing, R: Wait, W: Work, G: Gate>(
     rt: &R,
     alloc: Global,
     topology: &Topology,
@@ -58,7 +58,7 @@ fn read_place<H: Hash128, R: Wait, W: Work, G: Gate>(
 }
 
 // Looks at these inputs up to the first whose task moves there; whether one did.
-fn read_first<H: Hash128, R: Wait, W: Work, G: Gate>(
+fn read_first<H: Processing, R: Wait, W: Work, G: Gate>(
     rt: &R,
     alloc: Global,
     topology: &Topology,
@@ -91,7 +91,7 @@ fn read_first<H: Hash128, R: Wait, W: Work, G: Gate>(
 }
 
 // Looks at these inputs, round once from a place on.
-fn read_round<H: Hash128, R: Wait, W: Work, G: Gate>(
+fn read_round<H: Processing, R: Wait, W: Work, G: Gate>(
     rt: &R,
     alloc: Global,
     topology: &Topology,
@@ -128,7 +128,7 @@ fn read_round<H: Hash128, R: Wait, W: Work, G: Gate>(
 /// moves the position it takes at most 32 records, and ends. Whether a position moved.
 ///
 /// After `Cut` or want of memory the worker is to be crashed.
-pub fn work<H: Hash128, R: Wait, W: Work, G: Gate>(
+pub fn work<H: Processing, R: Wait, W: Work, G: Gate>(
     rt: &R,
     alloc: Global,
     topology: &Topology,

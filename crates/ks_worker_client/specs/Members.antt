@@ -1,6 +1,6 @@
 -- What a worker knows of its producer (KIP-98: one producer a number; its epoch, its transaction, its sequence numbers).
 use Rattle.std.specs.Prelude.{◌≡◌, ◌≤◌, ℕ, None, List, []}
-use Rattle.ks_row.specs.declared.record.PartId.{PartId}
+use Rattle.ks_record.specs.declared.record.PartId.{PartId}
 use Rattle.ks_history.specs.declared.journal.Entry.{Entry}
 use Rattle.ks_history.specs.State.{Setup}
 use Rattle.ks_history.specs.History.{at}

@@ -14,7 +14,7 @@ use crate::halt::{Halt, or_halt};
 use ks_cluster::Work;
 use ks_edge::Gate;
 use ks_history::Status;
-use ks_row::{PartId, Rec, Refused, TaskId};
+use ks_record::{PartId, Rec, Refused, TaskId};
 use ks_shared::Shared;
 use std::alloc::Global;
 use std::sync::Wait;

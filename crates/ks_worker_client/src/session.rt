@@ -2,7 +2,7 @@
 use crate::client::ClusterClient;
 use ks_cluster::Work;
 use ks_edge::Gate;
-use ks_row::{PartId, TaskId};
+use ks_record::{PartId, TaskId};
 
 /// A worker's client, and what its producer remembers of its requests (Kafka Streams: a StreamsProducer; KIP-98: sequence numbers).
 #[derive(Drop)]

@@ -12,7 +12,7 @@ use crate::client::ClusterClient;
 use crate::halt::{Halt, or_halt};
 use ks_cluster::Work;
 use ks_edge::Gate;
-use ks_row::TaskId;
+use ks_record::TaskId;
 use ks_shared::Shared;
 use ks_standby::Replica;
 use std::alloc::Global;

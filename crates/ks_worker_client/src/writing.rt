@@ -15,7 +15,7 @@ use crate::client::ClusterClient;
 use crate::halt::{Halt, or_halt};
 use ks_cluster::Work;
 use ks_edge::Gate;
-use ks_row::{Assignment, PartId, Refused, TaskId};
+use ks_record::{Assignment, PartId, Refused, TaskId};
 use ks_shared::Shared;
 use std::alloc::Global;
 use std::sync::Wait;

@@ -1,11 +1,11 @@
 -- Requests one after another.
 use Rattle.std.proofs.Common.{◌≡◌, ◌≢◌, ℕ, zero, suc, ◌+◌, ◌<◌, ◌≤◌, Bool, true, false, cond, List, [], ◌∷◌, length, drop, get_or, Option, Result, Ok, Err, refl, sym, ap, subst, ◌∙◌, arith}
-use Rattle.ks_row.specs.Records.{Record as Rec}
-use Rattle.ks_row.specs.declared.record.PartId.{PartId}
-use Rattle.ks_row.specs.declared.record.TaskId.{TaskId}
+use Rattle.ks_record.specs.Records.{Record as Rec}
+use Rattle.ks_record.specs.declared.record.PartId.{PartId}
+use Rattle.ks_record.specs.declared.record.TaskId.{TaskId}
 use Rattle.std.specs.Prelude.{OnOk}
 use Rattle.std.proofs.lemmas.Bool.{or_left, or_right}
-use Rattle.ks_row.specs.Parts.{same_part, same_task}
+use Rattle.ks_record.specs.Parts.{same_part, same_task}
 use Rattle.ks_history.specs.State.{State, Setup, has_part, has_task}
 use Rattle.ks_history.specs.History.{at, are_offsets}
 use Rattle.ks_law_sharing.proofs.Rising.{offsets_stay}

@@ -1,9 +1,9 @@
 -- Once all is sent, the commit is faithful in what the pass has seen.
 use Rattle.std.proofs.Common.{◌≡◌, ◌≤◌, ℕ, ◌||◌, Bool, true, false, cond, List, [], ◌∷◌, ◌++◌, length, Option, Some, None, refl, sym, ap, subst, ◌∙◌}
 use Rattle.std.proofs.lemmas.Bool.{true≢false}
-use Rattle.ks_row.specs.declared.record.PartId.{PartId}
-use Rattle.ks_row.specs.declared.record.TaskId.{TaskId}
-use Rattle.ks_row.specs.Parts.{same_task}
+use Rattle.ks_record.specs.declared.record.PartId.{PartId}
+use Rattle.ks_record.specs.declared.record.TaskId.{TaskId}
+use Rattle.ks_record.specs.Parts.{same_task}
 use Rattle.ks_history.specs.declared.journal.Entry.{Entry}
 use Rattle.ks_history.specs.declared.journal.Request.TheVariants.{Decide}
 use Rattle.ks_history.specs.declared.transaction.Pending.{Pending}

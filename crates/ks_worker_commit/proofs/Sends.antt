@@ -1,6 +1,6 @@
 -- All requests before the decision, one loop after another.
 use Rattle.std.proofs.Common.{◌≡◌, ◌⊎◌, inr, ℕ, true, List, Result, Ok, Err, subst}
-use Rattle.ks_row.specs.declared.record.PartId.{PartId}
+use Rattle.ks_record.specs.declared.record.PartId.{PartId}
 use Rattle.ks_history.specs.Machine.{TaskPlan}
 use Rattle.ks_history.specs.State.{has_part}
 use Rattle.ks_history.specs.declared.journal.Entry.{Entry}

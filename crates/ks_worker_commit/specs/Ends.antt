@@ -1,9 +1,9 @@
 -- What a commit's end says of the journal.
 use Rattle.std.specs.Prelude.{◌≡◌, ◌⊎◌, OnOk, ℕ, Result, Ok, Err, Option, List, [], length}
-use Rattle.ks_row.specs.declared.record.TaskId.{TaskId}
-use Rattle.ks_row.specs.declared.assignment.Marker.{Marker}
-use Rattle.ks_row.specs.declared.assignment.Refused.{Refused}
-use Rattle.ks_row.specs.declared.assignment.Refused.TheVariants.{Fenced as FencedBy}
+use Rattle.ks_record.specs.declared.record.TaskId.{TaskId}
+use Rattle.ks_record.specs.declared.assignment.Marker.{Marker}
+use Rattle.ks_record.specs.declared.assignment.Refused.{Refused}
+use Rattle.ks_record.specs.declared.assignment.Refused.TheVariants.{Fenced as FencedBy}
 use Rattle.ks_shared.specs.declared.barred.Barred.TheVariants.{Refused as Refusal, Touched as IsTouched}
 use Rattle.ks_history.specs.declared.journal.Entry.{Entry}
 use Rattle.ks_history.specs.declared.transaction.Pending.{Pending}

@@ -1,10 +1,10 @@
 -- What the requests of a commit put into a transaction, in the order in which a worker makes them: each output partition, the records by
 -- partition and then task, the offsets of each task (Kafka Streams: RecordCollector, StreamsProducer).
 use Rattle.std.specs.Prelude.{ℕ, if◌then◌else◌, List, [], ◌∷◌}
-use Rattle.ks_row.specs.Records.{Record as Rec}
-use Rattle.ks_row.specs.declared.record.PartId.{PartId}
-use Rattle.ks_row.specs.declared.record.TaskId.{TaskId}
-use Rattle.ks_row.specs.Parts.{same_part}
+use Rattle.ks_record.specs.Records.{Record as Rec}
+use Rattle.ks_record.specs.declared.record.PartId.{PartId}
+use Rattle.ks_record.specs.declared.record.TaskId.{TaskId}
+use Rattle.ks_record.specs.Parts.{same_part}
 use Rattle.ks_history.specs.State.{insert_part}
 use Rattle.ks_law_restore.specs.Views.{WorkView, pending_work}
 use Rattle.ks_law_commit.specs.Building.{Contents, no_contents, with_part, with_records, with_pending_offsets}

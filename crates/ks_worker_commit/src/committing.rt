@@ -24,7 +24,7 @@ use crate::sending::send;
 use ks_cluster::Work;
 use ks_commit::Frozen;
 use ks_edge::Gate;
-use ks_row::Refused;
+use ks_record::Refused;
 use ks_shared::{Barred, Shared};
 use ks_worker_client::{Member, Session};
 use std::alloc::{AllocError, Global};

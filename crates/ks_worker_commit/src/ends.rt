@@ -1,9 +1,9 @@
 //! Where the records of one task end.
 ghost use Rattle.std.specs.Prelude.{◌≡◌, ◌&&◌, ◌==◌, IfOk};
-ghost use Rattle.ks_row.specs.Parts.{same_task};
+ghost use Rattle.ks_record.specs.Parts.{same_task};
 ghost use Rattle.ks_worker_commit.specs.Leaves.{ends_for};
 
-use ks_row::{PartId, TaskId};
+use ks_record::{PartId, TaskId};
 use std::alloc::{AllocError, Global};
 
 // Whether an end is of a task, in a partition of its own number.

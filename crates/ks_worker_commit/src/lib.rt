@@ -5,7 +5,6 @@
 mod committing;
 mod ends;
 mod halt;
-mod numbers;
 mod outcome;
 mod outputs;
 mod requests;

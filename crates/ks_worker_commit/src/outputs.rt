@@ -5,7 +5,7 @@ ghost use Rattle.ks_commit.specs.Committed.{works_of};
 ghost use Rattle.ks_worker_commit.specs.Outputs.{parts_with, parts_in};
 
 use ks_commit::Frozen;
-use ks_row::{PartId, SharedRecords};
+use ks_record::{PartId, SharedRecords};
 use std::alloc::{AllocError, Global};
 
 // A rising list with one partition more.

@@ -14,11 +14,10 @@ ghost use Rattle.ks_worker_commit.specs.Ends.{NeverBarred};
 ghost use Rattle.ks_worker_commit.specs.Underway.{memory, with_end, Carries, Decides, Aborts, always, has_added, has_work};
 
 use crate::halt::Halt;
-use crate::numbers::{number, with_next_number};
 use ks_cluster::Work;
-use ks_commit::Frozen;
+use ks_commit::{Frozen, number_at, with_next_number};
 use ks_edge::Gate;
-use ks_row::{PartId, SharedRecords, TaskId};
+use ks_record::{PartId, SharedRecords, TaskId};
 use ks_shared::{Barred, Shared};
 use ks_worker_client::{Member, Session};
 use std::alloc::{AllocError, Global};
@@ -137,7 +136,7 @@ pub fn append_output<R: Wait, W: Work, G: Gate>(
         return Err(Halt::Cut);
     }
     let (part, recs) = (out.0, &out.1);
-    let before = number(session.numbers.as_slice(), part);
+    let before = number_at(session.numbers.as_slice(), part);
     let after = number_after(before, recs)?;
     let numbers = with_next_number(alloc, session.numbers.as_slice(), part, after)?;
     let (worker, epoch) = (member.number, member.epoch);

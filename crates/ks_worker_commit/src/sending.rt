@@ -16,7 +16,7 @@ use crate::requests::{add_part, append_output, send_offsets};
 use ks_cluster::Work;
 use ks_commit::Frozen;
 use ks_edge::Gate;
-use ks_row::{PartId, SharedRecords, TaskId};
+use ks_record::{PartId, SharedRecords, TaskId};
 use ks_shared::Shared;
 use ks_worker_client::{Member, Session};
 use std::alloc::Global;

@@ -1,6 +1,6 @@
 -- What a producer knows of itself stays while others write.
 use Rattle.std.proofs.Common.{◌≡◌, ◌≤◌, ℕ, true, None, List, [], ◌++◌, refl, sym, subst, ◌∙◌, arith}
-use Rattle.ks_row.specs.declared.record.PartId.{PartId}
+use Rattle.ks_record.specs.declared.record.PartId.{PartId}
 use Rattle.ks_history.specs.declared.journal.Entry.{Entry}
 use Rattle.ks_history.specs.Partition.{count_sent}
 use Rattle.ks_history.specs.State.{Setup}

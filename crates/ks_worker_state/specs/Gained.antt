@@ -17,7 +17,7 @@ pub record HasGained {W : Type 0} (old new : PassView Entry (Frame W)) (requests
   pub seen : new.seen ≡ old.seen ++ more
   pub among : StandAmong requests more
 
--- the pass itself made these requests since, and no others
+-- the pass has seen more since, among which these requests stand in their order, and has made as many itself
 pub record HasMade {W : Type 0} (old new : PassView Entry (Frame W)) (requests : List Request) : Type 0 where
   pub gained : HasGained old new requests
   pub made : new.made ≡ old.made + length requests

@@ -10,7 +10,7 @@ ghost use Rattle.ks_worker_state.specs.Standbys.{IsStandby, IsFedStandby, HasRea
 
 use ks_cluster::Work;
 use ks_edge::Gate;
-use ks_row::PartId;
+use ks_record::PartId;
 use ks_shared::Shared;
 use ks_standby::Replica;
 use ks_task::MOST_FED;

@@ -16,17 +16,17 @@ ghost use Rattle.ks_worker_state.specs.Topology.{RunsTopology};
 
 use ks_cluster::Work;
 use ks_edge::Gate;
-use ks_hash::Hash128;
-use ks_row::{PartId, Rec};
+use ks_record::{PartId, Rec};
 use ks_shared::Shared;
 use ks_task::{MOST_FETCHED, Task};
+use ks_task_processing::Processing;
 use ks_topo::Topology;
 use ks_worker_client::{Halt, Member, Session, or_halt};
 use std::alloc::{AllocError, Global};
 use std::sync::Wait;
 
 // Takes these records of an input, one after another.
-fn take_fetched<H: Hash128>(
+fn take_fetched<H: Processing>(
     alloc: Global,
     topology: &Topology,
     task: &mut Task,
@@ -46,7 +46,7 @@ fn take_fetched<H: Hash128>(
 }
 
 /// A task takes what one fetch of one of its inputs gives, at most 32 records; whether that moved it.
-pub fn read_once<H: Hash128, R: Wait, W: Work, G: Gate>(
+pub fn read_once<H: Processing, R: Wait, W: Work, G: Gate>(
     rt: &R,
     alloc: Global,
     topology: &Topology,

@@ -25,7 +25,7 @@ use crate::topics::changelogs_in;
 use ks_cluster::Work;
 use ks_edge::Gate;
 use ks_hash::Hash128;
-use ks_row::{PartId, TaskId};
+use ks_record::{PartId, TaskId};
 use ks_shared::Shared;
 use ks_standby::Replica;
 use ks_task::Task;

@@ -2,9 +2,9 @@
 use Rattle.std.proofs.Common.{◌≡◌, ◌≤◌, ℕ, ◌+◌, max, leb, arith, Bool, true, false, cond, [], ◌∷◌, ◌++◌, Option, Some, None, ◌⊎◌, ⊎_elim, inl, inr, refl, sym, ap, subst, ◌∙◌}
 use Rattle.std.specs.Prelude.{◌==◌, IfSome}
 use Rattle.std.proofs.lemmas.Bool.{eqb-true, leb-true, leb-false}
-use Rattle.ks_row.specs.declared.assignment.Assignment.{Assignment}
-use Rattle.ks_row.specs.declared.assignment.Refused.{Refused}
-use Rattle.ks_row.specs.declared.assignment.Refused.TheVariants.{OldGeneration}
+use Rattle.ks_record.specs.declared.assignment.Assignment.{Assignment}
+use Rattle.ks_record.specs.declared.assignment.Refused.{Refused}
+use Rattle.ks_record.specs.declared.assignment.Refused.TheVariants.{OldGeneration}
 use Rattle.ks_history.specs.declared.journal.Entry.{Entry}
 use Rattle.ks_history.specs.declared.journal.Status.{Status}
 use Rattle.ks_history.specs.declared.journal.Request.TheVariants.{Assign}

@@ -4,8 +4,8 @@ use Rattle.std.specs.List.{All, insert}
 use Rattle.std.proofs.Math.Seq.{take-suc}
 use Rattle.std.proofs.lemmas.List.{take_all}
 use Rattle.std.proofs.lemmas.List.Elements.{All-append, All-take, All-drop, All-cons, All-nil}
-use Rattle.ks_row.specs.declared.record.TaskId.{TaskId}
-use Rattle.ks_row.specs.Parts.{same_task}
+use Rattle.ks_record.specs.declared.record.TaskId.{TaskId}
+use Rattle.ks_record.specs.Parts.{same_task}
 use Rattle.ks_history.specs.State.{has_task}
 use Rattle.ks_history.proofs.Names.{same_task-is, same_task-refl}
 use Rattle.ks_task.specs.declared.task.Task.{Task}

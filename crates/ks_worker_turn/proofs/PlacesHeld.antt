@@ -4,9 +4,9 @@ use Rattle.std.specs.Prelude.{◌==◌, IsSome}
 use Rattle.std.proofs.Math.Seq.{take-suc}
 use Rattle.std.proofs.lemmas.Bool.{eqb-true}
 use Rattle.std.proofs.lemmas.List.{take_all}
-use Rattle.ks_row.specs.declared.record.TaskId.{TaskId}
-use Rattle.ks_row.specs.declared.assignment.Assignment.{Assignment}
-use Rattle.ks_row.specs.Parts.{same_task}
+use Rattle.ks_record.specs.declared.record.TaskId.{TaskId}
+use Rattle.ks_record.specs.declared.assignment.Assignment.{Assignment}
+use Rattle.ks_record.specs.Parts.{same_task}
 use Rattle.ks_history.specs.State.{has_task}
 use Rattle.ks_history.proofs.Names.{same_task-is}
 use Rattle.ks_standby.specs.declared.replica.Replica.{Replica}

@@ -1,7 +1,7 @@
 -- The requests that a worker makes before its act, from part to part.
 use Rattle.std.proofs.Common.{◌≡◌, ℕ, Bool, Option, refl, subst}
 use Rattle.std.proofs.lemmas.Bool.{eq-eqb}
-use Rattle.ks_row.specs.declared.record.PartId.{PartId}
+use Rattle.ks_record.specs.declared.record.PartId.{PartId}
 use Rattle.ks_history.specs.declared.journal.Entry.{Entry}
 use Rattle.ks_history.specs.declared.journal.Request.TheVariants.{Join, MarkNext}
 use Rattle.ks_history.specs.declared.journal.Reply.TheVariants.{Number, Mark as Marked}

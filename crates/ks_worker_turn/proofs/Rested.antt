@@ -14,7 +14,7 @@ use Rattle.ks_history.specs.State.{Setup, has_task}
 use Rattle.ks_growing.specs.Passes.{PassView}
 use Rattle.ks_shared.specs.declared.state.Frame.{Frame}
 use Rattle.ks_shared.specs.Calls.{setup_in}
-use Rattle.ks_row.specs.declared.record.PartId.{PartId}
+use Rattle.ks_record.specs.declared.record.PartId.{PartId}
 use Rattle.ks_history.specs.Follows.{ReplicaView, ReplicaFollows}
 use Rattle.ks_law_restore.specs.Replicas.{rested_view}
 use Rattle.ks_standby.specs.declared.replica.Replica.{Replica}
@@ -22,7 +22,7 @@ use Rattle.ks_standby.specs.Replicas.{replica_view, changelogs_of}
 use Rattle.ks_task.specs.declared.task.Task.{Task}
 use Rattle.ks_task.specs.Tasks.{task_view, IsClean, IsTaskOf}
 use Rattle.ks_worker_client.specs.declared.member.Member.{Member}
-use Rattle.ks_row.specs.declared.record.TaskId.{TaskId}
+use Rattle.ks_record.specs.declared.record.TaskId.{TaskId}
 use Rattle.ks_worker_state.specs.Names.{task_names, replica_names, times}
 use Rattle.ks_worker_state.specs.Standbys.{IsStandby}
 use Rattle.ks_worker_state.specs.Tasks.{IsHeldTask, is_clean_task}

@@ -1,8 +1,8 @@
 -- Assignments that a worker may give its generation (KIP-441).
 use Rattle.std.specs.Prelude.{◌≡◌, ◌≤◌, ℕ, true, Option, List}
-use Rattle.ks_row.specs.declared.assignment.Assignment.{Assignment}
-use Rattle.ks_row.specs.declared.record.PartId.{PartId}
-use Rattle.ks_row.specs.declared.record.TaskId.{TaskId}
+use Rattle.ks_record.specs.declared.assignment.Assignment.{Assignment}
+use Rattle.ks_record.specs.declared.record.PartId.{PartId}
+use Rattle.ks_record.specs.declared.record.TaskId.{TaskId}
 use Rattle.ks_plan.specs.Drafts.{DraftView}
 use Rattle.ks_plan.specs.Infos.{changelog_numbers}
 use Rattle.ks_plan.specs.Layout.{tasks}

@@ -1,7 +1,7 @@
 -- Tasks that rest: of each clean one its replica is left (KIP-441: a task goes back to a standby).
 use Rattle.std.specs.Prelude.{◌≡◌, ◌+◌, ◌||◌, ℕ, Bool, true, false, not, nat_lt, List, []}
 use Rattle.std.specs.List.{All, filter}
-use Rattle.ks_row.specs.declared.record.TaskId.{TaskId}
+use Rattle.ks_record.specs.declared.record.TaskId.{TaskId}
 use Rattle.ks_plan.specs.Drafts.{DraftView}
 use Rattle.ks_history.specs.declared.journal.Entry.{Entry}
 use Rattle.ks_history.specs.State.{Setup}

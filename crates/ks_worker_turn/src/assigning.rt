@@ -21,10 +21,10 @@ use ks_assign_group::assign_group;
 use ks_cluster::Work;
 use ks_edge::Gate;
 use ks_history::Status;
-use ks_row::Assignment;
+use ks_record::Assignment;
 use ks_shared::Shared;
 use ks_topo::Topology;
-use ks_worker_client::{ClusterClient, Halt, or_halt};
+use ks_worker_client::{ClusterClient, Halt};
 use std::alloc::{AllocError, Global};
 use std::sync::Wait;
 

@@ -5,7 +5,7 @@ ghost use Rattle.ks_worker_state.specs.Names.{task_names, replica_names};
 ghost use Rattle.ks_worker_turn.specs.Held.{AreHeld};
 ghost use Rattle.ks_worker_turn.specs.Places.{has_place, is_placed};
 
-use ks_row::{Assignment, TaskId};
+use ks_record::{Assignment, TaskId};
 use ks_standby::Replica;
 use ks_task::Task;
 
@@ -44,7 +44,8 @@ fn find_task(tasks: &[Task], from: usize, number: u8, place: (TaskId, u8)) -> Op
     Some(index)
 }
 
-// Whether of each of these places at the worker the task is found: each once, where both lists are in the order of tasks.
+// Whether the worker has a task for each of these places that is its own. Both lists are gone through once, in the order of tasks: where
+// one is in another order the answer may be false though it has them all.
 fn has_tasks(tasks: &[Task], number: u8, places: &[(TaskId, u8)]) -> bool
     ensures { result ≡ true → AreHeld (λ u. has_place u number places.now) (task_names tasks.now) }
 {
@@ -94,7 +95,8 @@ fn find_replica(replicas: &[Replica], from: usize, number: u8, place: (TaskId, u
     Some(index)
 }
 
-// Whether of each of these places at the worker the replica is found: each once, where both lists are in the order of tasks.
+// Whether the worker has a replica for each of these places that is its own. Both lists are gone through once, in the order of tasks: where
+// one is in another order the answer may be false though it has them all.
 fn has_replicas(replicas: &[Replica], number: u8, places: &[(TaskId, u8)]) -> bool
     ensures { result ≡ true → AreHeld (λ u. has_place u number places.now)
         (replica_names replicas.now) }

@@ -4,7 +4,7 @@ ghost use Rattle.ks_history.specs.State.{has_task};
 ghost use Rattle.ks_worker_state.specs.Names.{task_names, replica_names};
 ghost use Rattle.ks_worker_turn.specs.Lists.{HasPut, HasTaken};
 
-use ks_row::TaskId;
+use ks_record::TaskId;
 use ks_standby::Replica;
 use ks_task::Task;
 use std::alloc::AllocError;

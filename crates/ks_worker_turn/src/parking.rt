@@ -12,7 +12,7 @@ use crate::placing::is_placed;
 use ks_cluster::Work;
 use ks_edge::Gate;
 use ks_hash::Hash128;
-use ks_row::{Assignment, TaskId};
+use ks_record::{Assignment, TaskId};
 use ks_shared::Shared;
 use ks_topo::Topology;
 use ks_worker_client::Halt;

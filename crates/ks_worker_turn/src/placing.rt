@@ -2,7 +2,7 @@
 ghost use Rattle.std.specs.Prelude.{◌≡◌};
 ghost use Rattle.ks_worker_turn.specs.Places.{has_place, is_placed};
 
-use ks_row::{Assignment, TaskId};
+use ks_record::{Assignment, TaskId};
 
 /// Whether one of these places is the task's at the worker. Takes no memory.
 pub fn has_place(task: TaskId, number: u8, places: &[(TaskId, u8)]) -> bool

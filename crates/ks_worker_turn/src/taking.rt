@@ -23,7 +23,7 @@ use crate::placing::{has_place, is_placed};
 use ks_cluster::Work;
 use ks_edge::Gate;
 use ks_hash::Hash128;
-use ks_row::{Assignment, TaskId};
+use ks_record::{Assignment, TaskId};
 use ks_shared::Shared;
 use ks_standby::Replica;
 use ks_topo::Topology;
@@ -176,7 +176,7 @@ fn take_place<H: Hash128, R: Wait, W: Work, G: Gate>(
     activate::<H, R, W, G>(rt, alloc, topology, shared, state, replica)
 }
 
-// Whether a task is active at a member. At a worker that was removed from its group none is.
+// Whether an assignment has a task active at this worker; at one that is no member of the group (it was removed) none is.
 fn is_active_at(assignment: &Assignment, member: &Member, task: TaskId) -> bool
     ensures member { result ≡ true → member.now.is_member ≡ true }
     ensures active { member.now.is_member ≡ true

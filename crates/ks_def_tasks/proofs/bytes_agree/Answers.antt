@@ -1,6 +1,6 @@
 use Rattle.std.proofs.Common.{ap}
-use Rattle.ks_row.specs.Records.{Record as Rec}
-use Rattle.ks_row.specs.declared.record.PartId.{PartId}
+use Rattle.ks_record.specs.Records.{Record as Rec}
+use Rattle.ks_record.specs.declared.record.PartId.{PartId}
 use Rattle.ks_def_runs.specs.Run.{Outcome}
 use Rattle.ks_def_tasks.specs.Bytes.{ByteStores}
 use Rattle.ks_def_tasks.proofs.Agree.{agree, is_decoded}

@@ -5,7 +5,7 @@ ghost use Rattle.ks_plan.specs.Drafts.{DraftView};
 ghost use Rattle.ks_task.specs.Tasks.{IsTaskOf};
 ghost use Rattle.ks_worker_acts.specs.Told.{IsToldTask, AreTold};
 
-use ks_row::{PartId, TaskId};
+use ks_record::{PartId, TaskId};
 use ks_task::Task;
 use ks_worker_commit::ends_of_task;
 use std::alloc::{AllocError, Global};

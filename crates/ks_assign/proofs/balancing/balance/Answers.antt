@@ -1,5 +1,5 @@
 use Rattle.std.proofs.Common.{ℕ}
-use Rattle.ks_row.specs.declared.record.TaskId.{TaskId}
+use Rattle.ks_record.specs.declared.record.TaskId.{TaskId}
 use Rattle.ks_assign.proofs.Moves.{move_less, move_plan}
 use Rattle.ks_assign.proofs.balancing.balance.Goals as goal
 

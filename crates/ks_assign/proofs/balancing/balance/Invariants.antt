@@ -1,5 +1,5 @@
 use Rattle.std.proofs.Common.{List}
-use Rattle.ks_row.specs.declared.record.TaskId.{TaskId}
+use Rattle.ks_record.specs.declared.record.TaskId.{TaskId}
 use Rattle.ks_assign.specs.Placement.{by_client}
 use Rattle.ks_assign.specs.Steps.{IsPlan, pairs}
 use Rattle.ks_assign.proofs.balancing.balance.Given as goal

@@ -1,6 +1,6 @@
 use Rattle.std.proofs.Common.{◌≤◌, ℕ, ◌∙◌, get_or, arith}
 use Rattle.std.proofs.lemmas.List.{length-set}
-use Rattle.ks_row.specs.declared.record.TaskId.{TaskId}
+use Rattle.ks_record.specs.declared.record.TaskId.{TaskId}
 use Rattle.ks_assign.proofs.Tables.{count_more}
 use Rattle.ks_assign.proofs.loads.count.Goals as goal
 

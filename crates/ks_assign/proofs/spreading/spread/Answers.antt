@@ -1,5 +1,5 @@
 use Rattle.std.proofs.Common.{◌≡◌, ℕ, sym, ap, subst, true}
-use Rattle.ks_row.specs.declared.record.TaskId.{TaskId}
+use Rattle.ks_record.specs.declared.record.TaskId.{TaskId}
 use Rattle.ks_assign.specs.Placement.{Places, all_even, by_client}
 use Rattle.ks_assign.proofs.Even.{spread_more, even_nil}
 use Rattle.ks_assign.proofs.spreading.spread.Goals as goal

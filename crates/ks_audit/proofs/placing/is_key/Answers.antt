@@ -1,5 +1,5 @@
 use Rattle.std.proofs.Common.{◌≡◌, ◌∙◌}
-use Rattle.ks_row.specs.Texts.{key_from}
+use Rattle.ks_record.specs.Texts.{key_from}
 use Rattle.ks_audit.proofs.Topics.{spelled_by}
 use Rattle.ks_audit.proofs.placing.is_key.Goals as goal
 

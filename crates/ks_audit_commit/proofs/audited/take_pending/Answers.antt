@@ -15,7 +15,7 @@ take_order-requires-clause-taking g c =
     let d = draft_of c.args.topology.now in
     let setup = setup_of g.W.Work.plan c.args.cluster.now in
     let are = c.inputs-inputs.ensures ∙ inputs_there d c.requires.resting.of.well_formed c.args.pending.now.task.sub ∙ ap (λ (q : TaskPlan). q.inputs c.args.pending.now.task.sub) (sym c.requires.work) in
-    taking_begins d setup c.args.cluster.now.journal c.args.pending.now c.args.task.now c.requires.resting c.inputs-inputs.result.now are (g.met.W.Work.network _) c.journal-journal.ensures.history
+    taking_begins d setup c.args.cluster.now.journal c.args.pending.now c.args.task.now c.requires.resting c.inputs-inputs.result.now are (g.met.W.Work.network _) c.is_history.ensures.history
     (ap (may_go_on (task_view c.args.task.now).inputs c.inputs-inputs.result.now) (sym c.as_slice.ensures) ∙ sym c.may_go_on.ensures ∙ c.if-not-may_go_on.false)
 
 pub returns-then-not-may_go_on : goal.returns-then-not-may_go_on

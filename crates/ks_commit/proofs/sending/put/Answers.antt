@@ -10,15 +10,15 @@ use Rattle.ks_commit.proofs.sending.put.Goals as goal
 
 pub append-requires-clause-free : goal.append-requires-clause-free
 append-requires-clause-free g c =
-    append_free g.W.Work.plan c.args.cluster.now c.add.new.cluster c.args.publisher.now c.args.task c.args.part c.args.recs.now c.number-before.result Done c.requires.sending (c.number-before.ensures ∙ ap (number_in c.args.part) c.as_slice.ensures.value) c.in_ok-add.ensures.ok
+    append_free g.W.Work.plan c.args.cluster.now c.add.new.cluster c.args.publisher.now c.args.task c.args.part c.args.recs.now c.number_at-before.result Done c.requires.sending (c.number_at-before.ensures ∙ ap (number_in c.args.part) c.as_slice.ensures.value) c.in_ok-add.ensures.ok
 
 pub returns-clause-sends : goal.returns-clause-sends
-returns-clause-sends g c = put_sends g.W.Work.plan c.args.cluster.now c.add.new.cluster c.args.publisher.now c.args.task c.args.part c.args.recs.now c.number-before.result Done c.requires.sending (c.number-before.ensures ∙ ap (number_in c.args.part) c.as_slice.ensures.value) c.in_ok-add.ensures.ok c.append.new.cluster _ c.in_ok-append.ensures.ok
+returns-clause-sends g c = put_sends g.W.Work.plan c.args.cluster.now c.add.new.cluster c.args.publisher.now c.args.task c.args.part c.args.recs.now c.number_at-before.result Done c.requires.sending (c.number_at-before.ensures ∙ ap (number_in c.args.part) c.as_slice.ensures.value) c.in_ok-add.ensures.ok c.append.new.cluster _ c.in_ok-append.ensures.ok
 
 pub overflow_add-now : goal.overflow_add-now
 overflow_add-now g c =
-    let s = put_sends g.W.Work.plan c.args.cluster.now c.add.new.cluster c.args.publisher.now c.args.task c.args.part c.args.recs.now c.number-before.result Done c.requires.sending (c.number-before.ensures ∙ ap (number_in c.args.part) c.as_slice.ensures.value) c.in_ok-add.ensures.ok c.append.new.cluster _ c.in_ok-append.ensures.ok in
-    let few = put_fits g.W.Work.plan c.args.cluster.now c.append.new.cluster c.args.publisher.now c.args.task c.args.part c.args.recs.now c.number-before.result c.requires.sending (c.number-before.ensures ∙ ap (number_in c.args.part) c.as_slice.ensures.value) s in
+    let s = put_sends g.W.Work.plan c.args.cluster.now c.add.new.cluster c.args.publisher.now c.args.task c.args.part c.args.recs.now c.number_at-before.result Done c.requires.sending (c.number_at-before.ensures ∙ ap (number_in c.args.part) c.as_slice.ensures.value) c.in_ok-add.ensures.ok c.append.new.cluster _ c.in_ok-append.ensures.ok in
+    let few = put_fits g.W.Work.plan c.args.cluster.now c.append.new.cluster c.args.publisher.now c.args.task c.args.part c.args.recs.now c.number_at-before.result c.requires.sending (c.number_at-before.ensures ∙ ap (number_in c.args.part) c.as_slice.ensures.value) s in
     let is : c.index-end.result.now ≡ get_or c.in_ok-ends.ends.items 0 0 = get_or_read c.in_ok-ends.ends.items _ _ (omega (arith, ap length c.in_ok-ends.ensures)) c.index-end.ensures 0 in
     let end : c.index-end.result.now ≡ end_of (state_of g.W.Work.plan c.append.new.cluster) c.args.part = is ∙ ap (λ l. get_or l 0 0) c.in_ok-ends.ensures in
     omega (arith, few, end)
@@ -26,9 +26,9 @@ overflow_add-now g c =
 pub returns-clause-sending : goal.returns-clause-sending
 returns-clause-sending g c =
     let plan = g.W.Work.plan in
-    let s = put_sends g.W.Work.plan c.args.cluster.now c.add.new.cluster c.args.publisher.now c.args.task c.args.part c.args.recs.now c.number-before.result Done c.requires.sending (c.number-before.ensures ∙ ap (number_in c.args.part) c.as_slice.ensures.value) c.in_ok-add.ensures.ok c.append.new.cluster _ c.in_ok-append.ensures.ok in
+    let s = put_sends g.W.Work.plan c.args.cluster.now c.add.new.cluster c.args.publisher.now c.args.task c.args.part c.args.recs.now c.number_at-before.result Done c.requires.sending (c.number_at-before.ensures ∙ ap (number_in c.args.part) c.as_slice.ensures.value) c.in_ok-add.ensures.ok c.append.new.cluster _ c.in_ok-append.ensures.ok in
     sending_more plan c.args.cluster.now c.append.new.cluster c.args.publisher.now c.requires.sending (c.args.part ∷ []) ((c.args.task, c.args.part, c.args.recs.now) ∷ []) [] s _ refl refl refl
-    (numbers_rise (state_of plan c.args.cluster.now) (state_of plan c.append.new.cluster) c.args.publisher.now.worker c.args.publisher.now.epoch c.args.part c.args.task c.args.recs.now c.number-before.result _ c.args.publisher.now.numbers.items c.in_ok-numbers.numbers.items
-    c.requires.sending.numbers (c.number-before.ensures ∙ ap (number_in c.args.part) c.as_slice.ensures.value) refl (c.in_ok-numbers.ensures ∙ (ap (λ (n : ℕ). renumber c.args.part (c.number-before.result + n) c.as_slice-2.result.now) c.len.ensures
-    ∙ ap (renumber c.args.part (c.number-before.result + length c.args.recs.now)) c.as_slice-2.ensures.value))
+    (numbers_rise (state_of plan c.args.cluster.now) (state_of plan c.append.new.cluster) c.args.publisher.now.worker c.args.publisher.now.epoch c.args.part c.args.task c.args.recs.now c.number_at-before.result _ c.args.publisher.now.numbers.items c.in_ok-numbers.numbers.items
+    c.requires.sending.numbers (c.number_at-before.ensures ∙ ap (number_in c.args.part) c.as_slice.ensures.value) refl (c.in_ok-numbers.ensures ∙ (ap (λ (n : ℕ). renumber c.args.part (c.number_at-before.result + n) c.as_slice-2.result.now) c.len.ensures
+    ∙ ap (renumber c.args.part (c.number_at-before.result + length c.args.recs.now)) c.as_slice-2.ensures.value))
     (put_counts plan c.args.cluster.now c.append.new.cluster c.args.publisher.now (c.args.part ∷ []) ((c.args.task, c.args.part, c.args.recs.now) ∷ []) c.requires.sending s))

@@ -3,8 +3,8 @@ use Rattle.ks_history.specs.declared.transaction.Pending.{Pending}
 use Rattle.ks_history.specs.declared.journal.Reply.TheVariants.{Done}
 use Rattle.ks_history.specs.History.{are_offsets}
 use Rattle.ks_history.specs.State.{IsPart}
-use Rattle.ks_row.specs.Records.{Record as Rec}
-use Rattle.ks_row.specs.declared.record.PartId.{PartId}
+use Rattle.ks_record.specs.Records.{Record as Rec}
+use Rattle.ks_record.specs.declared.record.PartId.{PartId}
 use Rattle.std.specs.List.{All}
 use Rattle.ks_commit.specs.Work.{work_view}
 use Rattle.ks_cluster.specs.View.{setup_of, state_of}

@@ -1,5 +1,5 @@
 use Rattle.std.proofs.Common.{sym, subst, ◌∙◌}
-use Rattle.ks_row.specs.Texts.{IsName}
+use Rattle.ks_record.specs.Texts.{IsName}
 use Rattle.ks_expr.proofs.Refs.{set_fits, insert_fits}
 use Rattle.ks_expr.proofs.projection.put_field.Goals as goal
 

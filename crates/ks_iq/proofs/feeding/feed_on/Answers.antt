@@ -1,6 +1,6 @@
 use Rattle.std.proofs.Common.{◌≤◌, ap, subst, ◌∙◌}
 use Rattle.std.proofs.lemmas.Result.{on_ok_weaker}
-use Rattle.ks_row.specs.declared.record.TaskId.{TaskId}
+use Rattle.ks_record.specs.declared.record.TaskId.{TaskId}
 use Rattle.ks_law_commit.specs.Bounds.{stable_of}
 use Rattle.ks_shared.specs.Calls.{setup_in}
 use Rattle.ks_worker_client.specs.Calls.{state_seen}

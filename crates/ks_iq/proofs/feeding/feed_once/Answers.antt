@@ -1,5 +1,5 @@
 use Rattle.std.proofs.Common.{ap, refl, ◌∙◌}
-use Rattle.ks_row.specs.declared.record.TaskId.{TaskId}
+use Rattle.ks_record.specs.declared.record.TaskId.{TaskId}
 use Rattle.ks_shared.specs.Calls.{setup_in}
 use Rattle.ks_law_restore.specs.Replicas.{fed_replica}
 use Rattle.ks_standby.specs.Replicas.{replica_view}

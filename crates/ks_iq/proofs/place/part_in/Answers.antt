@@ -1,7 +1,7 @@
 use Rattle.std.proofs.Common.{◌≡◌, ◌∙◌, ap, arith}
 use Rattle.ks_plan.specs.declared.node.TopicInfo.{TopicInfo}
 use Rattle.ks_expr.specs.Keys.{spread_part}
-use Rattle.ks_task_step.specs.Steps.{part_in}
+use Rattle.ks_task_processing.specs.Steps.{part_in}
 use Rattle.ks_iq.proofs.Placed.{at_number, past_all}
 use Rattle.ks_iq.proofs.place.part_in.Goals as goal
 

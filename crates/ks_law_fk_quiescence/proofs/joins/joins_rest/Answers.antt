@@ -1,7 +1,7 @@
 use Rattle.ks_plan.specs.Plan.{plan_of}
 use Rattle.ks_plan.specs.Plan.Kind.{ForeignKeyJoin}
-use Rattle.ks_law_quiescence.proofs.Fits.{node_stands}
-use Rattle.ks_law_quiescence.proofs.WellFormed.{well_formed_fits}
+use Rattle.ks_law_topology.proofs.Fits.{node_stands}
+use Rattle.ks_law_topology.proofs.WellFormed.{well_formed_fits}
 use Rattle.ks_law_fk_quiescence.proofs.JoinsRest.{hashes_rest, join_rests}
 use Rattle.ks_law_fk_quiescence.proofs.joins.joins_rest.Goals as goal
 

@@ -1,7 +1,7 @@
 use Rattle.ks_plan.specs.Plan.{plan_of}
 use Rattle.ks_plan.specs.Plan.Kind.{ForeignKeyJoin}
-use Rattle.ks_law_quiescence.proofs.Fits.{node_stands}
-use Rattle.ks_law_quiescence.proofs.WellFormed.{well_formed_fits}
+use Rattle.ks_law_topology.proofs.Fits.{node_stands}
+use Rattle.ks_law_topology.proofs.WellFormed.{well_formed_fits}
 use Rattle.ks_law_fk_quiescence.proofs.EachState.{asked_stands, answered_stands, kept_stands}
 use Rattle.ks_law_fk_quiescence.proofs.states.join_messages_stand.Goals as goal
 

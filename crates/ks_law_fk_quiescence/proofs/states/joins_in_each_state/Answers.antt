@@ -1,7 +1,7 @@
 use Rattle.ks_plan.specs.Plan.{plan_of}
 use Rattle.ks_plan.specs.Plan.Kind.{ForeignKeyJoin}
-use Rattle.ks_law_quiescence.proofs.Fits.{node_stands}
-use Rattle.ks_law_quiescence.proofs.WellFormed.{well_formed_fits}
+use Rattle.ks_law_topology.proofs.Fits.{node_stands}
+use Rattle.ks_law_topology.proofs.WellFormed.{well_formed_fits}
 use Rattle.ks_law_fk_quiescence.proofs.EachState.{hashes_are_had, hashes_follow, others_are_forgotten, present_is_answered, results_follow, gone_is_told, alone_is_joined}
 use Rattle.ks_law_fk_quiescence.proofs.states.joins_in_each_state.Goals as goal
 

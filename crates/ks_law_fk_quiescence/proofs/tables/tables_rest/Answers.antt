@@ -1,7 +1,7 @@
 use Rattle.std.proofs.Common.{ap, ◌∙◌}
 use Rattle.ks_plan.specs.Plan.{plan_of}
-use Rattle.ks_law_quiescence.proofs.Fits.{node_stands}
-use Rattle.ks_law_quiescence.proofs.WellFormed.{well_formed_fits}
+use Rattle.ks_law_topology.proofs.Fits.{node_stands}
+use Rattle.ks_law_topology.proofs.WellFormed.{well_formed_fits}
 use Rattle.ks_law_fk_quiescence.specs.AtRest.{is_table}
 use Rattle.ks_law_fk_quiescence.proofs.TableInputs.{table_inputs}
 use Rattle.ks_law_fk_quiescence.proofs.TablesRest.{tables_rest}

@@ -4,7 +4,7 @@ use Rattle.ks_def_tasks.specs.Tasks.{machine, inputs_of}
 use Rattle.ks_def_tasks.proofs.Names.{names}
 use Rattle.ks_def_runs.proofs.Runs.{Follows-run}
 use Rattle.ks_law_quiescence.specs.States.{state_of}
-use Rattle.ks_law_quiescence.proofs.Fits.{node_stands}
+use Rattle.ks_law_topology.proofs.Fits.{node_stands}
 use Rattle.ks_law_quiescence.proofs.SentGroups.{deltas_are_rows, each_beginning}
 use Rattle.ks_law_quiescence.proofs.Received.{grouped_run}
 use Rattle.ks_law_quiescence.proofs.groups.table_groups_are_sums.Goals as goal

@@ -1,5 +1,5 @@
 use Rattle.ks_plan.specs.Plan.{plan_of}
-use Rattle.ks_law_quiescence.proofs.WellFormed.{well_formed_fits}
+use Rattle.ks_law_topology.proofs.WellFormed.{well_formed_fits}
 use Rattle.ks_law_quiescence.proofs.PlainRest.{plain_rests}
 use Rattle.ks_law_quiescence.proofs.rest.plain_tables_rest.Goals as goal
 

@@ -1,7 +1,7 @@
 use Rattle.ks_plan.specs.Plan.{plan_of}
 use Rattle.ks_plan.specs.Plan.Kind.{StreamAggregate}
-use Rattle.ks_law_quiescence.proofs.Fits.{node_stands}
-use Rattle.ks_law_quiescence.proofs.WellFormed.{well_formed_fits}
+use Rattle.ks_law_topology.proofs.Fits.{node_stands}
+use Rattle.ks_law_topology.proofs.WellFormed.{well_formed_fits}
 use Rattle.ks_law_quiescence.proofs.StreamsWhole.{stream_whole}
 use Rattle.ks_law_quiescence.proofs.streams.stream_groups_are_whole.Goals as goal
 

@@ -1,8 +1,8 @@
 use Rattle.ks_plan.specs.Plan.{plan_of}
 use Rattle.ks_plan.specs.Plan.Kind.{TableFilter, TableMap, KeyJoin}
 use Rattle.ks_def_tasks.specs.Tasks.{inputs_of}
-use Rattle.ks_law_quiescence.proofs.Fits.{node_stands}
-use Rattle.ks_law_quiescence.proofs.WellFormed.{well_formed_fits}
+use Rattle.ks_law_topology.proofs.Fits.{node_stands}
+use Rattle.ks_law_topology.proofs.WellFormed.{well_formed_fits}
 use Rattle.ks_law_quiescence.proofs.Derived.{filter_follows, map_follows, join_follows}
 use Rattle.ks_law_quiescence.proofs.tables.derived_tables_follow.Goals as goal
 

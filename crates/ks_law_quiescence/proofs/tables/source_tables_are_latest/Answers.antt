@@ -1,8 +1,8 @@
 use Rattle.ks_plan.specs.Plan.{plan_of}
 use Rattle.ks_plan.specs.Plan.Kind.{TableSource}
 use Rattle.ks_def_tasks.specs.Tasks.{inputs_of}
-use Rattle.ks_law_quiescence.proofs.Fits.{each_at, node_stands}
-use Rattle.ks_law_quiescence.proofs.WellFormed.{well_formed_fits}
+use Rattle.ks_law_topology.proofs.Fits.{each_at, node_stands}
+use Rattle.ks_law_topology.proofs.WellFormed.{well_formed_fits}
 use Rattle.ks_law_quiescence.proofs.Sources.{latest_run}
 use Rattle.ks_law_quiescence.proofs.tables.source_tables_are_latest.Goals as goal
 

@@ -1,8 +1,8 @@
 use Rattle.ks_plan.specs.Plan.{plan_of}
 use Rattle.ks_plan.specs.Plan.Kind.{Windowed}
 use Rattle.ks_law_quiescence.specs.States.{state_of}
-use Rattle.ks_law_quiescence.proofs.Fits.{node_stands, each_at}
-use Rattle.ks_law_quiescence.proofs.WellFormed.{well_formed_fits}
+use Rattle.ks_law_topology.proofs.Fits.{node_stands, each_at}
+use Rattle.ks_law_topology.proofs.WellFormed.{well_formed_fits}
 use Rattle.ks_law_quiescence.proofs.WindowsOnce.{pairs_bound}
 use Rattle.ks_law_quiescence.proofs.windows.window_pairs_are_few.Goals as goal
 

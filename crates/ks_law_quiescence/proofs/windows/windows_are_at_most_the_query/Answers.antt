@@ -1,8 +1,8 @@
 use Rattle.std.proofs.Common.{◌<◌, ◌+◌, length, arith}
 use Rattle.ks_plan.specs.Plan.{plan_of}
 use Rattle.ks_plan.specs.Plan.Kind.{Windowed}
-use Rattle.ks_law_quiescence.proofs.Fits.{node_stands, each_at, stands_within}
-use Rattle.ks_law_quiescence.proofs.WellFormed.{well_formed_fits}
+use Rattle.ks_law_topology.proofs.Fits.{node_stands, each_at, stands_within}
+use Rattle.ks_law_topology.proofs.WellFormed.{well_formed_fits}
 use Rattle.ks_law_quiescence.proofs.WindowsWhole.{window_exceeded}
 use Rattle.ks_law_quiescence.proofs.windows.windows_are_at_most_the_query.Goals as goal
 

@@ -7,9 +7,9 @@ use Rattle.ks_run_output.specs.Bytes.{AppendsFront}
 use Rattle.ks_run_output.specs.Texts.{bad_words_text}
 use Rattle.ks_words.specs.declared.command.Command.{Command}
 use Rattle.ks_words.specs.declared.command.Command.TheVariants.{Run, Load, Ask}
-use Rattle.ks_run.specs.Answers.{IsRefused, IsBadAsk}
-use Rattle.ks_run.specs.Commands.{HasBadAsk, HasValidJob, IsRun, IsJudgedBy, is_read_ahead, job_bytes, placing_by, wanted_of}
-use Rattle.ks_run.specs.Journals.{HasJournal, IsSettledRun, IsLateRun, IsCollidedRun, IsWithoutCollision, IsEmptyIf}
+use Rattle.ks_run_verdict.specs.Answers.{IsRefused, IsBadAsk}
+use Rattle.ks_run_verdict.specs.Commands.{HasBadAsk, HasValidJob, IsRun, IsJudgedBy, is_read_ahead, job_bytes, placing_by, wanted_of}
+use Rattle.ks_run_verdict.specs.Journals.{HasJournal, IsSettledRun, IsLateRun, IsCollidedRun, IsWithoutCollision, IsEmptyIf}
 use Rattle.ks_run.proofs.Kept.{no_journal}
 use Rattle.ks_run.proofs.command.run_command.Goals as goal
 

@@ -8,9 +8,9 @@ use Rattle.ks_def_tasks.specs.Rules.{rules_of}
 use Rattle.ks_words.specs.declared.command.Command.{Command}
 use Rattle.ks_run_output.specs.Bytes.{AppendsFront}
 use Rattle.ks_run_output.specs.Texts.{read_fault_text}
-use Rattle.ks_run.specs.Answers.{IsRefused, IsBadAsk}
-use Rattle.ks_run.specs.Commands.{HasBadAsk, HasValidJob, IsRun, IsJudgedBy, is_audit, is_read_ahead, job_bytes, placing_by, wanted_of}
-use Rattle.ks_run.specs.Journals.{HasJournal, IsSettledRun, IsLateRun, IsCollidedRun, TookFront, IsUndrained, IsEmptyIf, IsWithoutCollision}
+use Rattle.ks_run_verdict.specs.Answers.{IsRefused, IsBadAsk}
+use Rattle.ks_run_verdict.specs.Commands.{HasBadAsk, HasValidJob, IsRun, IsJudgedBy, is_audit, is_read_ahead, job_bytes, placing_by, wanted_of}
+use Rattle.ks_run_verdict.specs.Journals.{HasJournal, IsSettledRun, IsLateRun, IsCollidedRun, TookFront, IsUndrained, IsEmptyIf, IsWithoutCollision}
 use Rattle.ks_run.proofs.Audited.{is_status, not_other, not_plain, is_command, no_job, no_bad_ask}
 use Rattle.ks_run.proofs.Kept.{no_journal}
 use Rattle.ks_run.proofs.command.top.Goals as goal
@@ -165,3 +165,21 @@ returns-then-is_audit-clause-audited g c = λ told yes. c.audit_input.ensures.ye
 
 pub returns-clause-audited : goal.returns-clause-audited
 returns-clause-audited g c = λ e. absurd (true≢false (sym e ∙ (ap is_audit (sym c.in-Ok.ensures.told) ∙ (sym c.is_audit.ensures ∙ c.if-is_audit.false))))
+
+pub returns-then-is_audit-clause-audit_answer : goal.returns-then-is_audit-clause-audit_answer
+returns-then-is_audit-clause-audit_answer g c = λ told. c.audit_input.ensures.answer
+
+pub returns-clause-audit_answer : goal.returns-clause-audit_answer
+returns-clause-audit_answer g c = λ e. absurd (true≢false (sym e ∙ (ap is_audit (sym c.in-Ok.ensures.told) ∙ (sym c.is_audit.ensures ∙ c.if-is_audit.false))))
+
+pub returns-then-is_audit-clause-audit_write_fault : goal.returns-then-is_audit-clause-audit_write_fault
+returns-then-is_audit-clause-audit_write_fault g c = λ told. c.audit_input.ensures.write_fault
+
+pub returns-clause-audit_write_fault : goal.returns-clause-audit_write_fault
+returns-clause-audit_write_fault g c = λ e. absurd (true≢false (sym e ∙ (ap is_audit (sym c.in-Ok.ensures.told) ∙ (sym c.is_audit.ensures ∙ c.if-is_audit.false))))
+
+pub returns-then-is_audit-clause-audit_complete : goal.returns-then-is_audit-clause-audit_complete
+returns-then-is_audit-clause-audit_complete g c = λ told. c.audit_input.ensures.complete
+
+pub returns-clause-audit_complete : goal.returns-clause-audit_complete
+returns-clause-audit_complete g c = λ e. absurd (true≢false (sym e ∙ (ap is_audit (sym c.in-Ok.ensures.told) ∙ (sym c.is_audit.ensures ∙ c.if-is_audit.false))))

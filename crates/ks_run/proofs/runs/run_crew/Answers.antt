@@ -1,8 +1,8 @@
 use Rattle.std.proofs.Common.{inl, sym, subst, ◌∙◌}
 use Rattle.std.specs.Prelude.{IfSome}
 use Rattle.std.specs.Io.KnownBytes.{Appends}
-use Rattle.ks_run.specs.Journals.{IsGoodAsk}
-use Rattle.ks_run.specs.Told.{wanted_in}
+use Rattle.ks_run_verdict.specs.Journals.{IsGoodAsk}
+use Rattle.ks_run_verdict.specs.Told.{wanted_in}
 use Rattle.ks_run.proofs.Kept.{judged_query, judged_unanswered, asks_for}
 use Rattle.ks_run.proofs.runs.run_crew.Goals as goal
 

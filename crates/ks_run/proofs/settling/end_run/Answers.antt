@@ -23,22 +23,22 @@ returns-clause-made g c =
     )
 
 pub returns-in_err-text-clause-history : goal.returns-in_err-text-clause-history
-returns-in_err-text-clause-history g c = c.journal-journal.ensures.history
+returns-in_err-text-clause-history g c = c.is_history.ensures.history
 
 pub returns-in_err-text-clause-placed : goal.returns-in_err-text-clause-placed
-returns-in_err-text-clause-placed g c = c.journal-journal.ensures.placed
+returns-in_err-text-clause-placed g c = c.is_history.ensures.placed
 
 pub returns-in_err-text-clause-few : goal.returns-in_err-text-clause-few
-returns-in_err-text-clause-few g c = c.journal-journal.ensures.few
+returns-in_err-text-clause-few g c = c.is_history.ensures.few
 
 pub returns-in_err-push_tail-clause-history : goal.returns-in_err-push_tail-clause-history
-returns-in_err-push_tail-clause-history g c = c.journal-journal.ensures.history
+returns-in_err-push_tail-clause-history g c = c.is_history.ensures.history
 
 pub returns-in_err-push_tail-clause-placed : goal.returns-in_err-push_tail-clause-placed
-returns-in_err-push_tail-clause-placed g c = c.journal-journal.ensures.placed
+returns-in_err-push_tail-clause-placed g c = c.is_history.ensures.placed
 
 pub returns-in_err-push_tail-clause-few : goal.returns-in_err-push_tail-clause-few
-returns-in_err-push_tail-clause-few g c = c.journal-journal.ensures.few
+returns-in_err-push_tail-clause-few g c = c.is_history.ensures.few
 
 pub returns-clause-history : goal.returns-clause-history
 returns-clause-history g c = c.into_last_journal-journal.ensures.history

@@ -8,7 +8,7 @@ use Rattle.ks_history.specs.Machine.{IsNetwork}
 use Rattle.ks_history.specs.State.{Setup}
 use Rattle.ks_def_tasks.specs.Rules.{rules_of}
 use Rattle.ks_cluster.specs.View as kept
-use Rattle.ks_run.specs.Told.{told as told_of}
+use Rattle.ks_run_verdict.specs.Told.{told as told_of}
 use Rattle.ks_run.specs.Tails.{IsToldBy}
 use Rattle.ks_run.proofs.Settles.{nodes_ready, alone_ready, drained_setup, is_of, all_given}
 use Rattle.ks_run.proofs.Telling.{may_tell_on, is_quiet, reads_the, last_within, text_is}
@@ -37,7 +37,7 @@ judge-requires-clause-counts g c κs within =
 pub end_run-requires-clause-quiet : goal.end_run-requires-clause-quiet
 end_run-requires-clause-quiet g c κs within =
     is_quiet g.W.Work.plan g.H.Hash128.hash_of (draft_of c.args.topology.now) c.drain.new.cluster (drained_setup g.W.Work.plan c.args.cluster c.drain.new.cluster c.in_ok-drain.ensures.more ∙ c.requires.setup) c.nodes-nodes.ensures.well_formed
-    c.journal-journal.ensures.history c.in_ok-drain.ensures.settled
+    c.is_history.ensures.history c.in_ok-drain.ensures.settled
 
 pub end_run-requires-clause-topology : goal.end_run-requires-clause-topology
 end_run-requires-clause-topology g c κs within =
@@ -51,7 +51,7 @@ end_run-requires-clause-may g c κs within =
     let d = draft_of c.args.topology.now in
     let setup = drained_setup g.W.Work.plan c.args.cluster c.drain.new.cluster c.in_ok-drain.ensures.more ∙ c.requires.setup in
     may_tell_on g.W.Work.plan d c.args.cluster c.drain.new.cluster c.args.wanted (reads_the g.H.Hash128.hash_of d (kept.setup_of g.W.Work.plan c.drain.new.cluster) setup)
-    (subst (λ (s : Setup). IsNetwork s.plan) (sym setup) (works_are_networks (rules_of g.H.Hash128.hash_of) (plan_of d))) c.journal-journal.ensures.history c.in_ok-drain.ensures.more c.requires.may
+    (subst (λ (s : Setup). IsNetwork s.plan) (sym setup) (works_are_networks (rules_of g.H.Hash128.hash_of) (plan_of d))) c.is_history.ensures.history c.in_ok-drain.ensures.more c.requires.may
 
 pub returns : goal.returns
 returns g c =
@@ -60,7 +60,7 @@ returns g c =
     let drained = c.drain.new.cluster in
     let setup = drained_setup g.W.Work.plan c.args.cluster drained c.in_ok-drain.ensures.more ∙ c.requires.setup in
     let top = reads_the g.H.Hash128.hash_of d (kept.setup_of g.W.Work.plan drained) setup in
-    let may = may_tell_on g.W.Work.plan d c.args.cluster drained c.args.wanted top (subst (λ (s : Setup). IsNetwork s.plan) (sym setup) (works_are_networks rules (plan_of d))) c.journal-journal.ensures.history c.in_ok-drain.ensures.more c.requires.may in
+    let may = may_tell_on g.W.Work.plan d c.args.cluster drained c.args.wanted top (subst (λ (s : Setup). IsNetwork s.plan) (sym setup) (works_are_networks rules (plan_of d))) c.is_history.ensures.history c.in_ok-drain.ensures.more c.requires.may in
     IfOk-weaker c.end_run.result _ _
     (λ a h.
     let told = subst (λ t. IsToldBy d (kept.state_of g.W.Work.plan drained) c.args.wanted drained.journal t a.status a.text.items) c.in_ok-verdict.ensures h.0 in

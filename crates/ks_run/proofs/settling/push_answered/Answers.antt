@@ -5,7 +5,7 @@ use Rattle.ks_history.specs.Reads.{end_of}
 use Rattle.ks_cluster.specs.View.{setup_of, state_of}
 use Rattle.ks_iq.specs.Asks.{part_of_ask}
 use Rattle.ks_run_ask.specs.Texts.{answer_line}
-use Rattle.ks_run_workers.specs.Asking.{last_position}
+use Rattle.ks_iq.specs.Answered.{last_position}
 use Rattle.ks_run.proofs.Telling.{last_within, on_ok}
 use Rattle.ks_run.proofs.settling.push_answered.Goals as goal
 

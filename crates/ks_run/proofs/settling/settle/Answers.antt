@@ -7,14 +7,14 @@ use Rattle.ks_topo.specs.Topologies.{draft_of}
 use Rattle.ks_plan.specs.Layout.{tasks}
 use Rattle.ks_plan.specs.Plan.{plan_of}
 use Rattle.ks_job.specs.Items.{item_views}
-use Rattle.ks_run_workers.specs.Members.{placing_of}
-use Rattle.ks_run.proofs.Counts.{shown_counts}
+use Rattle.ks_run_feed.specs.Wanted.{placing_of}
+use Rattle.ks_job_source.proofs.Counts.{shown_counts}
 use Rattle.ks_run.proofs.Settles.{setup_is, setup_made, has_begun, places_ready, records_ready, past_ready, nodes_ready, filled_start, filled_wanted, ran_so}
 use Rattle.ks_def_tasks.specs.Rules.{rules_of}
 use Rattle.ks_cluster.specs.View.{state_of}
 use Rattle.ks_iq.specs.Asks.{ask_fault}
 use Rattle.ks_run_workers.specs.Asked.{AreAnswered}
-use Rattle.ks_run.specs.Told.{wanted_in}
+use Rattle.ks_run_verdict.specs.Told.{wanted_in}
 use Rattle.ks_run.specs.Tails.{wanted_of, tail_of, MayTell}
 use Rattle.ks_run.proofs.Telling.{good_question, refusal_is, wanted_so, may_tell, ends_so}
 use Rattle.ks_run.proofs.settling.settle.Goals as goal

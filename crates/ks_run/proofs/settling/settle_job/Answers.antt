@@ -9,10 +9,10 @@ use Rattle.ks_topo.specs.Topologies.{plan_in}
 use Rattle.ks_def_tasks.specs.Rules.{rules_of}
 use Rattle.ks_job.specs.Items.{item_views}
 use Rattle.ks_job_source.specs.Opening.{IsReadable}
-use Rattle.ks_run_workers.specs.Members.{placing_of}
+use Rattle.ks_run_feed.specs.Wanted.{placing_of}
 use Rattle.ks_task.specs.Placing.{placed_by}
 use Rattle.ks_task.specs.contracts.work.TaskWork as TaskWork
-use Rattle.ks_run.specs.Told.{wanted_in}
+use Rattle.ks_run_verdict.specs.Told.{wanted_in}
 use Rattle.ks_run.specs.Settling.{RunsJob}
 use Rattle.ks_run.proofs.settling.settle_job.Goals as goal
 

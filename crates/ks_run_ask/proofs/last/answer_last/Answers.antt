@@ -1,6 +1,6 @@
 use Rattle.std.proofs.Common.{ℕ, ◌∙◌, sym, ap, subst, length}
 use Rattle.std.specs.Prelude.{Ok}
-use Rattle.ks_row.specs.declared.record.TaskId.{TaskId}
+use Rattle.ks_record.specs.declared.record.TaskId.{TaskId}
 use Rattle.ks_topo.specs.Topologies.{draft_of}
 use Rattle.ks_history.specs.State.{has_task}
 use Rattle.ks_cluster.specs.View.{setup_of}

@@ -1,13 +1,18 @@
+use Rattle.std.proofs.Common.{◌≡◌, refl, sym, ap, subst, ◌∙◌}
 use Rattle.ks_topo.specs.Topologies.{draft_of}
 use Rattle.ks_def_tasks.specs.Rules.{rules_of}
-use Rattle.ks_run_audit.proofs.Sources.{both_ok, holds_audited}
+use Rattle.ks_run_audit.proofs.Answering.{opened, stopped}
 use Rattle.ks_run_audit.proofs.auditing.audit_by.Goals as goal
 
-pub returns-in-Ok-clause-yes : goal.returns-in-Ok-clause-yes
-returns-in-Ok-clause-yes g c =
-    let read = rw c.in-Ok.is at c.in_ok-open.ensures.read in
-    let first = g.S.Source.left c.args.input.now in
-    let left = g.S.Source.left c.open_audit.new.input in
-    let now = g.S.Source.left c.audit_open.new.input in
-    both_ok c.audit_open.result _ _ _ c.audit_open.ensures.yes c.audit_open.ensures.ended
-    (λ a audited ended s. ((audited s).end, holds_audited (rules_of g.H.Hash128.hash_of) (draft_of c.in-Ok.open.topology) first left now c.in-Ok.open.rest.items (read (ended s)) (audited s)))
+pub audit_open-requires-clause-few : goal.audit_open-requires-clause-few
+audit_open-requires-clause-few g c κs within = λ e. ((rw c.in-Ok.is at c.in_ok-open.ensures.read) e).few
+
+pub returns-in-Ok-clause-answer : goal.returns-in-Ok-clause-answer
+returns-in-Ok-clause-answer g c =
+    opened (rules_of g.H.Hash128.hash_of) (g.S.Source.left c.args.input.now) (g.S.Source.left c.open_audit.new.input) (g.S.Source.left c.audit_open.new.input) (g.S.Source.faults c.args.input.now) (g.S.Source.faults c.open_audit.new.input) (g.S.Source.faults c.audit_open.new.input)
+    c.in-Ok.open c.audit_open.result (rw c.in-Ok.is at c.in_ok-open.ensures.read) (rw c.in-Ok.is at c.in_ok-open.ensures.unended) c.audit_open.ensures.ended c.audit_open.ensures.unended c.in_ok-open.ensures.kept c.audit_open.ensures.kept
+
+pub returns-in_ok-print_bad_job-in-Err-clause-answer : goal.returns-in_ok-print_bad_job-in-Err-clause-answer
+returns-in_ok-print_bad_job-in-Err-clause-answer g c =
+    stopped (rules_of g.H.Hash128.hash_of) (g.S.Source.left c.args.input.now) (g.S.Source.left c.open_audit.new.input) (g.S.Source.faults c.args.input.now) (g.S.Source.faults c.open_audit.new.input)
+    c.in-Err.stop (rw c.in-Err.is at c.in_ok-open.ensures.stopped) c.in_ok-open.ensures.kept _ c.in_ok-print_bad_job-in-Err.ensures

@@ -1,39 +1,58 @@
-use Rattle.std.proofs.Common.{◌∙◌, arith}
-use Rattle.ks_run_audit.proofs.Sources.{lost_more, reads_out}
+use Rattle.std.proofs.Common.{◌≡◌, refl, sym, ap, subst, ◌∙◌, arith}
+use Rattle.ks_topo.specs.Topologies.{draft_of}
+use Rattle.ks_audit_source.specs.Opened.{IsReady}
+use Rattle.ks_run_audit.specs.Feeding.{HasLost, Loses, LosesFault, draft_in}
+use Rattle.ks_run_audit.proofs.Sources.{lost_none, lost_more, lost_fault}
 use Rattle.ks_run_audit.proofs.auditing.read_lines.Goals as goal
+
+pub loop-count-init : goal.loop-count-init
+loop-count-init g c = (
+  c.requires.sound,
+  refl,
+  c.requires.feed,
+  c.requires.some,
+  refl,
+  lost_none g.H.Hash128.hash_of (draft_in c.args.output.now) c.args.feed.now.taken (g.S.Source.left c.args.input.now) c.args.feed.now.line.items c.args.feed.now.lines c.args.output.now c.requires.sound c.requires.feed.plain,
+)
+
+pub feed_next-requires-clause-ready : goal.feed_next-requires-clause-ready
+feed_next-requires-clause-ready g c = subst (λ t. IsReady (draft_of t.now)) (sym c.loop-count.invariant.1) c.requires.ready
 
 pub returns-then-count-eq0-clause-reads : goal.returns-then-count-eq0-clause-reads
 returns-then-count-eq0-clause-reads g c =
     let was = c.loop-count.invariant in
-    let goes = rw c.in-Ok.is at c.in_ok-count.ensures.goes in
-    let loses = rw c.in-Ok.is at c.in_ok-count.ensures.loses in
-    let first = g.S.Source.left c.args.input.now in
-    let left = g.S.Source.left c.loop-count.input in
-    let now = g.S.Source.left c.feed_next.new.input in
-    let before = g.S.Source.faults c.args.input.now in
-    let mid = g.S.Source.faults c.loop-count.input in
-    let after = g.S.Source.faults c.feed_next.new.input in
-    let begun = c.args.feed.now.line.items in
-    let begins = c.feed_next.new.feed.line.items in
-    let lost = lost_more first left now before mid after c.in-Ok.count begun c.loop-count.feed.line.items begins c.args.output.now c.loop-count.output c.feed_next.new.output was.4 loses c.in_ok-count.ensures.kept in
-    reads_out g.H.Hash128.hash_of first now before after begun begins c.args.output.now c.feed_next.new.output goes.sound (goes.topology ∙ was.1) lost (loses.end (omega (arith, c.if-count-eq0.true)))
+    let hash = g.H.Hash128.hash_of in
+    let left = g.S.Source.left in
+    let d = ap (λ t. draft_of t.now) was.1 in
+    let loses = subst (λ x. Loses hash x c.in-Ok.count (left c.loop-count.input) (left c.feed_next.new.input) c.loop-count.feed.line.items c.feed_next.new.feed.line.items c.loop-count.feed.lines c.feed_next.new.feed.lines c.loop-count.output c.feed_next.new.output) d (rw c.in-Ok.is at c.in_ok-count.ensures.loses) in
+    record {
+      has_lost = lost_more hash (draft_in c.args.output.now) c.args.feed.now.taken (left c.args.input.now) (left c.loop-count.input) (left c.feed_next.new.input) c.loop-count.feed.taken c.feed_next.new.feed.taken c.in-Ok.count
+          c.args.feed.now.line.items c.loop-count.feed.line.items c.feed_next.new.feed.line.items c.args.feed.now.lines c.loop-count.feed.lines c.feed_next.new.feed.lines c.args.output.now c.loop-count.output c.feed_next.new.output was.5 loses (rw c.in-Ok.is at c.in_ok-count.ensures.taken);
+      end = loses.end (omega (arith, c.if-count-eq0.true));
+    }
+
+pub returns-in-Err-clause-refused : goal.returns-in-Err-clause-refused
+returns-in-Err-clause-refused g c =
+    let was = c.loop-count.invariant in
+    let hash = g.H.Hash128.hash_of in
+    let left = g.S.Source.left in
+    let d = ap (λ t. draft_of t.now) was.1 in
+    let fault = subst (λ x. LosesFault hash x c.loop-count.feed.taken (left c.loop-count.input) (left c.feed_next.new.input) c.loop-count.feed.line.items c.loop-count.feed.lines c.feed_next.new.feed.lines c.loop-count.output c.in-Err.fault) d (rw c.in-Err.is at c.in_ok-count.ensures.refused) in
+    lost_fault hash (draft_in c.args.output.now) c.args.feed.now.taken (left c.args.input.now) (left c.loop-count.input) (left c.feed_next.new.input) c.loop-count.feed.taken
+    c.args.feed.now.line.items c.loop-count.feed.line.items c.args.feed.now.lines c.loop-count.feed.lines c.feed_next.new.feed.lines c.args.output.now c.loop-count.output c.in-Err.fault was.5 fault
 
 pub loop-count-preserved : goal.loop-count-preserved
 loop-count-preserved g c =
     let was = c.loop-count.invariant in
-    let goes = rw c.in-Ok.is at c.in_ok-count.ensures.goes in
-    let loses = rw c.in-Ok.is at c.in_ok-count.ensures.loses in
-    let first = g.S.Source.left c.args.input.now in
-    let left = g.S.Source.left c.loop-count.input in
-    let now = g.S.Source.left c.feed_next.new.input in
-    let before = g.S.Source.faults c.args.input.now in
-    let mid = g.S.Source.faults c.loop-count.input in
-    let after = g.S.Source.faults c.feed_next.new.input in
-    let begun = c.args.feed.now.line.items in
-    let begins = c.feed_next.new.feed.line.items in (
-      goes.sound,
-      goes.topology ∙ was.1,
-      goes.within,
+    let hash = g.H.Hash128.hash_of in
+    let left = g.S.Source.left in
+    let d = ap (λ t. draft_of t.now) was.1 in
+    let loses = subst (λ x. Loses hash x c.in-Ok.count (left c.loop-count.input) (left c.feed_next.new.input) c.loop-count.feed.line.items c.feed_next.new.feed.line.items c.loop-count.feed.lines c.feed_next.new.feed.lines c.loop-count.output c.feed_next.new.output) d (rw c.in-Ok.is at c.in_ok-count.ensures.loses) in (
+      loses.feeds.sound,
+      loses.feeds.topology ∙ was.1,
+      rw c.in-Ok.is at c.in_ok-count.ensures.feed,
       omega (arith, c.in_ok-count.ensures.buf, was.3),
-      lost_more first left now before mid after c.in-Ok.count begun c.loop-count.feed.line.items begins c.args.output.now c.loop-count.output c.feed_next.new.output was.4 loses c.in_ok-count.ensures.kept,
+      c.in_ok-count.ensures.kept ∙ was.4,
+      lost_more hash (draft_in c.args.output.now) c.args.feed.now.taken (left c.args.input.now) (left c.loop-count.input) (left c.feed_next.new.input) c.loop-count.feed.taken c.feed_next.new.feed.taken c.in-Ok.count
+          c.args.feed.now.line.items c.loop-count.feed.line.items c.feed_next.new.feed.line.items c.args.feed.now.lines c.loop-count.feed.lines c.feed_next.new.feed.lines c.args.output.now c.loop-count.output c.feed_next.new.output was.5 loses (rw c.in-Ok.is at c.in_ok-count.ensures.taken),
     )

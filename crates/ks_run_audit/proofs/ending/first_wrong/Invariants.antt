@@ -1,10 +1,9 @@
-use Rattle.std.proofs.Common.{◌≡◌, length}
-use Rattle.ks_query.specs.Printed.{tables_text}
-use Rattle.ks_run_audit.specs.Outputs.{lines_of}
+use Rattle.std.proofs.Common.{length}
+use Rattle.ks_run_audit.proofs.Ends.{IsBehind}
 use Rattle.ks_run_audit.proofs.ending.first_wrong.Given as goal
 
 abbrev pub invariant-loop-rest : goal.invariant-loop-rest
-invariant-loop-rest l = (length l.rest ≡ length l.left) × (lines_of l.left ≡ tables_text l.rest → lines_of l.lines ≡ tables_text l.tables)
+invariant-loop-rest l = IsBehind l.tables l.rest l.lines l.left
 
 abbrev pub decreases-loop-rest : goal.decreases-loop-rest
 decreases-loop-rest l = length l.rest

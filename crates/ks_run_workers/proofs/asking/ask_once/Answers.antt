@@ -1,7 +1,7 @@
 use Rattle.std.proofs.Common.{ap, subst, refl, ◌∙◌, ◌≡◌, arith}
 use Rattle.ks_topo.specs.Topologies.{draft_of}
 use Rattle.ks_iq.specs.Readers.{IsTold}
-use Rattle.ks_run_workers.specs.Asking.{last_position}
+use Rattle.ks_iq.specs.Answered.{last_position}
 use Rattle.ks_run_workers.proofs.AskedOften.{asked_once, never_refused}
 use Rattle.ks_run_workers.proofs.asking.ask_once.Goals as goal
 

@@ -16,7 +16,7 @@ close-cluster-requires g c =
 
 pub returns : goal.returns
 returns g c = record {
-  history = c.journal-journal.ensures.history;
+  history = c.is_history.ensures.history;
   last = last_is (λ p. IsPrefix p.seen c.close-cluster.result.journal × (p.frame ≡ Some (frame_of c.close-cluster.result))) (c.args.first ∷ map (λ m. m.worker.state.session.client.pass) c.args.members.items) c.args.last
       (λ k p at. (
         subst (Each (λ n q. IsPrefix q.seen c.close-cluster.result.journal)) c.in_ok-passes.ensures.passes (λ n q there. let front = c.close-cluster.ensures.seen n q there in (front.0, sym front.1)) k p at,
@@ -25,5 +25,5 @@ returns g c = record {
   frame = c.close-cluster.ensures.frame;
   reserved = c.close-cluster.ensures.reserved c.args.first (first_is _ _ _ c.in_ok-passes.ensures.passes);
   replicas = all_standbys g.W.Work.plan c.args.shared.growing.first c.close-cluster.result c.args.members.items c.args.first (option_list c.args.last) c.in_ok-passes.passes.items c.new-replicas.result.items c.passes_of.new.replicas.items
-      c.requires.workers c.close-cluster.ensures.frame c.in_ok-passes.ensures.passes c.close-cluster.ensures.frames (λ k p at. let front = c.close-cluster.ensures.seen k p at in (front.0, sym front.1)) c.journal-journal.ensures.history c.new-replicas.ensures.items c.in_ok-passes.ensures.replicas;
+      c.requires.workers c.close-cluster.ensures.frame c.in_ok-passes.ensures.passes c.close-cluster.ensures.frames (λ k p at. let front = c.close-cluster.ensures.seen k p at in (front.0, sym front.1)) c.is_history.ensures.history c.new-replicas.ensures.items c.in_ok-passes.ensures.replicas;
 }

@@ -8,7 +8,7 @@ use Rattle.ks_run_workers.proofs.AskedBeside.{asker_keys, asker_long, answered}
 use Rattle.ks_topo.specs.Topologies.{draft_of}
 use Rattle.ks_growing.specs.Passes.{IsPass}
 use Rattle.ks_shared.specs.Reserved.{is_callers}
-use Rattle.ks_run_workers.proofs.Produced.{still_first}
+use Rattle.ks_run_feed.proofs.Produced.{still_first}
 use Rattle.ks_run_workers.proofs.Left.{workers_of}
 use Rattle.ks_run_workers.proofs.LockPasses.{closed, passes_after, members_after}
 use Rattle.ks_run_workers.proofs.closing.work_and_close.Goals as goal

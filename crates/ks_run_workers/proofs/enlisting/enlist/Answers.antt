@@ -1,6 +1,7 @@
 use Rattle.std.proofs.Common.{◌≡◌, arith}
 use Rattle.std.specs.Vec.Iter.{into_iter_items}
-use Rattle.ks_run_workers.specs.Members.{IsEnlisted, placing_of}
+use Rattle.ks_run_workers.specs.Members.{IsEnlisted}
+use Rattle.ks_run_feed.specs.Wanted.{placing_of}
 use Rattle.ks_run_workers.proofs.Enlisted.{enlisted_one, all_enlisted, fewer, as_many, all_pushed}
 use Rattle.ks_run_workers.proofs.enlisting.enlist.Goals as goal
 

@@ -1,7 +1,8 @@
 use Rattle.std.proofs.Common.{◌≡◌, ◌++◌, ◌+◌, ◌*◌, ◌≤◌, map, length}
 use Rattle.std.specs.List.{All}
 use Rattle.std.specs.Vec.Iter.{into_iter_items, into_iter_len}
-use Rattle.ks_run_workers.specs.Members.{IsEnlisted, placing_of}
+use Rattle.ks_run_workers.specs.Members.{IsEnlisted}
+use Rattle.ks_run_feed.specs.Wanted.{placing_of}
 use Rattle.ks_run_workers.proofs.enlisting.enlist.Given as goal
 
 -- the workers so far have the passes so far; there are gates for those that are left

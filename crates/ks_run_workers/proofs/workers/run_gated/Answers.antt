@@ -6,9 +6,10 @@ use Rattle.ks_cluster.specs.View.{setup_of}
 use Rattle.ks_growing.specs.Passes.{IsFresh}
 use Rattle.ks_shared.specs.Calls.{frame_of}
 use Rattle.ks_run_workers.specs.Asked.{option_list, AreAnswered}
-use Rattle.ks_run_workers.specs.Members.{ArePasses, placing_of}
-use Rattle.ks_run_workers.proofs.Fresh.{first_fresh, fresh_seen, fresh_feeder}
-use Rattle.ks_run_workers.proofs.Produced.{none_parked}
+use Rattle.ks_run_workers.specs.Members.{ArePasses}
+use Rattle.ks_run_feed.specs.Wanted.{placing_of}
+use Rattle.ks_run_feed.proofs.Fresh.{first_fresh, fresh_seen, fresh_feeder}
+use Rattle.ks_run_feed.proofs.Produced.{none_parked}
 use Rattle.ks_run_workers.proofs.Enlisted.{are_workers, others_fresh, others_are_passes, all_may_run, members_long}
 use Rattle.ks_run_workers.proofs.LockPasses.{worked}
 use Rattle.ks_run_workers.proofs.TakenLast.{others_counted, taken_split, taken_long, asker_long, asks_the, none_answered, each_front, passes_fit, one_for_asker, no_more, some_work, all_counted, asker_may}

@@ -18,7 +18,7 @@ take_fetched-requires-clause-input g c = subst (λ q. has_topic c.args.topic (q.
 
 pub returns-then-next-from : goal.returns-then-next-from
 returns-then-next-from g c =
-    fetch_stops (draft_of c.args.topology.now) (setup_of g.W.Work.plan c.args.cluster.now) c.args.cluster.now.journal c.args.topic c.requires.may.of.may c.journal-journal.ensures.history c.requires.may.idle
+    fetch_stops (draft_of c.args.topology.now) (setup_of g.W.Work.plan c.args.cluster.now) c.args.cluster.now.journal c.args.topic c.requires.may.of.may c.is_history.ensures.history c.requires.may.idle
     c.args.task.now c.id.result c.input_position-from.result c.in_ok-recs.next c.requires.reader c.id.ensures c.input_position-from.ensures c.in_ok-recs.ensures.next c.if-next-from.true
 
 pub returns : goal.returns
@@ -29,7 +29,7 @@ returns g c =
     subst (λ q. has_topic c.args.topic (q.inputs (task_view c.args.task.now).task.sub) ≡ true) c.requires.may.of.work c.requires.reader.input in
     let there : has_topic c.args.topic (input_numbers (plan_in c.args.topology.now) (task_view c.take_fetched.new.task).task.sub) ≡ true =
     still_input (input_numbers (plan_in c.args.topology.now)) plan c.args.topic (task_view c.args.task.now) (task_view c.take_fetched.new.task) c.as_slice.result.now c.in_ok-take_fetched.ensures.view input in
-    fetch_moves d (setup_of g.W.Work.plan c.args.cluster.now) c.args.cluster.now.journal c.args.topic c.requires.may.of.may c.journal-journal.ensures.history c.requires.may.idle
+    fetch_moves d (setup_of g.W.Work.plan c.args.cluster.now) c.args.cluster.now.journal c.args.topic c.requires.may.of.may c.is_history.ensures.history c.requires.may.idle
     plan c.args.task.now c.take_fetched.new.task c.skip.new.self c.id.result c.input_position-from.result c.in_ok-recs.next c.in_ok-recs.recs.items c.as_slice.result.now
     c.requires.reader c.requires.may.of.work c.id.ensures c.input_position-from.ensures c.in_ok-recs.ensures.records c.in_ok-recs.ensures.next c.if-next-from.false c.as_slice.ensures.value
     c.in_ok-take_fetched.ensures.view (c.skip.ensures.task d c.in_ok-take_fetched.ensures.task) (c.skip.ensures.view d c.in_ok-take_fetched.ensures.task there) (c.skip.ensures.cache ∙ c.take_fetched.ensures.cache)

@@ -23,7 +23,7 @@ returns-clause-decided g c = λ w le. c.loop-worker.invariant.decided w (omega (
 
 pub returns-clause-gone : goal.returns-clause-gone
 returns-clause-gone g c =
-    all_gone (setup_of g.W.Work.plan c.loop-worker.cluster) c.loop-worker.cluster.journal c.loop-worker.worker c.journal-journal.ensures.history c.loop-worker-test.false c.loop-worker.invariant.gone
+    all_gone (setup_of g.W.Work.plan c.loop-worker.cluster) c.loop-worker.cluster.journal c.loop-worker.worker c.is_history.ensures.history c.loop-worker-test.false c.loop-worker.invariant.gone
 
 pub returns-in_err-expire-clause-on : goal.returns-in_err-expire-clause-on
 returns-in_err-expire-clause-on g c = drains_both 0 0 c.args.cluster.now c.loop-worker.cluster c.expire.new.self c.loop-worker.invariant.on (drains_same 0 c.loop-worker.cluster c.expire.new.self c.in_err-expire.ensures.err)

@@ -24,7 +24,7 @@ pub returns-clause-idle : goal.returns-clause-idle
 returns-clause-idle g c =
     let plan = g.W.Work.plan in
     let network = subst (λ (s : Setup). IsNetwork s.plan) (sym (same_setup plan 0 c.args.cluster.now c.loop-worker.cluster c.loop-worker.invariant.on)) c.requires.network in
-    all_marked (setup_of plan c.loop-worker.cluster) c.loop-worker.cluster.journal network c.journal-journal.ensures.history c.loop-worker.worker c.loop-worker-test.false c.loop-worker.invariant.marked
+    all_marked (setup_of plan c.loop-worker.cluster) c.loop-worker.cluster.journal network c.is_history.ensures.history c.loop-worker.worker c.loop-worker-test.false c.loop-worker.invariant.marked
 
 pub returns-in_err-write_markers-clause-on : goal.returns-in_err-write_markers-clause-on
 returns-in_err-write_markers-clause-on g c =

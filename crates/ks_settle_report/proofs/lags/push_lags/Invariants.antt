@@ -1,5 +1,5 @@
 use Rattle.std.proofs.Common.{◌≡◌, ◌++◌, true, length}
-use Rattle.ks_row.specs.declared.record.TaskId.{TaskId}
+use Rattle.ks_record.specs.declared.record.TaskId.{TaskId}
 use Rattle.ks_history.specs.State.{has_task}
 use Rattle.ks_cluster.specs.View.{setup_of, state_of}
 use Rattle.ks_settle_report.specs.Report.{task_lags}

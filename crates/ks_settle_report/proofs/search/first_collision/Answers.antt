@@ -1,6 +1,6 @@
 use Rattle.std.proofs.Common.{◌≡◌, ℕ, Option, take, get_or, sym, ap, ap₂, subst, ◌∙◌}
 use Rattle.std.specs.Prelude.{IfOk, option_map}
-use Rattle.ks_row.specs.Records.{Record as Rec}
+use Rattle.ks_record.specs.Records.{Record as Rec}
 use Rattle.ks_row.specs.Spelling.{spelling}
 use Rattle.ks_def_runs.specs.Bytes.{Store}
 use Rattle.ks_expr.specs.Eval.{Row}

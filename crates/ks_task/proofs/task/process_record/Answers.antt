@@ -1,6 +1,6 @@
 use Rattle.std.proofs.Common.{map}
 use Rattle.std.specs.Prelude.{slice_get}
-use Rattle.ks_row.specs.Records.{record_seen}
+use Rattle.ks_record.specs.Records.{record_seen}
 use Rattle.ks_task_nodes.specs.Nodes.{node_view, kinds_in}
 use Rattle.ks_task.proofs.Reached.{reached_there}
 use Rattle.ks_task.proofs.task.process_record.Goals as goal

@@ -1,6 +1,6 @@
 use Rattle.std.proofs.Common.{◌≡◌, sym, subst}
 use Rattle.std.specs.Prelude.{IfOk, map, option_map}
-use Rattle.ks_row.specs.Records.{record_seen}
+use Rattle.ks_record.specs.Records.{record_seen}
 use Rattle.ks_plan.specs.Plan.{Kind}
 use Rattle.ks_plan.specs.declared.node.Topic.{Topic}
 use Rattle.ks_def_tasks.specs.Bytes.{regrouped_in}

@@ -1,5 +1,5 @@
 use Rattle.std.proofs.Common.{◌≡◌, ◌++◌, map, drop}
-use Rattle.ks_task_step.specs.Steps.{at_part}
+use Rattle.ks_task_processing.specs.Steps.{at_part}
 use Rattle.ks_task_step.proofs.counts.push_recs.Given as goal
 
 abbrev pub invariant-loop-place : goal.invariant-loop-place

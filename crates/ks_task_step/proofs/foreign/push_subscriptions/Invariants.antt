@@ -1,6 +1,6 @@
 use Rattle.std.proofs.Common.{◌≡◌, ◌++◌, map, drop}
 use Rattle.ks_task_nodes.specs.Nodes.{node_view}
-use Rattle.ks_task_step.specs.Steps.{asked_by}
+use Rattle.ks_task_processing.specs.Steps.{asked_by}
 use Rattle.ks_task_step.proofs.foreign.push_subscriptions.Given as goal
 
 abbrev pub invariant-loop-foreign : goal.invariant-loop-foreign

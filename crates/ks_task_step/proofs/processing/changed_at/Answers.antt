@@ -1,9 +1,9 @@
 use Rattle.std.proofs.Common.{◌≡◌, Option, subst, ap, ◌∙◌}
 use Rattle.std.specs.Prelude.{IfOk}
-use Rattle.ks_task_nodes.specs.Stored.{changed_bytes}
-use Rattle.ks_task_step.specs.declared.live.LiveValue.{LiveValue}
-use Rattle.ks_task_step.specs.Steps.{olds_at, old_or, new_or}
-use Rattle.ks_task_step.proofs.LiveValues.{unchanged}
+use Rattle.ks_task_values.specs.Changes.{changed_bytes}
+use Rattle.ks_task_values.specs.declared.live.LiveValue.{LiveValue}
+use Rattle.ks_task_values.specs.Values.{olds_at, old_or, new_or}
+use Rattle.ks_task_values.proofs.LiveValues.{unchanged}
 use Rattle.ks_task_step.proofs.processing.changed_at.Goals as goal
 
 pub returns-in-Some : goal.returns-in-Some

@@ -5,13 +5,14 @@ use Rattle.ks_query.specs.Streams.{StreamItem}
 use Rattle.ks_def_tasks.specs.Rules.{rules_of}
 use Rattle.ks_def_tasks.specs.Step.{step_key}
 use Rattle.ks_def_lookups.specs.Lists.{item_in}
-use Rattle.ks_task_nodes.specs.declared.items.Item.{Item}
+use Rattle.ks_task_values.specs.declared.items.Item.{Item}
 use Rattle.ks_task_nodes.specs.Nodes.{node_view}
 use Rattle.ks_task_nodes.specs.Reach.{NoItems}
 use Rattle.ks_task_nodes.specs.Records.{arrival_of, message_of}
-use Rattle.ks_task_nodes.specs.Stored.{views}
+use Rattle.ks_task_values.specs.Items.{views}
 use Rattle.ks_cache.specs.Changelogs.{stores_in}
-use Rattle.ks_task_step.specs.Steps.{olds_at, made_at, late_of}
+use Rattle.ks_task_values.specs.Values.{olds_at}
+use Rattle.ks_task_processing.specs.Steps.{made_at, late_of}
 use Rattle.ks_task_step.proofs.Quiet.{no_items}
 use Rattle.ks_task_step.proofs.processing.process.Goals as goal
 

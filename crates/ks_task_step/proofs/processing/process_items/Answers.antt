@@ -1,17 +1,18 @@
 use Rattle.std.proofs.Common.{◌≡◌, ◌++◌, List, map, subst, sym, ap, ap₂, ◌∙◌}
 use Rattle.std.specs.Prelude.{OnOk}
-use Rattle.ks_row.specs.Records.{Record as Rec}
-use Rattle.ks_row.specs.declared.record.PartId.{PartId}
+use Rattle.ks_record.specs.Records.{Record as Rec}
+use Rattle.ks_record.specs.declared.record.PartId.{PartId}
 use Rattle.ks_def_tasks.specs.Rules.{rules_of}
 use Rattle.ks_def_tasks.specs.Step.{Values}
 use Rattle.ks_def_lookups.specs.Lists.{item_in}
 use Rattle.ks_task_nodes.specs.Nodes.{node_view}
 use Rattle.ks_task_nodes.specs.Reach.{SameValues}
 use Rattle.ks_task_nodes.specs.Records.{arrival_of}
-use Rattle.ks_task_nodes.specs.Stored.{views}
+use Rattle.ks_task_values.specs.Items.{views}
 use Rattle.ks_cache.specs.Changelogs.{stores_in}
-use Rattle.ks_task_step.specs.declared.live.LiveValue.{LiveValue}
-use Rattle.ks_task_step.specs.Steps.{olds_at, live_olds, live_news, made_with}
+use Rattle.ks_task_values.specs.declared.live.LiveValue.{LiveValue}
+use Rattle.ks_task_values.specs.Values.{olds_at, live_olds, live_news}
+use Rattle.ks_task_processing.specs.Steps.{made_with}
 use Rattle.ks_task_step.proofs.processing.process_items.Goals as goal
 
 pub push_output-requires-clause-quiet : goal.push_output-requires-clause-quiet

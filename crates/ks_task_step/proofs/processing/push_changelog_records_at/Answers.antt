@@ -4,7 +4,8 @@ use Rattle.ks_history.specs.Faithful.{capped}
 use Rattle.ks_task_nodes.specs.Nodes.{TaskNode}
 use Rattle.ks_task_nodes.specs.Reach.{of_node}
 use Rattle.ks_task_nodes.specs.Records.{arrival_of}
-use Rattle.ks_task_step.specs.Steps.{items_in, olds_in, news_in, recs_by, late_by}
+use Rattle.ks_task_values.specs.Values.{items_in, olds_in, news_in}
+use Rattle.ks_task_processing.specs.Steps.{recs_by, late_by}
 use Rattle.ks_cache.specs.Changelogs.{stores_in}
 use Rattle.ks_task_step.proofs.Capping.{capped_itself}
 use Rattle.ks_task_step.proofs.processing.push_changelog_records_at.Goals as goal

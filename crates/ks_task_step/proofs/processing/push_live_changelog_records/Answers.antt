@@ -1,7 +1,7 @@
 use Rattle.std.proofs.Common.{map}
 use Rattle.ks_task_nodes.specs.Nodes.{node_view}
 use Rattle.ks_task_nodes.specs.Records.{arrival_of}
-use Rattle.ks_task_step.specs.Steps.{items_in}
+use Rattle.ks_task_values.specs.Values.{items_in}
 use Rattle.ks_cache.specs.Changelogs.{stores_in}
 use Rattle.ks_task_step.proofs.Capping.{none_late, capped_end}
 use Rattle.ks_task_step.proofs.processing.push_live_changelog_records.Goals as goal

@@ -1,11 +1,11 @@
 use Rattle.std.proofs.Common.{◌≡◌, ◌++◌, List, map, subst}
 use Rattle.std.specs.Prelude.{OnOk}
-use Rattle.ks_row.specs.Records.{Record as Rec}
-use Rattle.ks_row.specs.declared.record.PartId.{PartId}
+use Rattle.ks_record.specs.Records.{Record as Rec}
+use Rattle.ks_record.specs.declared.record.PartId.{PartId}
 use Rattle.ks_def_tasks.specs.Rules.{rules_of}
 use Rattle.ks_task_nodes.specs.Nodes.{node_view}
 use Rattle.ks_task_nodes.specs.Records.{arrival_of}
-use Rattle.ks_task_step.specs.Steps.{items_in, olds_in, news_in}
+use Rattle.ks_task_values.specs.Values.{items_in, olds_in, news_in}
 use Rattle.ks_cache.specs.Changelogs.{stores_in}
 use Rattle.ks_task_step.proofs.Quiet.{sends_go}
 use Rattle.ks_task_step.proofs.sends.push_all_sends.Goals as goal

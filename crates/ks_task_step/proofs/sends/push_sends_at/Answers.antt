@@ -4,7 +4,8 @@ use Rattle.ks_def_tasks.specs.Rules.{rules_of}
 use Rattle.ks_task_nodes.specs.Nodes.{TaskNode, node_view}
 use Rattle.ks_task_nodes.specs.Reach.{of_node}
 use Rattle.ks_task_nodes.specs.Records.{arrival_of}
-use Rattle.ks_task_step.specs.Steps.{items_in, olds_in, news_in, sends_by}
+use Rattle.ks_task_values.specs.Values.{items_in, olds_in, news_in}
+use Rattle.ks_task_processing.specs.Steps.{sends_by}
 use Rattle.ks_cache.specs.Changelogs.{stores_in}
 use Rattle.ks_task_step.proofs.sends.push_sends_at.Goals as goal
 

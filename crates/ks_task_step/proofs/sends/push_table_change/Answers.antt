@@ -3,7 +3,8 @@ use Rattle.std.specs.List.{flat_map}
 use Rattle.std.specs.Prelude.{option_copied}
 use Rattle.ks_def_tasks.specs.Step.{row_in}
 use Rattle.ks_task_nodes.specs.Nodes.{node_view}
-use Rattle.ks_task_step.specs.Steps.{olds_in, news_in, sent_by}
+use Rattle.ks_task_values.specs.Values.{olds_in, news_in}
+use Rattle.ks_task_processing.specs.Steps.{sent_by}
 use Rattle.ks_task_step.proofs.Looking.{nothing_moved}
 use Rattle.ks_task_step.proofs.sends.push_table_change.Goals as goal
 

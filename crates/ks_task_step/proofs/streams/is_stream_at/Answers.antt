@@ -1,7 +1,7 @@
 use Rattle.std.proofs.Common.{Option, map, ap, ◌∙◌, option_map}
 use Rattle.ks_task_nodes.specs.Nodes.{TaskNode, node_view}
 use Rattle.ks_task_step.specs.Streams.{is_stream_at}
-use Rattle.ks_task_step.proofs.LiveValues.{kinds_there}
+use Rattle.ks_task_values.proofs.LiveValues.{kinds_there}
 use Rattle.ks_task_step.proofs.streams.is_stream_at.Goals as goal
 
 pub returns-in-Some : goal.returns-in-Some

@@ -4,8 +4,8 @@ use Rattle.ks_query.specs.Streams.{StreamItem}
 use Rattle.ks_def_lookups.specs.Lists.{item_in}
 use Rattle.ks_task_nodes.specs.Nodes.{node_view}
 use Rattle.ks_task_nodes.specs.Records.{arrival_of}
-use Rattle.ks_task_nodes.specs.Stored.{views}
-use Rattle.ks_task_nodes.specs.declared.items.Item.{Item}
+use Rattle.ks_task_values.specs.Items.{views}
+use Rattle.ks_task_values.specs.declared.items.Item.{Item}
 use Rattle.ks_task_step.proofs.Quiet.{nothing_passed}
 use Rattle.ks_task_step.proofs.streams.passed_items.Goals as goal
 

@@ -1,5 +1,5 @@
 use Rattle.std.proofs.Common.{◌≡◌, refl, arith, ap, subst, sym}
-use Rattle.ks_row.specs.declared.record.TaskId.{TaskId}
+use Rattle.ks_record.specs.declared.record.TaskId.{TaskId}
 use Rattle.ks_history.specs.declared.journal.Request.TheVariants.{Park}
 use Rattle.ks_history.specs.State.{has_task}
 use Rattle.std.specs.Prelude.{true}

@@ -1,9 +1,9 @@
 use Rattle.ks_topo.specs.Topologies.{draft_of, plan_in}
-use Rattle.ks_run_workers.specs.Placing.{counts_in}
+use Rattle.ks_run_feed.specs.Placing.{counts_in}
 use Rattle.ks_job.specs.Items.{item_views}
 use Rattle.ks_shared.specs.Calls.{frame_of}
-use Rattle.ks_run_workers.proofs.Fresh.{first_fresh, fresh_pass, fresh_counts, fresh_places, fresh_records}
-use Rattle.ks_run_workers.proofs.Produced.{still_first}
+use Rattle.ks_run_feed.proofs.Fresh.{first_fresh, fresh_pass, fresh_counts, fresh_places, fresh_records}
+use Rattle.ks_run_feed.proofs.Produced.{still_first}
 use Rattle.ks_test_workers.proofs.Pairing.{others_two, still_pass, may_play, fresh_pair}
 use Rattle.ks_test_workers.proofs.crews.play.Goals as goal
 

@@ -7,7 +7,7 @@ use Rattle.ks_job.specs.Items.{item_views}
 use Rattle.ks_cluster.specs.View as kept
 use Rattle.ks_commit.specs.Everything.{everything, IsGoodForAll}
 use Rattle.ks_task.specs.Placing.{placed_by}
-use Rattle.ks_run.proofs.Counts.{shown_counts}
+use Rattle.ks_job_source.proofs.Counts.{shown_counts}
 use Rattle.ks_run.proofs.Settles.{setup_is, setup_made, places_ready, records_ready, nodes_ready}
 use Rattle.ks_test_workers.proofs.plays.play_tasks.Goals as goal
 

@@ -1,7 +1,7 @@
 use Rattle.std.proofs.Common.{◌≡◌, [], take, drop}
 use Rattle.ks_plan.specs.Drafts.{draft_view, nodes_view}
 use Rattle.ks_plan.specs.Faults.{nodes_fault, parts_before, origins_before}
-use Rattle.ks_plan.specs.Resolve.{resolved_from}
+use Rattle.ks_topo_layout.specs.Resolve.{resolved_from}
 use Rattle.ks_topo.proofs.judge.judge_nodes.Given as goal
 
 -- the rest of the nodes decides

@@ -1,5 +1,5 @@
 use Rattle.std.proofs.Common.{◌≡◌, ◌++◌, map, drop}
-use Rattle.ks_plan.specs.declared.resolve.Resolved.{Resolved}
+use Rattle.ks_topo_layout.specs.declared.resolve.Resolved.{Resolved}
 use Rattle.ks_topo.proofs.topology.wirings_of.Given as goal
 
 -- what was found and the rest

@@ -1,10 +1,10 @@
 use Rattle.std.proofs.Common.{◌≡◌, ◌≤◌, ℕ, List, fold, drop}
-use Rattle.ks_row.specs.Records.{Record as Rec}
+use Rattle.ks_record.specs.Records.{Record as Rec}
 use Rattle.ks_def_runs.specs.Bytes.{Store}
 use Rattle.ks_plan.specs.Plan.{Window}
 use Rattle.ks_query.specs.Streams.{Key}
 use Rattle.ks_def_lookups.specs.Windows.{counted, count_start}
-use Rattle.ks_window.specs.Shape.{shape}
+use Rattle.ks_plan.specs.Shape.{shape}
 use Rattle.ks_window.proofs.counting.apply.Given as goal
 
 pub record Counting (window : Window) (first store : Store) (key : Key) (t now late index : ℕ) (recs : List Rec) (all : List ℕ) : Type 0 where

@@ -1,6 +1,6 @@
 use Rattle.std.proofs.Common.{◌≡◌, ◌≤◌, ℕ, List, [], ◌∷◌, zero, suc, length, drop, fold, refl, sym, ap, ◌∙◌, arith}
-use Rattle.ks_row.specs.Records.{Record as Rec}
-use Rattle.ks_window.specs.Shape.{shape}
+use Rattle.ks_record.specs.Records.{Record as Rec}
+use Rattle.ks_plan.specs.Shape.{shape}
 use Rattle.ks_window.proofs.Once.{ReadCount, read_start, read_counted, read_same}
 use Rattle.ks_window.proofs.reading.count.Goals as goal
 

@@ -1,9 +1,9 @@
 use Rattle.std.proofs.Common.{◌≡◌, ◌≤◌, ℕ, List, fold, drop}
-use Rattle.ks_row.specs.Records.{Record as Rec}
+use Rattle.ks_record.specs.Records.{Record as Rec}
 use Rattle.ks_def_runs.specs.Bytes.{Store}
 use Rattle.ks_plan.specs.Plan.{Window}
 use Rattle.ks_query.specs.Streams.{Key}
-use Rattle.ks_window.specs.Shape.{shape}
+use Rattle.ks_plan.specs.Shape.{shape}
 use Rattle.ks_window.proofs.Once.{read_start, read_counted}
 use Rattle.ks_window.proofs.reading.count.Given as goal
 

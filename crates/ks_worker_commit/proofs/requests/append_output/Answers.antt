@@ -7,16 +7,16 @@ use Rattle.ks_worker_commit.proofs.requests.append_output.Goals as goal
 
 pub returns-clause-carries : goal.returns-clause-carries
 returns-clause-carries g c = append_done g.W.Work.plan _ _ c.args.member.number c.args.member.epoch c.args.member.generation (memory c.args.session.now.last c.args.session.now.numbers.items c.args.session.now.ends.items) _
-    c.append.result c.done.result c.number-before.result c.in_ok-after.after _ c.args.task c.args.out.now.0 _ c.args.out.now.1 _
+    c.append.result c.done.result c.number_at-before.result c.in_ok-after.after _ c.args.task c.args.out.now.0 _ c.args.out.now.1 _
     c.append.ensures c.done.ensures c.in-Ok.is
-    (c.number-before.ensures ∙ ap (number_in c.args.out.now.0) c.as_slice.ensures.value) c.in_ok-after.ensures refl refl
+    (c.number_at-before.ensures ∙ ap (number_in c.args.out.now.0) c.as_slice.ensures.value) c.in_ok-after.ensures refl refl
     (c.in_ok-numbers.ensures ∙ ap (renumber c.args.out.now.0 c.in_ok-after.after) c.as_slice-2.ensures.value) c.in_ok-note_end.ensures
 
 pub returns-in-Err-clause-carries : goal.returns-in-Err-clause-carries
 returns-in-Err-clause-carries g c = append_halted g.W.Work.plan _ _ c.args.member.number c.args.member.epoch c.args.member.generation (memory c.args.session.now.last c.args.session.now.numbers.items c.args.session.now.ends.items) _
-    (Unit {0}) c.append.result c.done.result c.in-Err.halt c.number-before.result c.in_ok-after.after c.args.task c.args.out.now.0 _ c.args.out.now.1
+    (Unit {0}) c.append.result c.done.result c.in-Err.halt c.number_at-before.result c.in_ok-after.after c.args.task c.args.out.now.0 _ c.args.out.now.1
     c.append.ensures c.done.ensures c.in-Err.is
-    (c.number-before.ensures ∙ ap (number_in c.args.out.now.0) c.as_slice.ensures.value) c.in_ok-after.ensures refl
+    (c.number_at-before.ensures ∙ ap (number_in c.args.out.now.0) c.as_slice.ensures.value) c.in_ok-after.ensures refl
 
 pub returns-clause-requests : goal.returns-clause-requests
 returns-clause-requests g c = append_requests g.W.Work.plan _ _ c.args.member.number c.args.member.epoch c.args.member.generation (memory c.args.session.now.last c.args.session.now.numbers.items c.args.session.now.ends.items) _ _ c.args.task _ _ c.append.result c.append.ensures

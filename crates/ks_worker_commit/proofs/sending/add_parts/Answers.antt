@@ -1,6 +1,6 @@
 use Rattle.std.proofs.Common.{refl, sym, ap, ◌∙◌, ◌+◌, rules, drop, arith}
 use Rattle.std.proofs.lemmas.Bool.{or_left}
-use Rattle.ks_row.specs.Parts.{same_part}
+use Rattle.ks_record.specs.Parts.{same_part}
 use Rattle.ks_law_commit.specs.Building.{with_part}
 use Rattle.ks_worker_commit.specs.Outputs.{add_all}
 use Rattle.ks_worker_commit.specs.Underway.{always}

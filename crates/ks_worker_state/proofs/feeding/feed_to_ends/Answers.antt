@@ -1,6 +1,6 @@
 use Rattle.std.proofs.Common.{◌≤◌, [], get_or, refl, sym, subst, ◌∙◌}
 use Rattle.std.proofs.lemmas.List.{take_all}
-use Rattle.ks_row.specs.declared.record.TaskId.{TaskId}
+use Rattle.ks_record.specs.declared.record.TaskId.{TaskId}
 use Rattle.ks_history.specs.Machine.{part_of}
 use Rattle.ks_law_commit.specs.Bounds.{stable_of}
 use Rattle.ks_shared.specs.Calls.{setup_in}

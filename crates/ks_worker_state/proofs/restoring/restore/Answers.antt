@@ -1,5 +1,5 @@
 use Rattle.std.proofs.Common.{◌≡◌, inl, ℕ, true, None, map, sym, ap, subst, ◌∙◌}
-use Rattle.ks_row.specs.declared.record.TaskId.{TaskId}
+use Rattle.ks_record.specs.declared.record.TaskId.{TaskId}
 use Rattle.ks_topo.specs.Topologies.{draft_of, plan_in}
 use Rattle.ks_law_topology.specs.Work.{setup_of}
 use Rattle.ks_def_tasks.specs.Rules.{rules_of}

@@ -15,13 +15,13 @@ assign-requires-clause-good g c = assign_good g.W.Work.plan g.W.Work.good c.args
 
 pub returns-clause-ready : goal.returns-clause-ready
 returns-clause-ready g c = record {
-  alone = is_alone g.W.Work.plan c.args.cluster.now c.init.new.self c.join.new.self c.assign.new.cluster c.args.worker c.in_ok-epoch.epoch c.in_ok-generation.generation c.in_ok-all.all _ c.requires.worker c.requires.idle c.requires.network c.journal-journal.ensures.history c.requires.once
+  alone = is_alone g.W.Work.plan c.args.cluster.now c.init.new.self c.join.new.self c.assign.new.cluster c.args.worker c.in_ok-epoch.epoch c.in_ok-generation.generation c.in_ok-all.all _ c.requires.worker c.requires.idle c.requires.network c.is_history.ensures.history c.requires.once
       (c.in_ok-all.ensures ∙ ap (everything c.args.worker) c.requires.tasks) c.in_ok-epoch.ensures.ok c.in_ok-generation.ensures.ok (assign_free g.W.Work.plan c.args.cluster.now c.init.new.self c.join.new.self c.args.worker c.in_ok-epoch.epoch c.in_ok-generation.generation c.in_ok-all.all c.requires.once (c.in_ok-all.ensures ∙ ap (everything c.args.worker) c.requires.tasks) c.in_ok-epoch.ensures.ok c.in_ok-generation.ensures.ok) c.in_ok-assign.ensures.ok;
   numbers = λ q. ap (number_in q) c.new.ensures.items ∙ numbers_none g.W.Work.plan c.args.cluster.now c.init.new.self c.join.new.self c.assign.new.cluster c.args.worker c.in_ok-epoch.epoch c.in_ok-generation.generation c.in_ok-all.all _ c.requires.worker c.requires.idle c.requires.network
-      c.journal-journal.ensures.history c.requires.once (c.in_ok-all.ensures ∙ ap (everything c.args.worker) c.requires.tasks) c.in_ok-epoch.ensures.ok c.in_ok-generation.ensures.ok (assign_free g.W.Work.plan c.args.cluster.now c.init.new.self c.join.new.self c.args.worker c.in_ok-epoch.epoch c.in_ok-generation.generation c.in_ok-all.all c.requires.once (c.in_ok-all.ensures ∙ ap (everything c.args.worker) c.requires.tasks) c.in_ok-epoch.ensures.ok c.in_ok-generation.ensures.ok) c.in_ok-assign.ensures.ok q;
+      c.is_history.ensures.history c.requires.once (c.in_ok-all.ensures ∙ ap (everything c.args.worker) c.requires.tasks) c.in_ok-epoch.ensures.ok c.in_ok-generation.ensures.ok (assign_free g.W.Work.plan c.args.cluster.now c.init.new.self c.join.new.self c.args.worker c.in_ok-epoch.epoch c.in_ok-generation.generation c.in_ok-all.all c.requires.once (c.in_ok-all.ensures ∙ ap (everything c.args.worker) c.requires.tasks) c.in_ok-epoch.ensures.ok c.in_ok-generation.ensures.ok) c.in_ok-assign.ensures.ok q;
 }
 
 pub returns-clause-started : goal.returns-clause-started
 returns-clause-started g c =
-    is_started g.W.Work.plan c.args.cluster.now c.init.new.self c.join.new.self c.assign.new.cluster c.args.worker c.in_ok-epoch.epoch c.in_ok-generation.generation c.in_ok-all.all _ c.requires.worker c.requires.idle c.requires.network c.journal-journal.ensures.history c.requires.once
+    is_started g.W.Work.plan c.args.cluster.now c.init.new.self c.join.new.self c.assign.new.cluster c.args.worker c.in_ok-epoch.epoch c.in_ok-generation.generation c.in_ok-all.all _ c.requires.worker c.requires.idle c.requires.network c.is_history.ensures.history c.requires.once
     (c.in_ok-all.ensures ∙ ap (everything c.args.worker) c.requires.tasks) c.in_ok-epoch.ensures.ok c.in_ok-generation.ensures.ok (assign_free g.W.Work.plan c.args.cluster.now c.init.new.self c.join.new.self c.args.worker c.in_ok-epoch.epoch c.in_ok-generation.generation c.in_ok-all.all c.requires.once (c.in_ok-all.ensures ∙ ap (everything c.args.worker) c.requires.tasks) c.in_ok-epoch.ensures.ok c.in_ok-generation.ensures.ok) c.in_ok-assign.ensures.ok

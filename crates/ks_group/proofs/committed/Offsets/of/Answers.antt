@@ -1,5 +1,5 @@
 use Rattle.std.proofs.Common.{◌≡◌, ◌<◌, ◌≤◌, ℕ, List, length, get_or, sym, ap, ◌∙◌, arith}
-use Rattle.ks_row.specs.declared.record.TaskId.{TaskId}
+use Rattle.ks_record.specs.declared.record.TaskId.{TaskId}
 use Rattle.ks_group.specs.Committed.{offsets_of}
 use Rattle.ks_group.specs.Places.{row_place}
 use Rattle.ks_group.proofs.RowPlaces.{row-there, no_row}

@@ -1,6 +1,6 @@
 use Rattle.std.proofs.Common.{rules, ◌≡◌, ◌+◌, Bool, true, cond, List, length, sym, ap, ◌∙◌, arith}
 use Rattle.std.specs.Prelude.{◌==◌}
-use Rattle.ks_row.specs.Parts.{same_part}
+use Rattle.ks_record.specs.Parts.{same_part}
 use Rattle.ks_history.specs.declared.partition.Slot.{Slot}
 use Rattle.ks_history.specs.Partition.{count_sent, sent_slots}
 use Rattle.ks_log.specs.Places.{part_number}

@@ -1,5 +1,5 @@
 use Rattle.std.proofs.Common.{rules, ◌≡◌, ◌+◌, ◌∷◌, [], cond, ap, ◌∙◌, arith}
-use Rattle.ks_row.specs.Parts.{same_part}
+use Rattle.ks_record.specs.Parts.{same_part}
 use Rattle.ks_log.specs.Places.{part_number}
 use Rattle.ks_log.specs.Written.{total, place}
 use Rattle.ks_log.proofs.Logs.{total-with, seats-more}

@@ -1,5 +1,5 @@
 use Rattle.std.proofs.Common.{◌≡◌, ℕ, List, sym, ap, ◌∙◌, subst}
-use Rattle.ks_row.specs.declared.record.TaskId.{TaskId}
+use Rattle.ks_record.specs.declared.record.TaskId.{TaskId}
 use Rattle.ks_topo.specs.Topologies.{draft_of}
 use Rattle.ks_commit.specs.declared.work.Frozen.{Frozen}
 use Rattle.ks_commit.specs.Committed.{works_of, tasks_in, Committed}
@@ -13,7 +13,7 @@ returns-clause-rest g c =
     rests_on g.W.Work.plan c.args.cluster.now c.commit.new.cluster c.commit.new.publisher (draft_of c.args.topology.now) c.args.self.now.publisher.worker c.args.topic (works_of c.args.works.items) c.as_slice-3.result.now c.args.self.now.tasks.items c.tell.new.tasks.items
     c.requires.may c.requires.logs c.requires.reading
     (subst (λ (es : List (List (ℕ × ℕ))). Committed g.W.Work.plan c.args.cluster.now c.commit.new.cluster c.args.self.now.publisher.worker (works_of c.args.works.items) es) (sym c.as_slice-3.ensures.value) c.in_ok-ends.ensures.committed)
-    c.journal-journal.ensures.history (c.in_ok-ends.ensures.same.0 ∙ c.requires.worker) c.in_ok-ends.ensures.ready
+    c.is_history.ensures.history (c.in_ok-ends.ensures.same.0 ∙ c.requires.worker) c.in_ok-ends.ensures.ready
     (subst (λ (ts : List TaskId). AreToldBy (draft_of c.args.topology.now) ts c.as_slice-3.result.now c.args.self.now.tasks.items c.tell.new.tasks.items) names c.in_ok-tell.ensures)
 
 pub returns-clause-caches : goal.returns-clause-caches

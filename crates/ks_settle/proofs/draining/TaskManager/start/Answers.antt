@@ -54,7 +54,7 @@ restore_tasks-requires-clause-replicas g c κs within =
     let on = drains_both 0 0 c.args.cluster.now c.write_all_markers.new.cluster c.start.new.cluster
     (drains_both 0 0 c.args.cluster.now c.remove_workers.new.cluster c.write_all_markers.new.cluster c.remove_workers.ensures.on c.write_all_markers.ensures.on)
     (drains_by 16 0 c.write_all_markers.new.cluster c.start.new.cluster started.more refl started.is started.publishing) in
-    still_replicas g.W.Work.plan 0 c.args.cluster.now c.start.new.cluster on c.requires.may.network c.journal-journal.ensures.history c.args.replicas.items c.requires.replicas
+    still_replicas g.W.Work.plan 0 c.args.cluster.now c.start.new.cluster on c.requires.may.network c.is_history.ensures.history c.args.replicas.items c.requires.replicas
 
 pub returns-clause-resting : goal.returns-clause-resting
 returns-clause-resting g c =

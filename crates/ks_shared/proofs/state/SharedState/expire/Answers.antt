@@ -7,4 +7,4 @@ use Rattle.ks_shared.proofs.state.SharedState.expire.Goals as goal
 pub invariant_of-self : goal.invariant_of-self
 invariant_of-self g c =
     shelf_by g.W.Work.plan c.self.inside.cluster c.expire-answer.new.self (Expire c.args.w) (λ b. Truth b) c.self.inside.shelf c.expire-answer.result refl
-    c.expire-answer.ensures.ok c.expire-answer.ensures.err (g.met.W.Work.network _) c.journal-journal.ensures.history c.self.invariant
+    c.expire-answer.ensures.ok c.expire-answer.ensures.err (g.met.W.Work.network _) c.is_history.ensures.history c.self.invariant

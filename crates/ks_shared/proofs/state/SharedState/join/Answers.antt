@@ -7,4 +7,4 @@ use Rattle.ks_shared.proofs.state.SharedState.join.Goals as goal
 pub invariant_of-self : goal.invariant_of-self
 invariant_of-self g c =
     shelf_by g.W.Work.plan c.self.inside.cluster c.join-answer.new.self (Join c.args.w) (λ n. Number n) c.self.inside.shelf c.join-answer.result refl
-    c.join-answer.ensures.ok c.join-answer.ensures.err (g.met.W.Work.network _) c.journal-journal.ensures.history c.self.invariant
+    c.join-answer.ensures.ok c.join-answer.ensures.err (g.met.W.Work.network _) c.is_history.ensures.history c.self.invariant

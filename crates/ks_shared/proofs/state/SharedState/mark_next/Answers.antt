@@ -7,4 +7,4 @@ use Rattle.ks_shared.proofs.state.SharedState.mark_next.Goals as goal
 pub invariant_of-self : goal.invariant_of-self
 invariant_of-self g c =
     shelf_by g.W.Work.plan c.self.inside.cluster c.mark_next-answer.new.self (MarkNext c.args.w) (λ m. Marked m) c.self.inside.shelf c.mark_next-answer.result refl
-    c.mark_next-answer.ensures.ok c.mark_next-answer.ensures.err (g.met.W.Work.network _) c.journal-journal.ensures.history c.self.invariant
+    c.mark_next-answer.ensures.ok c.mark_next-answer.ensures.err (g.met.W.Work.network _) c.is_history.ensures.history c.self.invariant

@@ -9,7 +9,7 @@ use Rattle.ks_shared.proofs.state.SharedState.unpark.Goals as goal
 pub invariant_of-self-2 : goal.invariant_of-self-2
 invariant_of-self-2 g c =
     shelf_unparked g.W.Work.plan c.self.inside.cluster c.unpark.new.self c.args.instance c.args.task c.in_ok-_is_parked._is_parked c.self.inside.shelf c.take.new.self
-    c.in_ok-_is_parked.ensures.ok c.take.ensures.rest (g.met.W.Work.network _) c.journal-journal.ensures.history c.self.invariant
+    c.in_ok-_is_parked.ensures.ok c.take.ensures.rest (g.met.W.Work.network _) c.is_history.ensures.history c.self.invariant
 
 pub returns-clause-ok : goal.returns-clause-ok
 returns-clause-ok g c =
@@ -20,4 +20,4 @@ returns-clause-ok g c =
 pub returns-clause-follows : goal.returns-clause-follows
 returns-clause-follows g c =
     taken_follows g.W.Work.plan c.self.inside.cluster c.unpark.new.self c.args.instance c.args.task c.in_ok-_is_parked._is_parked c.self.inside.shelf c.take.result
-    c.in_ok-_is_parked.ensures.ok c.take.ensures.gives c.self.invariant (g.met.W.Work.network _) c.journal-journal.ensures.history
+    c.in_ok-_is_parked.ensures.ok c.take.ensures.gives c.self.invariant (g.met.W.Work.network _) c.is_history.ensures.history

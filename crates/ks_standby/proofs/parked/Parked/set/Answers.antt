@@ -1,5 +1,5 @@
 use Rattle.std.proofs.Common.{arith, ap, ◌∙◌, Some}
-use Rattle.ks_row.specs.declared.record.TaskId.{TaskId}
+use Rattle.ks_record.specs.declared.record.TaskId.{TaskId}
 use Rattle.ks_standby.specs.Shelf.{place_in, parked_in}
 use Rattle.ks_standby.proofs.Shelving.{there_placed, placed_put, after_put}
 use Rattle.ks_standby.proofs.parked.Parked.set.Goals as goal

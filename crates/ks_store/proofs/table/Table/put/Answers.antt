@@ -1,7 +1,7 @@
 use Rattle.std.proofs.Common.{ℕ, List, ap, subst, sym, ◌∙◌, arith}
 use Rattle.ks_def_runs.specs.Bytes.{Store}
 use Rattle.ks_def_runs.specs.FinMap as fin
-use Rattle.ks_row.specs.Spelling.{IsBytes}
+use Rattle.ks_record.specs.Bytes.{IsBytes}
 use Rattle.ks_store.specs.Groups.{groups_of}
 use Rattle.ks_store.specs.Rows.{rows_of, row_store}
 use Rattle.ks_store.proofs.Tables.{put_row, put_table}

@@ -2,7 +2,7 @@ use Rattle.std.proofs.Common.{ℕ, List, ap, subst, sym, ◌∙◌, arith}
 use Rattle.std.specs.FinMap.Entries.{put}
 use Rattle.ks_def_runs.specs.Bytes.{Store, by_bytes}
 use Rattle.ks_def_runs.specs.FinMap as fin
-use Rattle.ks_row.specs.Spelling.{IsBytes}
+use Rattle.ks_record.specs.Bytes.{IsBytes}
 use Rattle.ks_store.specs.Pairs.{pairs_of}
 use Rattle.ks_store.proofs.Trees.{put_store, put_tree}
 use Rattle.ks_store.proofs.Applied.{on_ok}

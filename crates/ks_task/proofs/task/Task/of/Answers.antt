@@ -1,7 +1,7 @@
 use Rattle.std.proofs.Common.{List, ◌≤◌, [], map, length, ◌∙◌, sym, ap, ap₂, subst}
 use Rattle.ks_plan.specs.declared.node.Topic.{Topic}
 use Rattle.ks_plan.specs.Plan.{plan_of}
-use Rattle.ks_row.specs.declared.record.TaskId.{TaskId}
+use Rattle.ks_record.specs.declared.record.TaskId.{TaskId}
 use Rattle.ks_topo.specs.Topologies.{draft_of}
 use Rattle.ks_task_nodes.specs.Nodes.{topics_in as node_topics_in, topics_from}
 use Rattle.std.specs.List.{All}

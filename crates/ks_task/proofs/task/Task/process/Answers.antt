@@ -1,6 +1,6 @@
 use Rattle.std.proofs.Common.{◌≡◌, List, map, ap, sym, subst, ◌∙◌}
 use Rattle.std.specs.Prelude.{IfOk, OnOk, ◌++◌, slice_get}
-use Rattle.ks_row.specs.Records.{record_seen}
+use Rattle.ks_record.specs.Records.{record_seen}
 use Rattle.ks_plan.specs.Plan.{plan_of}
 use Rattle.ks_plan.specs.Layout.{topics_of}
 use Rattle.ks_plan.specs.declared.node.Topic.{Topic}
@@ -12,7 +12,7 @@ use Rattle.ks_task_nodes.specs.Records.{arrival_at}
 use Rattle.ks_task_nodes.specs.Reach.{are_numbered}
 use Rattle.ks_task_nodes.proofs.Numbers.{kinds_from, nodes_numbered}
 use Rattle.ks_cache.specs.declared.changelogs.Changelog.{Changelog}
-use Rattle.ks_task_step.specs.Steps.{made_or_none, late_or_none}
+use Rattle.ks_task_processing.specs.Steps.{made_or_none, late_or_none}
 use Rattle.ks_cache.specs.Changelogs.{stores_in}
 use Rattle.ks_law_topology.proofs.Setups.{task_few}
 use Rattle.ks_task.specs.Views.{AreLiveAt}

@@ -1,5 +1,5 @@
 use Rattle.std.proofs.Common.{List, map, ◌∙◌, ap, sym, subst}
-use Rattle.ks_row.specs.Records.{record_seen}
+use Rattle.ks_record.specs.Records.{record_seen}
 use Rattle.ks_plan.specs.Layout.{topic_at}
 use Rattle.ks_topo.specs.Topologies.{plan_in}
 use Rattle.ks_def_tasks.specs.Rules.{rules_of}

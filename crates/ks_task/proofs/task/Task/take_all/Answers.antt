@@ -1,5 +1,5 @@
 use Rattle.std.proofs.Common.{◌≡◌, true, List, map, ◌∙◌, ap, sym, subst}
-use Rattle.ks_row.specs.declared.record.TaskId.{TaskId}
+use Rattle.ks_record.specs.declared.record.TaskId.{TaskId}
 use Rattle.ks_plan.specs.Layout.{topic_at}
 use Rattle.ks_plan.specs.Infos.{input_numbers}
 use Rattle.ks_history.specs.Follows.{TaskView}

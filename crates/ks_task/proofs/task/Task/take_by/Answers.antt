@@ -2,14 +2,14 @@ use Rattle.std.proofs.Common.{◌≡◌, List, ◌++◌, map, drop, ◌+◌, ◌
 use Rattle.ks_plan.specs.Plan.{plan_of}
 use Rattle.ks_plan.specs.Layout.{topic_at}
 use Rattle.ks_law_step.specs.Whole.{AreStores}
-use Rattle.ks_row.specs.Records.{Record as Rec, record_seen}
-use Rattle.ks_row.specs.declared.record.PartId.{PartId}
+use Rattle.ks_record.specs.Records.{Record as Rec, record_seen}
+use Rattle.ks_record.specs.declared.record.PartId.{PartId}
 use Rattle.ks_history.specs.Faithful.{capped}
 use Rattle.ks_topo.specs.Topologies.{draft_of}
 use Rattle.ks_task_nodes.specs.Nodes.{nodes_of}
 use Rattle.ks_task_nodes.specs.Records.{arrival_at}
 use Rattle.ks_cache.specs.declared.changelogs.Changelog.{Changelog}
-use Rattle.ks_task_step.specs.Steps.{made_or_none, late_or_none}
+use Rattle.ks_task_processing.specs.Steps.{made_or_none, late_or_none}
 use Rattle.ks_cache.specs.Changelogs.{stores_in}
 use Rattle.ks_task.specs.declared.task.Task.{Task}
 use Rattle.ks_task.specs.Tasks.{with_made}

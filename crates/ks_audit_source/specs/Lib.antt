@@ -1,0 +1,4 @@
+pub mod TopologyLines
+pub mod Opened
+pub mod Opening
+pub mod Cutting

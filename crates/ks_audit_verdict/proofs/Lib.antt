@@ -1,0 +1,5 @@
+pub mod Chains
+pub mod LineTexts
+pub mod Left
+pub mod Printed
+pub mod Complete

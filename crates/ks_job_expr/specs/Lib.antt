@@ -1,0 +1,3 @@
+pub mod Exprs
+pub mod Tests
+pub mod Foreign

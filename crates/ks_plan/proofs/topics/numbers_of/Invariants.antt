@@ -1,7 +1,0 @@
-use Rattle.std.proofs.Common.{◌≡◌, ◌++◌, drop}
-use Rattle.ks_plan.specs.Wired.{numbers_in}
-use Rattle.ks_plan.proofs.topics.numbers_of.Given as goal
-
--- what was found and what the rest gives
-abbrev pub invariant-loop-topic : goal.invariant-loop-topic
-invariant-loop-topic l = l.numbers.items ++ numbers_in l.all (drop l.topic-index l.topics) ≡ numbers_in l.all l.topics

@@ -1,0 +1,4 @@
+pub mod Blocks
+pub mod Decimals
+pub mod Utf8
+pub mod Ties

@@ -1,0 +1,4 @@
+pub mod Feeding
+pub mod Producing
+pub mod Placing
+pub mod Wanted

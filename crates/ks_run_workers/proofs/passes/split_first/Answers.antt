@@ -1,5 +1,0 @@
-use Rattle.ks_run_workers.proofs.Fresh.{split_off}
-use Rattle.ks_run_workers.proofs.passes.split_first.Goals as goal
-
-pub returns : goal.returns
-returns g c = split_off c.args.passes.items c.remove-first.new.self.items c.remove-first.result c.remove-first.ensures.value c.remove-first.ensures.items c.requires

@@ -1,0 +1,3 @@
+pub mod LiveValues
+pub mod Staying
+pub mod Compared

@@ -1,0 +1,185 @@
+//! What a join on a foreign key stores (KIP-213).
+ghost use Rattle.std.specs.Prelude.{◌≡◌, IfOk, Some, None, option_copied};
+ghost use Rattle.ks_expr.specs.Terms.{set_of};
+ghost use Rattle.ks_plan.specs.declared.node.Topic.TheVariants.{Responses};
+ghost use Rattle.ks_def_tasks.specs.Foreign.{is_direct as direct_is, key_of_row, direct_row};
+ghost use Rattle.ks_def_tasks.specs.Step.{arrived, step_key, row_in, direct, responded};
+ghost use Rattle.ks_def_tasks.specs.Rules.{rules_of};
+ghost use Rattle.ks_task_nodes.specs.Records.{arrival_of, message_of};
+ghost use Rattle.ks_task_nodes.specs.Stored.{stored_in, value_view};
+ghost use Rattle.ks_task_values.specs.Values.{olds_in, news_in, foreign_value as foreign_stored, is_awaited as awaited, foreign_stays as foreign_kept};
+
+use crate::hashes::hash_made;
+use crate::step::{NodeValues, is_changed, new_row, old_row};
+use crate::values::value_of_row;
+use ks_expr::{Fk, fk_of};
+use ks_fk_left::is_answer_to;
+use ks_hash::Hash128;
+use ks_plan::Topic;
+use ks_record::Key;
+use ks_row::Row;
+use ks_table_ops::join_rows;
+use ks_task_nodes::{
+    ForeignKeyJoin, NewValue, Payload, StampedRecord, StoredValue, is_elsewhere, is_same_topic,
+};
+use ks_wire::Response;
+use std::alloc::{AllocError, Global};
+
+// None where there is no row, or none is given by it.
+fn foreign_key(
+    alloc: Global,
+    fk: &Fk,
+    key: &Key,
+    row: &Option<Row>,
+) -> Result<Option<Key>, AllocError>
+    ensures { IfOk result (λ k. k ≡ key_of_row fk.now key.now row.now) }
+{
+    match row {
+        Some(row) => fk_of(alloc, fk, key, row),
+        None => Ok(None),
+    }
+}
+
+// Whether no answer will come to a changed left row, so that the result is set at once. The row before is read only where there is none
+// after.
+fn is_direct(
+    alloc: Global,
+    join: &ForeignKeyJoin<'_>,
+    key: &Key,
+    values: &NodeValues<'_, '_>,
+    new: &Option<Row>,
+) -> Result<bool, AllocError>
+    ensures { IfOk result (λ b. b ≡ direct_is join.now.foreign_key.now key.now
+        (row_in (olds_in values.now) join.now.left) new.now) }
+{
+    match new {
+        Some(_) => Ok(foreign_key(alloc, join.foreign_key, key, new)?.is_none()),
+        None => {
+            let old = old_row(alloc, values, join.left)?;
+            Ok(foreign_key(alloc, join.foreign_key, key, &old)?.is_none())
+        }
+    }
+}
+
+// The result of a left row without a right one.
+fn left_alone(
+    alloc: Global,
+    join: &ForeignKeyJoin<'_>,
+    row: &Option<Row>,
+) -> Result<Option<Row>, AllocError>
+    ensures { IfOk result (λ r. r ≡ direct_row join.now.kind (set_of join.now.set.now) row.now) }
+{
+    match row {
+        Some(row) => join_rows(alloc, join.kind, join.set, Some(row), None),
+        None => Ok(None),
+    }
+}
+
+fn direct_value<'a>(
+    alloc: Global,
+    join: &ForeignKeyJoin<'_>,
+    key: Option<&Key>,
+    old: Option<StoredValue<'a>>,
+    values: &NodeValues<'_, '_>,
+) -> Result<NewValue<'a>, AllocError>
+    ensures { IfOk result (λ v. value_view v ≡ direct join.now.foreign_key.now
+        (option_copied key.entry) join.now.kind (set_of join.now.set.now)
+        (row_in (olds_in values.now) join.now.left) (row_in (news_in values.now) join.now.left)
+        (stored_in old.entry)) }
+{
+    let Some(key) = key else {
+        return Ok(NewValue::Unchanged(old));
+    };
+    let now = new_row(alloc, values, join.left)?;
+    if is_direct(alloc, join, key, values, &now)? {
+        Ok(value_of_row(left_alone(alloc, join, &now)?))
+    } else {
+        Ok(NewValue::Unchanged(old))
+    }
+}
+
+fn responded_value<'a, H: Hash128>(
+    alloc: Global,
+    number: u8,
+    join: &ForeignKeyJoin<'_>,
+    old: Option<StoredValue<'a>>,
+    values: &NodeValues<'_, '_>,
+    stamped: &StampedRecord<'_>,
+) -> Result<NewValue<'a>, AllocError>
+    ensures { IfOk result (λ v. value_view v ≡ responded (rules_of H.hash_of) join.now.kind
+        (set_of join.now.set.now) (row_in (news_in values.now) join.now.left)
+        (arrived (arrival_of stamped.now) (Responses number)) (stored_in old.entry)) }
+{
+    if !is_same_topic(stamped.topic, Topic::Responses(number)) {
+        return Ok(NewValue::Unchanged(old));
+    }
+    let Payload::Response { response, .. } = &stamped.payload else {
+        return Ok(NewValue::Unchanged(old));
+    };
+    let left = new_row(alloc, values, join.left)?;
+    let (left, right) = (left.as_ref(), response.right.as_ref());
+    if !is_answer_to(hash_made::<H>(left), response) {
+        return Ok(NewValue::Unchanged(old));
+    }
+    Ok(value_of_row(join_rows(alloc, join.kind, join.set, left, right)?))
+}
+
+/// What a join on a foreign key stores after the step: by its left row where that changed, else by a response to it. Want of memory is
+/// the one error.
+pub fn foreign_value<'a, H: Hash128>(
+    alloc: Global,
+    number: u8,
+    join: &ForeignKeyJoin<'_>,
+    old: Option<StoredValue<'a>>,
+    values: &NodeValues<'_, '_>,
+    stamped: &StampedRecord<'_>,
+) -> Result<NewValue<'a>, AllocError>
+    ensures { IfOk result (λ v. value_view v ≡ foreign_stored (rules_of H.hash_of)
+        join.now.foreign_key.now (step_key (message_of stamped.now.payload)) join.now.kind
+        (set_of join.now.set.now) (olds_in values.now) (news_in values.now) join.now.left
+        (arrived (arrival_of stamped.now) (Responses number)) (stored_in old.entry)) }
+{
+    if is_changed(values, join.left) {
+        direct_value(alloc, join, stamped.key(), old, values)
+    } else {
+        responded_value::<H>(alloc, number, join, old, values, stamped)
+    }
+}
+
+// Whether an answer will come to a changed left row, so that the result isn't set at once.
+fn is_awaited(
+    alloc: Global,
+    join: &ForeignKeyJoin<'_>,
+    key: Option<&Key>,
+    values: &NodeValues<'_, '_>,
+) -> Result<bool, AllocError>
+    ensures { IfOk result (λ b. b ≡ awaited join.now.foreign_key.now (option_copied key.entry)
+        (row_in (olds_in values.now) join.now.left) (row_in (news_in values.now) join.now.left)) }
+{
+    match key {
+        Some(key) => {
+            let now = new_row(alloc, values, join.left)?;
+            Ok(!is_direct(alloc, join, key, values, &now)?)
+        }
+        None => Ok(true),
+    }
+}
+
+/// Whether a join on a foreign key stores what it did, whatever it was: an answer will come to its changed left row, or its left row
+/// stays and the record is no response. Want of memory is the one error.
+pub fn foreign_stays(
+    alloc: Global,
+    number: u8,
+    join: &ForeignKeyJoin<'_>,
+    values: &NodeValues<'_, '_>,
+    stamped: &StampedRecord<'_>,
+) -> Result<bool, AllocError>
+    ensures { IfOk result (λ b. b ≡ foreign_kept (arrival_of stamped.now) (olds_in values.now)
+        (news_in values.now) number join.now.left join.now.foreign_key.now) }
+{
+    if is_changed(values, join.left) {
+        is_awaited(alloc, join, stamped.key(), values)
+    } else {
+        Ok(is_elsewhere(stamped, Topic::Responses(number)))
+    }
+}
