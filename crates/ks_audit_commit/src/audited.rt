@@ -105,7 +105,7 @@ impl AuditedTask {
     {
         // A topology is well-formed.
         let _nodes = topology.nodes();
-        let replica = Replica::new(alloc, task, topology.changelogs(task.sub))?;
+        let replica = Replica::new(alloc, task, topology.changelogs(task.sub), topology.seed())?;
         let offsets = first_offsets(alloc, topology.inputs(task.sub))?;
         // An audit's stores hold nothing back.
         match Task::of(alloc, topology, replica, offsets.as_slice(), 0) {

@@ -23,6 +23,7 @@ use Rattle.ks_history.specs.declared.journal.Entry.{Entry}
 use Rattle.ks_journal.specs.Lines.{entry_data, entry_text}
 use Rattle.ks_journal.specs.Fits.{FitsEntry}
 use Rattle.ks_journal.proofs.DataAgain.{IsSimple, AreSimple}
+use Rattle.ks_journal.proofs.JournalAgain.{digit_above, short_above}
 use Rattle.ks_journal.proofs.LineAgain.{entry_simple}
 use Rattle.ks_table_line.specs.Fitting.{HasStart, FitsTableRow}
 use Rattle.ks_audit_source.specs.Cutting.{HasNoEnd}
@@ -32,31 +33,6 @@ above : (c : ℕ) (cs : List ℕ) → 10 < c → HasNoEnd cs → HasNoEnd (c ∷
 above c cs h k = (ne_eqb c 10 (λ e. omega (arith, h, e)), k)
 
 -- ---- an escaped byte
-digit_above : (d : ℕ) → 10 < digit_char d
-digit_above d = by (nat_lt d 10)
-  where
-    by : (b : Bool) → 10 < cond b (48 + d) (87 + d)
-    by true = omega arith
-    by false = omega arith
-
-letter_above : (a b c d e f : Bool) (x : ℕ) → (a ≡ true → 10 < x) → 0 < cond a x (cond b 98 (cond c 102 (cond d 110 (cond e 114 (cond f 116 0)))))
-    → 10 < cond a x (cond b 98 (cond c 102 (cond d 110 (cond e 114 (cond f 116 0)))))
-letter_above true b c d e f x h k = h refl
-letter_above false true c d e f x h k = omega arith
-letter_above false false true d e f x h k = omega arith
-letter_above false false false true e f x h k = omega arith
-letter_above false false false false true f x h k = omega arith
-letter_above false false false false false true x h k = omega arith
-letter_above false false false false false false x h k = absurd (omega (arith, k))
-
-marks_above : (x : ℕ) (p q : Bool) → (p ≡ true → 10 < x) → (q ≡ true → 10 < x) → (p || q) ≡ true → 10 < x
-marks_above x true q h k e = h refl
-marks_above x false q h k e = k e
-
-short_above : (x : ℕ) → 0 < escape_letter x → 10 < escape_letter x
-short_above x h = letter_above ((x == 34) || (x == 92)) (x == 8) (x == 12) (x == 10) (x == 13) (x == 9) x
-    (marks_above x (x == 34) (x == 92) (λ e. omega (arith, eqb-true x 34 e)) (λ e. omega (arith, eqb-true x 92 e))) h
-
 byte_plain : (x : ℕ) → HasNoEnd (escape_byte x)
 unfolding escape_byte
 byte_plain x = by_letter (nat_lt 0 (escape_letter x)) refl

@@ -10,7 +10,7 @@ use crate::pairs::{
     Cache, count_off, count_on, make_room, put_first, take_out, value_in, write_all,
 };
 use ks_record::Blob;
-use ks_store::{KvStore, OrderedStore};
+use ks_store::{KvStore, OrderedStore, PlainStore};
 use lru::LruCache;
 use std::alloc::{AllocError, AllocFailed, Global};
 use std::marker::Model;
@@ -154,7 +154,7 @@ impl<S: KvStore> KvStore for CachedStore<S> {
     }
 
     fn prefix(&self, front: &[u8]) -> Result<Vec<(Blob, Blob)>, AllocError> {
-        let mut merged = OrderedStore::new(self.alloc);
+        let mut merged = PlainStore::new(self.alloc);
         lay_pairs(&mut merged, self.inner.prefix(front)?)?;
         lay_cached(&mut merged, &self.cache, front)?;
         merged.prefix(front)

@@ -5,11 +5,11 @@ ghost use Rattle.ks_cache.specs.Lists.{overlaid, under};
 
 use crate::pairs::Cache;
 use ks_record::Blob;
-use ks_store::{KvStore, OrderedStore};
+use ks_store::{KvStore, PlainStore};
 use std::alloc::AllocError;
 
 /// Lays pairs over a store: of two with one key the first counts.
-pub fn lay_pairs(store: &mut OrderedStore, pairs: Vec<(Blob, Blob)>) -> Result<(), AllocError>
+pub fn lay_pairs(store: &mut PlainStore, pairs: Vec<(Blob, Blob)>) -> Result<(), AllocError>
     ensures { OnOk result (store.new ≡ overlaid pairs.items store.old) }
 {
     let mut rest = pairs;
@@ -21,7 +21,7 @@ pub fn lay_pairs(store: &mut OrderedStore, pairs: Vec<(Blob, Blob)>) -> Result<(
 
 // Lays a pair over a store, where its key begins so.
 fn lay_under(
-    store: &mut OrderedStore,
+    store: &mut PlainStore,
     front: &[u8],
     key: &[u8],
     value: &[u8],
@@ -36,7 +36,7 @@ fn lay_under(
 }
 
 /// Lays what is cached over a store, of that the pairs whose key begins so; looks at every pair.
-pub fn lay_cached(store: &mut OrderedStore, cache: &Cache, front: &[u8]) -> Result<(), AllocError>
+pub fn lay_cached(store: &mut PlainStore, cache: &Cache, front: &[u8]) -> Result<(), AllocError>
     ensures { OnOk result (store.new
         ≡ overlaid (under front.now (pairs_of cache.now.entries)) store.old) }
 {

@@ -37,12 +37,12 @@ impl Model for KeptStore {
 }
 
 impl KeptStore {
-    /// An empty store that writes at once. Takes no memory.
-    pub fn new(alloc: Global) -> KeptStore
+    /// An empty store that writes at once, and whose hashes of keys begin with this seed. Takes no memory.
+    pub fn new(alloc: Global, seed: u64) -> KeptStore
         ensures { result ≡ empty_kept }
     {
         KeptStore {
-            store: Holding::Plain(OrderedStore::new(alloc)),
+            store: Holding::Plain(OrderedStore::new(alloc, seed)),
         }
     }
 
@@ -114,7 +114,7 @@ impl KeptStore {
         ensures err { OnErr result (self.new.whole ≡ self.old.whole) }
     {
         self.flush()?;
-        let table = mem::replace(self, KeptStore::new(alloc)).into_table();
+        let table = mem::replace(self, KeptStore::new(alloc, 0)).into_table();
         match KeptStore::over(alloc, table, cache) {
             Ok(store) => {
                 *self = store;

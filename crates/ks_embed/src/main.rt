@@ -20,6 +20,7 @@ use ks_words::Settings;
 use std::alloc::{AllocError, Global};
 use std::io::{self, Write};
 use std::process::ExitCode;
+use std::random::RandomSource;
 use std::sync::Wait;
 use std::thread::Threads;
 
@@ -39,7 +40,7 @@ const JOB: &[u8] =
 // Runs the job of these bytes, writes its answer to the sink, and says how the run ended. The clause is one of those of `run_job`, of
 // which docs/embedding.md tells: whatever the gates do, under status 0 the sink got `settled` and the tables of `print`, which are the
 // topology's query over the job's records, and the journal is a settled history of this very job. It is of a call that returns.
-fn run_bytes<R: Threads + Wait + Sync>(
+fn run_bytes<R: Threads + Wait + Sync + RandomSource>(
     rt: &R,
     alloc: Global,
     job: &[u8],

@@ -41,7 +41,8 @@ pub fn hash_row<H: Hash128>(row: &Row) -> u128
     H::hash(row.as_bytes())
 }
 
-fn foreign_key(
+/// The foreign key of a left row of this key; none where there is no row, or it has none. Want of memory is the one error.
+pub fn foreign_key(
     alloc: Global,
     fk: &Fk,
     left: &Key,
@@ -89,8 +90,8 @@ fn push_asked(
     Ok(())
 }
 
-// The hash of a row, where there is one.
-fn hash_of_row<H: Hash128>(row: Option<&Row>) -> Option<u128>
+/// The hash of a row, where there is one. Takes no memory.
+pub fn hash_of_row<H: Hash128>(row: Option<&Row>) -> Option<u128>
     ensures { result ≡ hash_of (row_hash H.hash_of) (option_copied row.entry) }
 {
     match row {

@@ -56,7 +56,12 @@ fn replica_at(
     if at < replicas.len() {
         return Ok(at);
     }
-    let replica = Replica::new(alloc, task, changelogs_in(topology, task.sub))?;
+    let replica = Replica::new(
+        alloc,
+        task,
+        changelogs_in(topology, task.sub),
+        topology.seed(),
+    )?;
     replicas.push(replica)?;
     Ok(at)
 }

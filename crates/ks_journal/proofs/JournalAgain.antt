@@ -26,7 +26,7 @@ joined [] b h k = k
 joined (c ∷ a) b h k = or_from (c == 10) (has_lf (a ++ b)) (or_parts (c == 10) (has_lf a) h).0 (joined a b (or_parts (c == 10) (has_lf a) h).1 k)
 
 -- ---- an escaped byte
-digit_above : (d : ℕ) → 10 < digit_char d
+pub digit_above : (d : ℕ) → 10 < digit_char d
 digit_above d = by (nat_lt d 10)
   where
     by : (b : Bool) → 10 < cond b (48 + d) (87 + d)
@@ -47,7 +47,7 @@ marks_above : (x : ℕ) (p q : Bool) → (p ≡ true → 10 < x) → (q ≡ true
 marks_above x true q h k e = h refl
 marks_above x false q h k e = k e
 
-short_above : (x : ℕ) → 0 < escape_letter x → 10 < escape_letter x
+pub short_above : (x : ℕ) → 0 < escape_letter x → 10 < escape_letter x
 short_above x h = letter_above ((x == 34) || (x == 92)) (x == 8) (x == 12) (x == 10) (x == 13) (x == 9) x
     (marks_above x (x == 34) (x == 92) (λ e. omega (arith, eqb-true x 34 e)) (λ e. omega (arith, eqb-true x 92 e))) h
 

@@ -30,6 +30,7 @@ use ks_run_verdict::{BAD_WORDS, NO_MEMORY, WRITE_FAULT};
 use ks_task_step::StepsBy;
 use ks_words::{Command, Settings, load_job, read_words};
 use std::alloc::Global;
+use std::random::RandomSource;
 use std::sync::Wait;
 use std::thread::Threads;
 
@@ -80,7 +81,7 @@ fn refuse_words<K: Sink>(alloc: Global, out: &mut K) -> Ended
 
 // Runs the load job of so many orders.
 #[tactic(auto, using(crate::proofs::LoadJob::load_in_time))]
-fn run_load<R: Threads + Wait + Sync, K: Sink>(
+fn run_load<R: Threads + Wait + Sync + RandomSource, K: Sink>(
     rt: &R,
     alloc: Global,
     orders: u32,
@@ -194,7 +195,7 @@ fn is_audit(command: &Option<Command>) -> bool
 }
 
 // Runs a command but `audit`, or refuses the words that name none.
-fn run_command<R: Threads + Wait + Sync, S: Source + Send, K: Sink>(
+fn run_command<R: Threads + Wait + Sync + RandomSource, S: Source + Send, K: Sink>(
     rt: &R,
     alloc: Global,
     command: Option<Command>,
@@ -297,7 +298,7 @@ fn run_command<R: Threads + Wait + Sync, S: Source + Send, K: Sink>(
 /// Runs the command that the words name, with Murmur3: `run` the job that the source holds, by `run_job`, `load N` the load job of N orders,
 /// which asks no source, `ask NODE KEY` the job that the source holds, by `run_asked`; `audit` audits the output that the source holds
 /// (`audit_source` of `ks_run_audit`). `--journal` has the journal's lines of `run` printed last. Words that aren't in the grammar have status 1: `bad words` is written, the source is as it was, and the journal is empty.
-pub fn top<R: Threads + Wait + Sync, S: Source + Send, K: Sink>(
+pub fn top<R: Threads + Wait + Sync + RandomSource, S: Source + Send, K: Sink>(
     rt: &R,
     alloc: Global,
     words: &[String],

@@ -26,6 +26,7 @@ use ks_task_processing::Processing;
 use ks_task_step::StepsBy;
 use ks_words::Settings;
 use std::alloc::Global;
+use std::random::RandomSource;
 use std::sync::Wait;
 use std::thread::Threads;
 
@@ -57,7 +58,12 @@ pub struct Ended {
 /// turns of `stop`; gates that are left over are dropped unasked. The journal is empty where the topology isn't known, or is refused, and with `stop` under statuses 2 and 6.
 /// With `journal` the journal's lines come last under statuses 0, 3 and 5 (`ks_journal`). A line is whole at its line feed, at its byte 65,537, or at the end of the input; the source isn't asked again once a
 /// faulty line is whole, nor after its end. The text is built whole before its first byte is written.
-pub fn run_job<H: Hash128 + Send + Sync, R: Threads + Wait + Sync, S: Source + Send, K: Sink>(
+pub fn run_job<
+    H: Hash128 + Send + Sync,
+    R: Threads + Wait + Sync + RandomSource,
+    S: Source + Send,
+    K: Sink,
+>(
     rt: &R,
     alloc: Global,
     settings: &Settings,
@@ -134,7 +140,12 @@ pub fn run_job<H: Hash128 + Send + Sync, R: Threads + Wait + Sync, S: Source + S
 /// The same, and a question is asked meanwhile and at the end: behind the tables stands a line for each of its 17 answers, in place of the
 /// journal's. Where the job has no such store as is asked for the status is 9: `bad ask 30 UnknownStore` or `bad ask 31 WrongStart` is
 /// written, and nothing is drained.
-pub fn run_asked<H: Hash128 + Send + Sync, R: Threads + Wait + Sync, S: Source + Send, K: Sink>(
+pub fn run_asked<
+    H: Hash128 + Send + Sync,
+    R: Threads + Wait + Sync + RandomSource,
+    S: Source + Send,
+    K: Sink,
+>(
     rt: &R,
     alloc: Global,
     settings: &Settings,
@@ -222,7 +233,12 @@ pub fn run_asked<H: Hash128 + Send + Sync, R: Threads + Wait + Sync, S: Source +
 }
 
 // Runs the job by a crew, and writes what it answers.
-fn run_crew<H: Processing + Send + Sync, R: Threads + Wait + Sync, S: Source + Send, K: Sink>(
+fn run_crew<
+    H: Processing + Send + Sync,
+    R: Threads + Wait + Sync + RandomSource,
+    S: Source + Send,
+    K: Sink,
+>(
     rt: &R,
     alloc: Global,
     input: &mut S,

@@ -34,7 +34,7 @@ use ks_iq::{Ask, IqFault};
 use ks_job_source::{JobEnd, OpenJob, print_bad_job};
 use ks_journal::push_journal;
 use ks_run_ask::{answer_last, bad_ask, print_bad_ask, push_answers};
-use ks_run_feed::{JobInput, counts_of, placing_of};
+use ks_run_feed::{JobInput, build_topology, counts_of, placing_of};
 use ks_run_output::print_read_fault;
 use ks_run_verdict::{BAD_ASK, BAD_JOB, COLLISION, READ_FAULT, Verdict, judge, print_verdict};
 use ks_run_workers::{Asked, RunWorkers, WorkEnd, last_position, run_workers};
@@ -44,6 +44,7 @@ use ks_task::{TaskWork, topology_fits};
 use ks_task_processing::Processing;
 use ks_topo::{Topology, share_topology};
 use std::alloc::{AllocError, Global};
+use std::random::RandomSource;
 use std::sync::Wait;
 use std::thread::Threads;
 
@@ -326,7 +327,7 @@ fn settle<H: Processing + Send + Sync, R: Threads + Wait + Sync, W: Work + Send 
 
 /// The run of a job that was opened, by this crew; the text has the journal's lines where the crew's settings say so. Want of
 /// memory, also in a worker, is the one error.
-pub fn settle_job<H: Processing + Send + Sync, R: Threads + Wait + Sync, S: Source>(
+pub fn settle_job<H: Processing + Send + Sync, R: Threads + Wait + Sync + RandomSource, S: Source>(
     rt: &R,
     alloc: Global,
     job: OpenJob,
@@ -347,7 +348,7 @@ pub fn settle_job<H: Processing + Send + Sync, R: Threads + Wait + Sync, S: Sour
         records,
         rest,
     } = job;
-    let Ok(topology) = Topology::build(alloc, draft)? else {
+    let Ok(topology) = build_topology(rt, alloc, draft)? else {
         unreachable!()
     };
     share_topology();

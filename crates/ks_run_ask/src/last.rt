@@ -39,7 +39,7 @@ pub fn answer_last<W: Work>(
         unreachable!()
     };
     let changelogs = topology.changelogs(place.task.sub);
-    let replica = replica_at_ends(alloc, cluster, place.task, changelogs)?;
+    let replica = replica_at_ends(alloc, cluster, place.task, changelogs, topology.seed())?;
     match stale(alloc, topology, &replica, ask, at_least)? {
         Ok(answer) => Ok(answer),
         Err(_) => unreachable!(),

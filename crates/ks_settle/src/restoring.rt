@@ -87,12 +87,13 @@ fn feed_to_end<W: Work>(
     Ok(())
 }
 
-// A replica of a task with these changelogs: the one that is given, or a new one.
+// A replica of a task with these changelogs: the one that is given, or a new one with this seed.
 fn replica_or_new<W: Work>(
     alloc: Global,
     cluster: &Cluster<W>,
     task: TaskId,
     changelogs: &[u16],
+    seed: u64,
     given: Option<Replica>,
 ) -> Result<Replica, AllocError>
     requires given { IsGiven (setup_of W.plan cluster.now) cluster.now.journal task given }
@@ -107,7 +108,7 @@ fn replica_or_new<W: Work>(
     match given {
         Some(replica) => Ok(replica),
         None => {
-            let replica = Replica::new(alloc, task, changelogs)?;
+            let replica = Replica::new(alloc, task, changelogs, seed)?;
             Ok(replica)
         }
     }
@@ -119,6 +120,7 @@ fn fed_replica<W: Work>(
     cluster: &Cluster<W>,
     task: TaskId,
     changelogs: &[u16],
+    seed: u64,
     given: Option<Replica>,
 ) -> Result<Replica, AllocError>
     requires given { IsGiven (setup_of W.plan cluster.now) cluster.now.journal task given }
@@ -129,19 +131,21 @@ fn fed_replica<W: Work>(
         task changelogs.now (length changelogs.now) r) }
 {
     cluster.is_history();
-    let mut replica = replica_or_new(alloc, cluster, task, changelogs, given)?;
+    let mut replica = replica_or_new(alloc, cluster, task, changelogs, seed, given)?;
     for i in 0..changelogs.len() {
         feed_to_end(alloc, cluster, &mut replica, changelogs[i])?;
     }
     Ok(replica)
 }
 
-/// A new replica of a task with these changelogs, fed each of them up to its end. Want of memory is the one error.
+/// A new replica of a task with these changelogs, whose stores begin the hashes of keys with this seed, fed each of them up to its end.
+/// Want of memory is the one error.
 pub fn replica_at_ends<W: Work>(
     alloc: Global,
     cluster: &Cluster<W>,
     task: TaskId,
     changelogs: &[u16],
+    seed: u64,
 ) -> Result<Replica, AllocError>
     requires quiet { IsQuiet W.plan cluster.now }
     requires there { has_task task cluster.now.tasks ≡ true }
@@ -149,7 +153,7 @@ pub fn replica_at_ends<W: Work>(
     ensures { IfOk result (λ r. HasReachedFirst (setup_of W.plan cluster.now) cluster.now.journal
         task changelogs.now (length changelogs.now) r) }
 {
-    fed_replica(alloc, cluster, task, changelogs, None)
+    fed_replica(alloc, cluster, task, changelogs, seed, None)
 }
 
 // A task of the worker that has every task: its committed offsets are read, and then a replica is fed up to the ends.
@@ -177,7 +181,7 @@ fn restore<W: Work>(
     cluster.is_history();
     let offsets = publisher.committed(alloc, cluster, task)?;
     let changelogs = topology.changelogs(task.sub);
-    let replica = fed_replica(alloc, cluster, task, changelogs, given)?;
+    let replica = fed_replica(alloc, cluster, task, changelogs, topology.seed(), given)?;
     match Task::of(alloc, topology, replica, offsets.as_slice(), cache) {
         Ok(task) => Ok(task),
         Err(_) => Err(AllocError),

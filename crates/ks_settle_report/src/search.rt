@@ -99,7 +99,7 @@ pub fn first_collision<H: Hash128>(
     ensures { IfOk result (λ o. option_map pair_of o
         ≡ first_in (row_hash H.hash_of) (kind_as shown) recs.now) }
 {
-    let mut rows = OrderedStore::new(alloc);
+    let mut rows = OrderedStore::new(alloc, 0);
     for i in 0..recs.len() {
         let entry = entry_of::<H>(alloc, shown, &recs[i].1)?;
         if meets_other(&mut rows, &entry)? {

@@ -53,6 +53,7 @@ fn node_rows<R: Threads + Sync, W: Work + Sync>(
     cluster: &Cluster<W>,
     node: &Node,
     topic: u16,
+    seed: u64,
 ) -> Result<Vec<TableRow>, AllocError>
     requires parts { (part : ℕ) → part + 1 ≤ node.now.parts
         → IsPart (setup_of W.plan cluster.now) (part_in topic part) }
@@ -60,8 +61,8 @@ fn node_rows<R: Threads + Sync, W: Work + Sync>(
         (state_of W.plan cluster.now) topic node.now.parts) }
 {
     match &node.op {
-        Op::WindowedCount { .. } => window_rows(alloc, cluster, topic, node.parts),
-        op => table_rows(rt, alloc, cluster, op, topic, node.parts),
+        Op::WindowedCount { .. } => window_rows(alloc, cluster, topic, node.parts, seed),
+        op => table_rows(rt, alloc, cluster, op, topic, node.parts, seed),
     }
 }
 
@@ -79,7 +80,7 @@ fn table_of<R: Threads + Sync, W: Work + Sync>(
         (state_of W.plan cluster.now) name.now) }
 {
     let (node, topic) = find_changelog(topology, name);
-    let rows = node_rows(rt, alloc, cluster, node, topic)?;
+    let rows = node_rows(rt, alloc, cluster, node, topic, topology.seed())?;
     Ok(Table {
         name: node.name.clone()?,
         rows: Seq::of(rows),

@@ -17,7 +17,7 @@ use ks_cluster::{Cluster, Work};
 use ks_query::TableRow;
 use ks_record::{Blob, Key, PartId};
 use ks_row::{Row, decode};
-use ks_store::{KvStore, PlainStore, restore};
+use ks_store::{KvStore, OrderedStore, restore};
 use ks_topo::Op;
 use ks_wire::read_agg;
 use std::alloc::{AllocError, Global};
@@ -32,6 +32,14 @@ pub enum StoredForm {
     Members,
     /// What an aggregate adds up to.
     Total,
+}
+
+// A node's changelog: its topic, what its rows show, and what the hashes of its keys begin with.
+#[derive(Clone, Copy)]
+struct ShownLog {
+    topic: u16,
+    form: StoredForm,
+    seed: u64,
 }
 
 /// What a node's changelog shows, by the node's operation.
@@ -112,17 +120,19 @@ fn push_pairs(
     Ok(())
 }
 
-/// What the decided records of a changelog's partition leave, in order of key bytes. `Err` only where memory ran out.
+/// What the decided records of a changelog's partition leave, in order of key bytes, read by hashes of keys that begin with this seed.
+/// `Err` only where memory ran out.
 pub fn stored_pairs<W: Work>(
     alloc: Global,
     cluster: &Cluster<W>,
     part: PartId,
+    seed: u64,
 ) -> Result<Vec<(Blob, Blob)>, AllocError>
     requires { IsPart (setup_of W.plan cluster.now) part }
     ensures { IfOk result (λ v. v.items ≡ pairs_in (state_of W.plan cluster.now) part) }
 {
     let recs = cluster.decided(alloc, part)?;
-    let mut store = PlainStore::new(alloc);
+    let mut store = OrderedStore::new(alloc, seed);
     restore(&mut store, recs.as_slice())?;
     store.prefix(&[])
 }
@@ -131,18 +141,25 @@ pub fn stored_pairs<W: Work>(
 fn rows_in<W: Work>(
     alloc: Global,
     cluster: &Cluster<W>,
-    shown: StoredForm,
-    topic: u16,
+    log: ShownLog,
     part: u8,
 ) -> Result<Vec<TableRow>, AllocError>
-    requires { IsPart (setup_of W.plan cluster.now) (part_in topic part) }
+    requires { IsPart (setup_of W.plan cluster.now) (part_in log.topic part) }
     ensures { IfOk result (λ v. v.items ≡ map plain_row
-        (put_pairs (op_as shown) [] (pairs_in (state_of W.plan cluster.now)
-        (part_in topic part)))) }
+        (put_pairs (op_as log.form) [] (pairs_in (state_of W.plan cluster.now)
+        (part_in log.topic part)))) }
 {
-    let pairs = stored_pairs(alloc, cluster, PartId { topic, part })?;
+    let pairs = stored_pairs(
+        alloc,
+        cluster,
+        PartId {
+            topic: log.topic,
+            part,
+        },
+        log.seed,
+    )?;
     let mut rows = Vec::with_capacity(alloc, pairs.len())?;
-    push_pairs(alloc, shown, pairs.as_slice(), &mut rows)?;
+    push_pairs(alloc, log.form, pairs.as_slice(), &mut rows)?;
     Ok(rows)
 }
 
@@ -151,22 +168,21 @@ fn rows_from<R: Threads + Sync, W: Work + Sync>(
     rt: &R,
     alloc: Global,
     cluster: &Cluster<W>,
-    shown: StoredForm,
-    topic: u16,
+    log: ShownLog,
     from: u8,
     count: u8,
 ) -> Result<Vec<TableRow>, AllocError>
     requires last { from + count ≤ 255 }
     requires parts { (part : ℕ) → part + 1 ≤ from + count
-        → IsPart (setup_of W.plan cluster.now) (part_in topic part) }
+        → IsPart (setup_of W.plan cluster.now) (part_in log.topic part) }
     ensures { IfOk result (λ v. v.items ≡ map plain_row
-        (with_parts (op_as shown) (state_of W.plan cluster.now) topic [] (parts_from from count))) }
+        (with_parts (op_as log.form) (state_of W.plan cluster.now) log.topic [] (parts_from from count))) }
 {
     if count == 0 {
         return Ok(Vec::new(alloc));
     }
     if count == 1 {
-        return rows_in(alloc, cluster, shown, topic, from);
+        return rows_in(alloc, cluster, log, from);
     }
     let half = count / 2;
     let (middle, rest) = (from + half, count - half);
@@ -175,25 +191,26 @@ fn rows_from<R: Threads + Sync, W: Work + Sync>(
         || -> Result<Vec<TableRow>, AllocError>
             requires { IsSync R.row × IsSync W.row × (from + half ≤ 255)
                 × ((part : ℕ) → part + 1 ≤ from + half
-                → IsPart (setup_of W.plan cluster.now) (part_in topic part)) }
+                → IsPart (setup_of W.plan cluster.now) (part_in log.topic part)) }
             ensures { IfOk result (λ v. v.items
-                ≡ map plain_row (with_parts (op_as shown) (state_of W.plan cluster.entry.now) topic
-                [] (parts_from from half))) }
-        { rows_from(rt, alloc, cluster, shown, topic, from, half) },
+                ≡ map plain_row (with_parts (op_as log.form) (state_of W.plan cluster.entry.now)
+                log.topic [] (parts_from from half))) }
+        { rows_from(rt, alloc, cluster, log, from, half) },
         || -> Result<Vec<TableRow>, AllocError>
             requires { IsSync R.row × IsSync W.row × (middle + rest ≤ 255)
                 × ((part : ℕ) → part + 1 ≤ middle + rest
-                → IsPart (setup_of W.plan cluster.now) (part_in topic part)) }
+                → IsPart (setup_of W.plan cluster.now) (part_in log.topic part)) }
             ensures { IfOk result (λ v. v.items
-                ≡ map plain_row (with_parts (op_as shown) (state_of W.plan cluster.entry.now) topic
-                [] (parts_from middle rest))) }
-        { rows_from(rt, alloc, cluster, shown, topic, middle, rest) },
+                ≡ map plain_row (with_parts (op_as log.form) (state_of W.plan cluster.entry.now)
+                log.topic [] (parts_from middle rest))) }
+        { rows_from(rt, alloc, cluster, log, middle, rest) },
     );
     merge_rows(alloc, earlier?, later?)
 }
 
 /// The rows that a node keeps, over all partitions of its changelog, as they are printed and in order of key bytes. Partitions are
-/// read side by side where threads can be made; where two have a key, the row is that of the later. `Err` only where memory ran out.
+/// read side by side where threads can be made, by hashes of keys that begin with this seed; where two have a key, the row is that of the
+/// later. `Err` only where memory ran out.
 pub fn table_rows<R: Threads + Sync, W: Work + Sync>(
     rt: &R,
     alloc: Global,
@@ -201,11 +218,17 @@ pub fn table_rows<R: Threads + Sync, W: Work + Sync>(
     op: &Op,
     topic: u16,
     parts: u8,
+    seed: u64,
 ) -> Result<Vec<TableRow>, AllocError>
     requires parts { (part : ℕ) → part + 1 ≤ parts
         → IsPart (setup_of W.plan cluster.now) (part_in topic part) }
     ensures { IfOk result (λ v. v.items ≡ map plain_row
         (with_parts (op_view op.now) (state_of W.plan cluster.now) topic [] (up_to parts))) }
 {
-    rows_from(rt, alloc, cluster, form_of(op), topic, 0, parts)
+    let log = ShownLog {
+        topic,
+        form: form_of(op),
+        seed,
+    };
+    rows_from(rt, alloc, cluster, log, 0, parts)
 }

@@ -69,6 +69,7 @@ fn put_parts<W: Work>(
     cluster: &Cluster<W>,
     topic: u16,
     parts: u8,
+    seed: u64,
     windows: &mut BTreeMap<(Key, u64), Row>,
 ) -> Result<(), AllocError>
     requires { (part : ℕ) → part + 1 ≤ parts → IsPart (setup_of W.plan cluster.now)
@@ -77,7 +78,7 @@ fn put_parts<W: Work>(
         ≡ with_parts (state_of W.plan cluster.now) topic windows.old.entries (up_to parts)) }
 {
     for part in 0..parts {
-        let pairs = stored_pairs(alloc, cluster, PartId { topic, part })?;
+        let pairs = stored_pairs(alloc, cluster, PartId { topic, part }, seed)?;
         put_pairs(alloc, pairs.as_slice(), windows)?;
     }
     Ok(())
@@ -99,12 +100,14 @@ fn rows_of(alloc: Global, windows: &BTreeMap<(Key, u64), Row>) -> Result<Vec<Tab
 }
 
 /// The windows that a windowed count keeps, over all partitions of its changelog, as they are printed: in order of key bytes, then of
-/// starts. A pair that spells no window, as that of the greatest timestamp, counts as absent. `Err` only where memory ran out.
+/// starts; they are read by hashes of keys that begin with this seed. A pair that spells no window, as that of the greatest timestamp,
+/// counts as absent. `Err` only where memory ran out.
 pub fn window_rows<W: Work>(
     alloc: Global,
     cluster: &Cluster<W>,
     topic: u16,
     parts: u8,
+    seed: u64,
 ) -> Result<Vec<TableRow>, AllocError>
     requires parts { (part : ℕ) → part + 1 ≤ parts
         → IsPart (setup_of W.plan cluster.now) (part_in topic part) }
@@ -112,6 +115,6 @@ pub fn window_rows<W: Work>(
         (with_parts (state_of W.plan cluster.now) topic [] (up_to parts))) }
 {
     let mut windows = BTreeMap::new(alloc);
-    put_parts(alloc, cluster, topic, parts, &mut windows)?;
+    put_parts(alloc, cluster, topic, parts, seed, &mut windows)?;
     rows_of(alloc, &windows)
 }

@@ -26,7 +26,7 @@ ghost use Rattle.ks_record.specs.declared.record.TaskId.{TaskId as Task};
 ghost use Rattle.ks_shared.specs.declared.state.Frame.{Frame};
 
 use crate::barred::Barred;
-use crate::state::SharedState;
+use crate::state::{HeldState, SharedState};
 use ks_cluster::{Cluster, Work};
 use ks_growing::{Growing, Pass};
 use ks_history::Status;
@@ -46,14 +46,47 @@ pub struct Shared<W: Work> {
 }
 
 // A cluster of which nothing is parked, with an empty shelf.
-fn state_with<W: Work>(alloc: Global, cluster: Cluster<W>) -> SharedState<W>
+fn held_with<W: Work>(alloc: Global, cluster: Cluster<W>) -> HeldState<W>
     requires { (i : ℕ) (t : Task) → (state_of W.plan cluster).parked i t ≡ false }
     ensures { result ≡ cluster }
 {
-    SharedState {
+    HeldState {
         cluster,
         shelf: Parked::new(alloc),
     }
+}
+
+// The cluster alone; what is still parked is dropped.
+fn cluster_of<W: Work>(held: HeldState<W>) -> Cluster<W>
+    ensures { result ≡ held }
+{
+    let HeldState { cluster, shelf: _ } = held;
+    cluster
+}
+
+// A cluster of which nothing is parked, as the lock keeps it. On want of memory the cluster comes back.
+fn state_with<W: Work>(
+    alloc: Global,
+    cluster: Cluster<W>,
+) -> Result<SharedState<W>, AllocFailed<Cluster<W>>>
+    requires { (i : ℕ) (t : Task) → (state_of W.plan cluster).parked i t ≡ false }
+    ensures ok { IfOk result (λ s. s ≡ cluster) }
+    ensures err { IfErr result (λ e. e.value ≡ cluster) }
+{
+    match Box::new(alloc, held_with(alloc, cluster)) {
+        Ok(held) => Ok(SharedState { held }),
+        Err(failed) => Err(AllocFailed {
+            value: cluster_of(failed.value),
+        }),
+    }
+}
+
+// The cluster that the lock kept; what is still parked is dropped.
+fn cluster_in<W: Work>(state: SharedState<W>) -> Cluster<W>
+    ensures { result ≡ state }
+{
+    let SharedState { held } = state;
+    cluster_of(Box::into_inner(held))
 }
 
 impl<W: Work> Shared<W> {
@@ -73,12 +106,15 @@ impl<W: Work> Shared<W> {
             (λ r. Each (IsFresh r.0.growing.id cluster.journal (frame_of cluster)) r.1.items) }
         ensures err { IfErr result (λ e. e.value ≡ cluster) }
     {
-        match Growing::new(alloc, state_with(alloc, cluster), passes) {
+        let state = match state_with(alloc, cluster) {
+            Ok(state) => state,
+            Err(failed) => return Err(failed),
+        };
+        match Growing::new(alloc, state, passes) {
             Ok((growing, passes)) => Ok((Shared { growing }, passes)),
-            Err(failed) => {
-                let SharedState { cluster, shelf: _ } = failed.value;
-                Err(AllocFailed { value: cluster })
-            }
+            Err(failed) => Err(AllocFailed {
+                value: cluster_in(failed.value),
+            }),
         }
     }
 
@@ -99,8 +135,7 @@ impl<W: Work> Shared<W> {
             → filter is_callers result.journal ≡ filter is_callers (seen_of p) }
     {
         let Shared { growing } = self;
-        let SharedState { cluster, shelf: _ } = growing.close(passes);
-        cluster
+        cluster_in(growing.close(passes))
     }
 
     /// Sleeps for so long, or less, in nobody's way: for a thread that has nothing to do before others have.
@@ -148,8 +183,8 @@ impl<W: Work> Shared<W> {
             × OnErr result (after ≡ before)) }
     {
         let mut state = self.growing.enter(rt, pass);
-        let answer = state.produce(alloc, part, rec);
-        state.tell();
+        let answer = state.held.produce(alloc, part, rec);
+        state.held.tell();
         self.growing.leave(pass, state);
         answer
     }
@@ -173,8 +208,8 @@ impl<W: Work> Shared<W> {
             × OnErr result (after ≡ before)) }
     {
         let mut state = self.growing.enter(rt, pass);
-        let answer = state.mark_next(alloc, w);
-        state.tell();
+        let answer = state.held.mark_next(alloc, w);
+        state.held.tell();
         self.growing.leave(pass, state);
         answer
     }
@@ -198,8 +233,8 @@ impl<W: Work> Shared<W> {
             × OnErr result (after ≡ before)) }
     {
         let mut state = self.growing.enter(rt, pass);
-        let answer = state.join(alloc, w);
-        state.tell();
+        let answer = state.held.join(alloc, w);
+        state.held.tell();
         self.growing.leave(pass, state);
         answer
     }
@@ -222,8 +257,8 @@ impl<W: Work> Shared<W> {
             × OnErr result (after ≡ before)) }
     {
         let mut state = self.growing.enter(rt, pass);
-        let answer = state.expire(alloc, w);
-        state.tell();
+        let answer = state.held.expire(alloc, w);
+        state.held.tell();
         self.growing.leave(pass, state);
         answer
     }
@@ -246,8 +281,8 @@ impl<W: Work> Shared<W> {
             × OnErr result (after ≡ before)) }
     {
         let mut state = self.growing.enter(rt, pass);
-        let answer = state.hold(alloc, w, held);
-        state.tell();
+        let answer = state.held.hold(alloc, w, held);
+        state.held.tell();
         self.growing.leave(pass, state);
         answer
     }
@@ -271,8 +306,8 @@ impl<W: Work> Shared<W> {
             × OnErr result (after ≡ before)) }
     {
         let mut state = self.growing.enter(rt, pass);
-        let answer = state.probe(alloc, w, generation);
-        state.tell();
+        let answer = state.held.probe(alloc, w, generation);
+        state.held.tell();
         self.growing.leave(pass, state);
         answer
     }
@@ -300,8 +335,8 @@ impl<W: Work> Shared<W> {
             × OnErr result (after ≡ before)) }
     {
         let mut state = self.growing.enter(rt, pass);
-        let answer = state.assign(alloc, w, generation, a);
-        state.tell();
+        let answer = state.held.assign(alloc, w, generation, a);
+        state.held.tell();
         self.growing.leave(pass, state);
         answer
     }
@@ -327,8 +362,8 @@ impl<W: Work> Shared<W> {
             × OnErr result (after ≡ before) × OnErr result (last.new ≡ last.old)) }
     {
         let mut state = self.growing.enter(rt, pass);
-        let answer = state.init(alloc, w, last);
-        state.tell();
+        let answer = state.held.init(alloc, w, last);
+        state.held.tell();
         self.growing.leave(pass, state);
         answer
     }
@@ -356,8 +391,8 @@ impl<W: Work> Shared<W> {
             × OnErr result (after ≡ before) × OnErr result (last.new ≡ last.old)) }
     {
         let mut state = self.growing.enter(rt, pass);
-        let answer = state.add(alloc, w, epoch, part, last);
-        state.tell();
+        let answer = state.held.add(alloc, w, epoch, part, last);
+        state.held.tell();
         self.growing.leave(pass, state);
         answer
     }
@@ -390,8 +425,10 @@ impl<W: Work> Shared<W> {
             × OnErr result (after ≡ before) × OnErr result (last.new ≡ last.old)) }
     {
         let mut state = self.growing.enter(rt, pass);
-        let answer = state.append(alloc, w, epoch, number, task, part, recs, last);
-        state.tell();
+        let answer = state
+            .held
+            .append(alloc, w, epoch, number, task, part, recs, last);
+        state.held.tell();
         self.growing.leave(pass, state);
         answer
     }
@@ -427,10 +464,10 @@ impl<W: Work> Shared<W> {
             × OnErr result (after ≡ before) × OnErr result (last.new ≡ last.old)) }
     {
         let mut state = self.growing.enter(rt, pass);
-        let answer = state.send_offsets(
+        let answer = state.held.send_offsets(
             alloc, w, epoch, generation, task, offsets, order, late, last,
         );
-        state.tell();
+        state.held.tell();
         self.growing.leave(pass, state);
         answer
     }
@@ -463,9 +500,9 @@ impl<W: Work> Shared<W> {
             × OnErr result (after ≡ before) × OnErr result (last.new ≡ last.old)) }
     {
         let mut state = self.growing.enter(rt, pass);
-        state.tell();
-        let answer = state.decide(alloc, w, epoch, commit, last);
-        state.tell();
+        state.held.tell();
+        let answer = state.held.decide(alloc, w, epoch, commit, last);
+        state.held.tell();
         self.growing.leave(pass, state);
         answer
     }
@@ -493,9 +530,9 @@ impl<W: Work> Shared<W> {
             × IfErr result (λ e. (e.value ≡ replica) × (after ≡ before))) }
     {
         let mut state = self.growing.enter(rt, pass);
-        state.tell();
-        let answer = state.park(alloc, instance, replica);
-        state.tell();
+        state.held.tell();
+        let answer = state.held.park(alloc, instance, replica);
+        state.held.tell();
         self.growing.leave(pass, state);
         answer
     }
@@ -522,8 +559,8 @@ impl<W: Work> Shared<W> {
             × OnErr result (after ≡ before)) }
     {
         let mut state = self.growing.enter(rt, pass);
-        let answer = state.unpark(alloc, instance, task);
-        state.tell();
+        let answer = state.held.unpark(alloc, instance, task);
+        state.held.tell();
         self.growing.leave(pass, state);
         answer
     }
@@ -550,8 +587,8 @@ impl<W: Work> Shared<W> {
             × IfOk result (λ r. r.1 ≡ (fetched (state_of W.plan after) part from max).1)) }
     {
         let state = self.growing.enter(rt, pass);
-        let answer = state.fetch(alloc, part, from, max);
-        state.tell();
+        let answer = state.held.fetch(alloc, part, from, max);
+        state.held.tell();
         self.growing.leave(pass, state);
         answer
     }
@@ -579,8 +616,8 @@ impl<W: Work> Shared<W> {
             (λ r. Refuses (committed_refusal (state_of W.plan after) w generation task) r)) }
     {
         let state = self.growing.enter(rt, pass);
-        let answer = state.committed(alloc, w, generation, task);
-        state.tell();
+        let answer = state.held.committed(alloc, w, generation, task);
+        state.held.tell();
         self.growing.leave(pass, state);
         answer
     }
@@ -601,8 +638,8 @@ impl<W: Work> Shared<W> {
             × IfOk result (λ v. v.items ≡ ends_of (state_of W.plan after) parts.now)) }
     {
         let state = self.growing.enter(rt, pass);
-        let answer = state.ends(alloc, parts);
-        state.tell();
+        let answer = state.held.ends(alloc, parts);
+        state.held.tell();
         self.growing.leave(pass, state);
         answer
     }
@@ -623,8 +660,8 @@ impl<W: Work> Shared<W> {
             × IfOk result (λ r. r ≡ status (setup_of W.plan after) (state_of W.plan after))) }
     {
         let state = self.growing.enter(rt, pass);
-        let answer = state.status(alloc);
-        state.tell();
+        let answer = state.held.status(alloc);
+        state.held.tell();
         self.growing.leave(pass, state);
         answer
     }

@@ -33,16 +33,15 @@ pub struct Frame<W> {
     pub tasks: Seq<TaskId>,
 }
 
-/// A cluster and the shelf of all instances, as the lock keeps them. The entries are those of the
-/// cluster's journal, of which `produce`, and `init` and `join` of worker 16, are left to pass 0. Each replica
-/// on the shelf follows the journal, and one stands there for exactly the pairs that are parked in the cluster.
+// A cluster and the shelf of all instances, in the block that the lock's value points to. Each replica on the shelf
+// follows the journal, and one stands there for exactly the pairs that are parked in the cluster.
 #[derive(Drop)]
-pub struct SharedState<W: Work> {
+pub(crate) struct HeldState<W: Work> {
     pub(crate) cluster: Cluster<W>,
     pub(crate) shelf: Parked,
 }
 
-impl<W: Work> Model for SharedState<W> {
+impl<W: Work> Model for HeldState<W> {
     ghost use Rattle.ks_cluster.specs.View.{ClusterView};
     ghost use Rattle.ks_shared.specs.Shelf.{IsShelf};
 
@@ -51,6 +50,23 @@ impl<W: Work> Model for SharedState<W> {
     ghost view = { λ s. s.cluster };
 
     ghost invariant = { λ s. IsShelf W.plan s.cluster s.shelf };
+}
+
+/// A cluster and the shelf of all instances, as the lock keeps them. The entries are those of the
+/// cluster's journal, of which `produce`, and `init` and `join` of worker 16, are left to pass 0. Each replica
+/// on the shelf follows the journal, and one stands there for exactly the pairs that are parked in the cluster.
+/// They lie in a block of their own, so that a turn through the lock moves its address alone.
+#[derive(Drop)]
+pub struct SharedState<W: Work> {
+    pub(crate) held: Box<HeldState<W>>,
+}
+
+impl<W: Work> Model for SharedState<W> {
+    ghost use Rattle.ks_cluster.specs.View.{ClusterView};
+
+    ghost Value = { ClusterView W };
+
+    ghost view = { λ s. s.held.value };
 }
 
 impl<W: Work> Journaled for SharedState<W> {
@@ -65,11 +81,11 @@ impl<W: Work> Journaled for SharedState<W> {
     ghost frame = { frame_of };
 
     fn entries(&self) -> u64 {
-        self.cluster.journal().len() as u64
+        self.held.cluster.journal().len() as u64
     }
 }
 
-impl<W: Work> SharedState<W> {
+impl<W: Work> HeldState<W> {
     // That the journal is legal and faithful, as a fact.
     pub(crate) fn tell(&self)
         ensures { IsHistory (setup_of W.plan self.now) self.now.journal }

@@ -7,8 +7,12 @@ use ks_cache::{Changelog, TaskStore};
 use ks_record::Rec;
 use std::alloc::{AllocError, Global};
 
-/// New changelogs, with empty stores.
-pub fn new_changelogs(alloc: Global, numbers: &[u16]) -> Result<Vec<Changelog>, AllocError>
+/// New changelogs, with empty stores, whose hashes of keys begin with this seed.
+pub fn new_changelogs(
+    alloc: Global,
+    numbers: &[u16],
+    seed: u64,
+) -> Result<Vec<Changelog>, AllocError>
     ensures { IfOk result (λ v. v.items ≡ map
         (λ number. record { topic = number; position = 0; store = empty_kept }) numbers.now) }
 {
@@ -17,7 +21,7 @@ pub fn new_changelogs(alloc: Global, numbers: &[u16]) -> Result<Vec<Changelog>, 
         changelogs.push(Changelog {
             topic: *number,
             position: 0,
-            store: TaskStore::new(alloc),
+            store: TaskStore::new(alloc, seed),
         })?;
     }
     Ok(changelogs)

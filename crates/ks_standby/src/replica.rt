@@ -20,13 +20,18 @@ pub struct Replica {
 }
 
 impl Replica {
-    /// A replica that was fed nothing, of a task with these changelogs. It follows every journal (`replica_starts` of
-    /// `ks_law_restore`).
-    pub fn new(alloc: Global, task: TaskId, changelogs: &[u16]) -> Result<Replica, AllocError>
+    /// A replica that was fed nothing, of a task with these changelogs, whose stores begin the hashes of keys with this seed. It follows
+    /// every journal (`replica_starts` of `ks_law_restore`).
+    pub fn new(
+        alloc: Global,
+        task: TaskId,
+        changelogs: &[u16],
+        seed: u64,
+    ) -> Result<Replica, AllocError>
         ensures view { IfOk result (λ r. replica_view r ≡ fresh_replica task) }
         ensures changelogs { IfOk result (λ r. changelogs_of r ≡ changelogs.now) }
     {
-        let changelogs = new_changelogs(alloc, changelogs)?;
+        let changelogs = new_changelogs(alloc, changelogs, seed)?;
         Ok(Replica {
             id: task,
             changelogs,

@@ -1,5 +1,5 @@
 -- Keys that have a front, and the groups in which they stand by it.
-use Rattle.std.proofs.Common.{◌≡◌, ℕ, zero, suc, ◌+◌, ◌<◌, ◌≤◌, Bool, true, false, cond, not, List, [], ◌∷◌, length, take, drop, Option, Some, None, refl, sym, ap, subst, ◌∙◌, arith, ltb, leb, eqb, le-ltb, le-leb, ltb-false, leb-true, eqb-true, length-drop, length-take, take-take}
+use Rattle.std.proofs.Common.{◌≡◌, ℕ, zero, suc, ◌+◌, ◌≤◌, Bool, true, false, cond, not, List, [], ◌∷◌, length, take, drop, Option, Some, None, refl, sym, ap, subst, ◌∙◌, arith, le-ltb, le-leb, ltb-false, eqb-true, length-drop}
 use Rattle.std.specs.Prelude.{is_some, IsSome, ◌==◌, nat_le, nat_lt, nat_eq, option_map, Result, Ok, Err, OnOk, OnErr, ⊤}
 use Rattle.std.specs.Global.{Vec}
 use Rattle.std.specs.Int.{w32, from_be_bytes}
@@ -11,14 +11,13 @@ use Rattle.std.specs.Cmp.{eq_by_cmp_equiv}
 use Rattle.std.specs.Cmp.Lexicographic.{pointwise, texts_ties}
 use Rattle.std.specs.List.{starts_with, AllByRecursion}
 use Rattle.std.specs.Map.{lookup, KeepsOthers}
-use Rattle.std.specs.FinMap.Entries.{find, put, where_key, by_order, find-put, is_sorted-put, is_sorted-where_key}
+use Rattle.std.specs.FinMap.Entries.{find, put, where_key, by_order, is_sorted-put, is_sorted-where_key}
 use Rattle.std.proofs.lemmas.Bool.{true≢false}
 use Rattle.std.proofs.lemmas.Cmp.{nat_list_cmp_total}
 use Rattle.ks_def_runs.specs.Bytes.{by_bytes}
-use Rattle.ks_store.specs.Pairs.{Rises}
 use Rattle.ks_store.specs.declared.groups.Group.{Group}
 use Rattle.ks_store.specs.declared.groups.Group.TheVariants.{One, Many}
-use Rattle.ks_store.specs.Groups.{Keys, front_end, front_in, is_some_of, keys_in, with_key, keys_without, is_only_key, IsGroup, groups_of, keys_or_none, listed_under, AreGroups, IsListed, StayListed, OthersStay, Lists}
+use Rattle.ks_store.specs.Groups.{Keys, front_end, front_in, is_some_of, keys_in, with_key, keys_without, is_only_key, IsGroup, groups_of, keys_or_none, listed_under, AreGroups, IsListed, StayListed, OthersStay}
 use Rattle.ks_store.proofs.Trees.{under}
 use Rattle.ks_store.proofs.Tables.{same_key, alike_test, apart_test, still_some, now_some, others_stay}
 
@@ -191,7 +190,7 @@ regrouped old new f w at others q = by (eq_by_cmp by_bytes q f) refl
     by true e = ap (λ (x : List ℕ). listed_under x (groups_of new)) (same_key q f e) ∙ (sym (listed_is new f) ∙ ap (λ (o : Option Group). keys_or_none (option_map keys_in o)) at)
     by false e =
         sym (listed_is new q)
-        ∙ (ap (λ (o : Option Group). keys_or_none (option_map keys_in o)) (others (λ (x : Vec ℕ). pointwise nat_eq q x.items) (alike_test q) (apart_test q f e)) ∙ listed_is old q)
+        ∙ (ap (λ (o : Option Group). keys_or_none (option_map keys_in o)) (others (λ (x : Vec ℕ). pointwise nat_eq q x.items) (alike_test (λ (x : Vec ℕ). x.items) q) (apart_test (λ (x : Vec ℕ). x.items) q f e)) ∙ listed_is old q)
 
 -- a change at one front: the keys there, and all others as before
 abbrev pub ChangesAt : List ℕ → Keys → Grouped → Grouped → Type 0

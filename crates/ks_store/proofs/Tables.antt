@@ -1,8 +1,10 @@
--- A hash table of vectors is the finite map of its rows, and the rows of the keys listed under a front are the pairs under it.
-use Rattle.std.proofs.Common.{◌≡◌, ℕ, ◌+◌, ◌-◌, Bool, true, false, cond, not, ◌&&◌, ◌||◌, T, List, [], ◌∷◌, ◌++◌, length, get_or, take, ◌<◌, Option, Some, None, refl, sym, ap, subst, ◌∙◌, arith, append-nil}
-use Rattle.std.specs.Prelude.{is_some, IsSome, ◌==◌, Result, Ok, Err, OnOk, OnErr, ⊤}
+-- A table of short keys and one of long keys are the finite map of the rows of both, and the rows of the keys listed under a front are
+-- the pairs under it.
+use Rattle.std.proofs.Common.{◌≡◌, ℕ, ◌+◌, ◌-◌, Bool, true, false, cond, not, ◌&&◌, T, List, [], ◌∷◌, ◌++◌, length, get_or, take, ◌<◌, ◌≤◌, Option, Some, None, refl, sym, ap, ap₂, subst, ◌∙◌, arith, append-nil}
+use Rattle.std.specs.Prelude.{is_some, IsSome, ◌==◌, nat_le, Result, Ok, Err, OnOk, OnErr, ⊤}
 use Rattle.std.specs.Bool.{nat_eq}
 use Rattle.std.specs.Global.{Vec}
+use Rattle.arrayvec.specs.ArrayVec.{ArrayVec}
 use Rattle.std.specs.declared.alloc.AllocError.{AllocError}
 use Rattle.std.specs.declared.cmp.Ordering.{Ordering}
 use Rattle.std.specs.declared.cmp.Ordering.TheVariants.{Less, Equal, Greater}
@@ -11,20 +13,20 @@ use Rattle.std.specs.Cmp.Lexicographic.{pointwise, texts_ties}
 use Rattle.std.specs.Cmp.{eq_by_cmp_equiv}
 use Rattle.std.specs.List.{starts_with}
 use Rattle.std.specs.Map.{lookup, KeepsOthers}
-use Rattle.std.proofs.lemmas.List.{length-map, take_more}
+use Rattle.std.proofs.lemmas.List.{length-map, length-append, take_more}
 use Rattle.std.specs.FinMap.{slice_cmp-IsAntisymmetric, nat_cmp-IsAntisymmetric}
 use Rattle.std.specs.FinMap.Entries.{find, put, where_key, below_all, find-put, find-where_key, same_entries, is_sorted-where_key}
-use Rattle.std.proofs.lemmas.Bool.{true≢false}
+use Rattle.std.proofs.lemmas.Bool.{true≢false, le-leb, leb-true}
 use Rattle.std.proofs.lemmas.Cmp.{nat_list_cmp_total}
 use Rattle.ks_def_runs.specs.Bytes.{Store, by_bytes, empty_store}
 use Rattle.ks_def_runs.specs.FinMap as fin
 use Rattle.ks_record.specs.Bytes.{IsBytes}
-use Rattle.ks_store.specs.Pairs.{pairs_of, Rises}
+use Rattle.ks_store.specs.Pairs.{Rises}
 use Rattle.ks_def_runs.specs.Pairs.{ArePairs}
 use Rattle.ks_def_runs.specs.Prefixes.{pairs_under}
 use Rattle.ks_store.specs.declared.groups.Group.{Group}
 use Rattle.ks_store.specs.Groups.{groups_of, AreGroups, IsListed, Lists}
-use Rattle.ks_store.specs.Rows.{rows_of, row_store, ListsAll, with_found, rows_for, IsTable}
+use Rattle.ks_store.specs.Rows.{rows_by, short_rows, long_rows, AreApart, row_store, with_found, rows_for, IsTable}
 use Rattle.ks_store.proofs.Trees.{first, second, under, bytes_where, bytes_put}
 
 abbrev Pairs : Type 0
@@ -43,26 +45,52 @@ is_equal Greater p = absurd (true≢false (sym p))
 pub same_key : (x y : List ℕ) → eq_by_cmp by_bytes x y ≡ true → x ≡ y
 same_key x y e = same x y (is_equal _ e)
 
-pub find_rows : (es : List (Vec ℕ × List ℕ)) (q : List ℕ) → lookup (λ (k : Vec ℕ). pointwise nat_eq q k.items) es ≡ find by_bytes q (rows_of es)
-find_rows [] q = refl
-find_rows (e ∷ es) q = ap (λ b. cond b (Some e.1) (lookup (λ (k : Vec ℕ). pointwise nat_eq q k.items) es)) (texts_ties q e.0.items) ∙ ap (cond (eq_by_cmp by_bytes q e.0.items) (Some e.1)) (find_rows es q)
+-- whatever keys a table has, by their bytes
+module _ {K : Type 0} (bytes : K → List ℕ) where
+  pub find_rows : (es : List (K × List ℕ)) (q : List ℕ) → lookup (λ (k : K). pointwise nat_eq q (bytes k)) es ≡ find by_bytes q (rows_by bytes es)
+  find_rows [] q = refl
+  find_rows (e ∷ es) q = ap (λ b. cond b (Some e.1) (lookup (λ (k : K). pointwise nat_eq q (bytes k)) es)) (texts_ties q (bytes e.0)) ∙ ap (cond (eq_by_cmp by_bytes q (bytes e.0)) (Some e.1)) (find_rows es q)
 
-pub alike_test : (q : List ℕ) (x y : Vec ℕ) → pointwise nat_eq q x.items ≡ true → pointwise nat_eq q y.items ≡ pointwise nat_eq x.items y.items
-alike_test q x y e = ap (λ (k : List ℕ). pointwise nat_eq k y.items) (same_key q x.items (sym (texts_ties q x.items) ∙ e))
+  -- the same with other words for the key
+  pub found_row : (es : List (K × List ℕ)) (q k : List ℕ) → q ≡ k → lookup (λ (x : K). pointwise nat_eq q (bytes x)) es ≡ find by_bytes k (rows_by bytes es)
+  found_row es q k is = find_rows es q ∙ ap (λ (x : List ℕ). find by_bytes x (rows_by bytes es)) is
 
-pub apart_test : (q k : List ℕ) → eq_by_cmp by_bytes q k ≡ false → (x : Vec ℕ) → pointwise nat_eq k x.items ≡ true → pointwise nat_eq q x.items ≡ false
-apart_test q k apart x e = ap (λ (y : List ℕ). pointwise nat_eq q y) (sym (same_key k x.items (sym (texts_ties k x.items) ∙ e))) ∙ (texts_ties q k ∙ apart)
+  pub alike_test : (q : List ℕ) (x y : K) → pointwise nat_eq q (bytes x) ≡ true → pointwise nat_eq q (bytes y) ≡ pointwise nat_eq (bytes x) (bytes y)
+  alike_test q x y e = ap (λ (k : List ℕ). pointwise nat_eq k (bytes y)) (same_key q (bytes x) (sym (texts_ties q (bytes x)) ∙ e))
 
--- what a change at the key k leaves, from what the table says of it
-pub changed : (old new : List (Vec ℕ × List ℕ)) (k : List ℕ) (w : Option (List ℕ)) → lookup (λ (x : Vec ℕ). pointwise nat_eq k x.items) new ≡ w →
-    KeepsOthers (λ (x y : Vec ℕ). pointwise nat_eq x.items y.items) (λ (x : Vec ℕ). pointwise nat_eq k x.items) old new →
-    (q : List ℕ) → find by_bytes q (rows_of new) ≡ cond (eq_by_cmp by_bytes q k) w (find by_bytes q (rows_of old))
-unfolding KeepsOthers
-changed old new k w at others q = by (eq_by_cmp by_bytes q k) refl
-  where
-    by : (b : Bool) → eq_by_cmp by_bytes q k ≡ b → find by_bytes q (rows_of new) ≡ cond b w (find by_bytes q (rows_of old))
-    by true e = ap (λ (x : List ℕ). find by_bytes x (rows_of new)) (same_key q k e) ∙ (sym (find_rows new k) ∙ at)
-    by false e = sym (find_rows new q) ∙ (others (λ (x : Vec ℕ). pointwise nat_eq q x.items) (alike_test q) (apart_test q k e) ∙ find_rows old q)
+  pub apart_test : (q k : List ℕ) → eq_by_cmp by_bytes q k ≡ false → (x : K) → pointwise nat_eq k (bytes x) ≡ true → pointwise nat_eq q (bytes x) ≡ false
+  apart_test q k apart x e = ap (λ (y : List ℕ). pointwise nat_eq q y) (sym (same_key k (bytes x) (sym (texts_ties k (bytes x)) ∙ e))) ∙ (texts_ties q k ∙ apart)
+
+  -- what a change at the key k leaves, from what the table says of it
+  pub changed : (old new : List (K × List ℕ)) (k : List ℕ) (w : Option (List ℕ)) → lookup (λ (x : K). pointwise nat_eq k (bytes x)) new ≡ w →
+      KeepsOthers (λ (x y : K). pointwise nat_eq (bytes x) (bytes y)) (λ (x : K). pointwise nat_eq k (bytes x)) old new →
+      (q : List ℕ) → find by_bytes q (rows_by bytes new) ≡ cond (eq_by_cmp by_bytes q k) w (find by_bytes q (rows_by bytes old))
+  unfolding KeepsOthers
+  changed old new k w at others q = by (eq_by_cmp by_bytes q k) refl
+    where
+      by : (b : Bool) → eq_by_cmp by_bytes q k ≡ b → find by_bytes q (rows_by bytes new) ≡ cond b w (find by_bytes q (rows_by bytes old))
+      by true e = ap (λ (x : List ℕ). find by_bytes x (rows_by bytes new)) (same_key q k e) ∙ (sym (find_rows new k) ∙ at)
+      by false e = sym (find_rows new q) ∙ (others (λ (x : K). pointwise nat_eq q (bytes x)) (alike_test q) (apart_test q k e) ∙ find_rows old q)
+
+  pub changed_at : (old new : List (K × List ℕ)) (k t : List ℕ) (w : Option (List ℕ)) → k ≡ t → lookup (λ (x : K). pointwise nat_eq k (bytes x)) new ≡ w →
+      KeepsOthers (λ (x y : K). pointwise nat_eq (bytes x) (bytes y)) (λ (x : K). pointwise nat_eq k (bytes x)) old new →
+      (q : List ℕ) → find by_bytes q (rows_by bytes new) ≡ cond (eq_by_cmp by_bytes q t) w (find by_bytes q (rows_by bytes old))
+  changed_at old new k t w is at others q = changed old new k w at others q ∙ ap (λ (x : List ℕ). cond (eq_by_cmp by_bytes q x) w (find by_bytes q (rows_by bytes old))) is
+
+  pub grown : (old new : List (K × List ℕ)) (k t : List ℕ) (o : Option (List ℕ)) → k ≡ t → o ≡ lookup (λ (x : K). pointwise nat_eq k (bytes x)) old → length new ≡ length old + cond (is_some o) 0 1 →
+      length new ≡ length old + cond (is_some (find by_bytes t (rows_by bytes old))) 0 1
+  grown old new k t o key is more = more ∙ ap (λ (p : Option (List ℕ)). length old + cond (is_some p) 0 1) (is ∙ found_row old k t key)
+
+  pub shrunk : (old new : List (K × List ℕ)) (k t : List ℕ) (o : Option (List ℕ)) → k ≡ t → o ≡ lookup (λ (x : K). pointwise nat_eq k (bytes x)) old → length new + cond (is_some o) 1 0 ≡ length old →
+      length new + cond (is_some (find by_bytes t (rows_by bytes old))) 1 0 ≡ length old
+  shrunk old new k t o key is less = ap (λ (p : Option (List ℕ)). length new + cond (is_some p) 1 0) (sym (is ∙ found_row old k t key)) ∙ less
+
+  -- a value that is written in place of one leaves the length
+  pub kept_len : (old new : List (K × List ℕ)) (k v : List ℕ) → length new ≡ length old → Some v ≡ lookup (λ (x : K). pointwise nat_eq k (bytes x)) old → length new ≡ length old + cond (is_some (find by_bytes k (rows_by bytes old))) 0 1
+  kept_len old new k v same_len is = kept (length old) (length new) same_len ∙ ap (λ (o : Option (List ℕ)). length old + cond (is_some o) 0 1) (is ∙ find_rows old k)
+    where
+      kept : (m n : ℕ) → n ≡ m → n ≡ m + 0
+      kept m n e = omega (arith, e)
 
 grown_by : (b : Bool) (m n : ℕ) → n ≡ m + cond b 0 1 → n ≡ cond b m (m + 1)
 grown_by true m n e = omega (arith, e)
@@ -72,16 +100,177 @@ shrunk_by : (b : Bool) (m n : ℕ) → n + cond b 1 0 ≡ m → n ≡ cond b (m 
 shrunk_by true m n e = omega (arith, e)
 shrunk_by false m n e = omega (arith, e)
 
-pub grown : (old new : List (Vec ℕ × List ℕ)) (k : List ℕ) (o : Option (List ℕ)) → o ≡ lookup (λ (x : Vec ℕ). pointwise nat_eq k x.items) old → length new ≡ length old + cond (is_some o) 0 1 →
-    length new ≡ cond (is_some (find by_bytes k (rows_of old))) (length old) (length old + 1)
-grown old new k o is more = grown_by (is_some o) (length old) (length new) more ∙ ap (λ (p : Option (List ℕ)). cond (is_some p) (length old) (length old + 1)) (is ∙ find_rows old k)
+-- ---- the rows of both tables
 
-pub shrunk : (old new : List (Vec ℕ × List ℕ)) (k : List ℕ) (o : Option (List ℕ)) → o ≡ lookup (λ (x : Vec ℕ). pointwise nat_eq k x.items) old → length new + cond (is_some o) 1 0 ≡ length old →
-    length new ≡ cond (is_some (find by_bytes k (rows_of old))) (length old - 1) (length old)
-shrunk old new k o is less = shrunk_by (is_some o) (length old) (length new) less ∙ ap (λ (p : Option (List ℕ)). cond (is_some p) (length old - 1) (length old)) (is ∙ find_rows old k)
+abbrev is_short : List ℕ → Bool
+is_short q = nat_le (length q) 24
 
-pub length-rows_of : (es : List (Vec ℕ × List ℕ)) → length (rows_of es) ≡ length es
-length-rows_of es = simp length-map
+pub of_short : (q : List ℕ) → length q ≤ 24 → is_short q ≡ true
+of_short q h = le-leb (length q) 24 h
+
+pub of_long : (q : List ℕ) → 24 < length q → is_short q ≡ false
+of_long q h = by (is_short q) refl
+  where
+    by : (b : Bool) → is_short q ≡ b → b ≡ false
+    by false e = refl
+    by true e = absurd (omega (arith, h, leb-true (length q) 24 e))
+
+abbrev or_else : Option (List ℕ) → Option (List ℕ) → Option (List ℕ)
+or_else (Some v) o = Some v
+or_else None o = o
+
+find_joined : (short long : Pairs) (q : List ℕ) → find by_bytes q (short ++ long) ≡ or_else (find by_bytes q short) (find by_bytes q long)
+find_joined [] long q = refl
+find_joined (e ∷ es) long q = by (eq_by_cmp by_bytes q e.0) (find_joined es long q)
+  where
+    by : (b : Bool) → find by_bytes q (es ++ long) ≡ or_else (find by_bytes q es) (find by_bytes q long) →
+        cond b (Some e.1) (find by_bytes q (es ++ long)) ≡ or_else (cond b (Some e.1) (find by_bytes q es)) (find by_bytes q long)
+    by true h = refl
+    by false h = h
+
+-- a key is looked up in one of the two
+pub find_whole : (short long : Pairs) (q : List ℕ) → AreApart short long → find by_bytes q (short ++ long) ≡ cond (is_short q) (find by_bytes q short) (find by_bytes q long)
+find_whole short long q apart = find_joined short long q ∙ by (is_short q) (find by_bytes q short) (find by_bytes q long) (apart q)
+  where
+    by : (b : Bool) (x y : Option (List ℕ)) → cond b y x ≡ None → or_else x y ≡ cond b x y
+    by true None y e = e
+    by true (Some v) y e = ap (or_else (Some v)) e
+    by false None y e = refl
+    by false (Some v) y e = absurd (some_isnt_none e)
+      where
+        some_isnt_none : {v : List ℕ} → Some v ≡ None → ⊥
+        some_isnt_none e = true≢false (ap is_some e)
+
+pub find_short : (short long : Pairs) (q : List ℕ) → AreApart short long → is_short q ≡ true → find by_bytes q (short ++ long) ≡ find by_bytes q short
+find_short short long q apart is = find_whole short long q apart ∙ ap (λ b. cond b (find by_bytes q short) (find by_bytes q long)) is
+
+pub find_long : (short long : Pairs) (q : List ℕ) → AreApart short long → is_short q ≡ false → find by_bytes q (short ++ long) ≡ find by_bytes q long
+find_long short long q apart is = find_whole short long q apart ∙ ap (λ b. cond b (find by_bytes q short) (find by_bytes q long)) is
+
+-- keys of two kinds differ
+differ : (q k : List ℕ) (b : Bool) → is_short k ≡ b → is_short q ≡ not b → eq_by_cmp by_bytes q k ≡ false
+differ q k b of_k of_q = by (eq_by_cmp by_bytes q k) refl
+  where
+    isnt : (c : Bool) → not c ≡ c → ⊥
+    isnt true e = true≢false (sym e)
+    isnt false e = true≢false e
+
+    by : (c : Bool) → eq_by_cmp by_bytes q k ≡ c → c ≡ false
+    by false e = refl
+    by true e = absurd (isnt b (sym of_q ∙ (ap is_short (same_key q k e) ∙ of_k)))
+
+-- what a change at k leaves in a list of rows
+abbrev pub Changes : List ℕ → Option (List ℕ) → Pairs → Pairs → Type 0
+Changes k w old new = (q : List ℕ) → find by_bytes q new ≡ cond (eq_by_cmp by_bytes q k) w (find by_bytes q old)
+
+pub apart_short : (short long new : Pairs) (k : List ℕ) (w : Option (List ℕ)) → is_short k ≡ true → AreApart short long → Changes k w short new → AreApart new long
+apart_short short long new k w of_k apart is q = by (is_short q) refl (apart q)
+  where
+    by : (b : Bool) → is_short q ≡ b → cond b (find by_bytes q long) (find by_bytes q short) ≡ None → cond b (find by_bytes q long) (find by_bytes q new) ≡ None
+    by true e h = h
+    by false e h = is q ∙ (ap (λ c. cond c w (find by_bytes q short)) (differ q k true of_k e) ∙ h)
+
+pub apart_long : (short long new : Pairs) (k : List ℕ) (w : Option (List ℕ)) → is_short k ≡ false → AreApart short long → Changes k w long new → AreApart short new
+apart_long short long new k w of_k apart is q = by (is_short q) refl (apart q)
+  where
+    by : (b : Bool) → is_short q ≡ b → cond b (find by_bytes q long) (find by_bytes q short) ≡ None → cond b (find by_bytes q new) (find by_bytes q short) ≡ None
+    by true e h = is q ∙ (ap (λ c. cond c w (find by_bytes q long)) (differ q k false of_k e) ∙ h)
+    by false e h = h
+
+pub change_short : (short long new : Pairs) (k : List ℕ) (w : Option (List ℕ)) → is_short k ≡ true → AreApart short long → Changes k w short new → Changes k w (short ++ long) (new ++ long)
+change_short short long new k w of_k apart is q =
+    find_whole new long q (apart_short short long new k w of_k apart is)
+    ∙ (by (is_short q) refl ∙ ap (cond (eq_by_cmp by_bytes q k) w) (sym (find_whole short long q apart)))
+  where
+    by : (b : Bool) → is_short q ≡ b → cond b (find by_bytes q new) (find by_bytes q long) ≡ cond (eq_by_cmp by_bytes q k) w (cond b (find by_bytes q short) (find by_bytes q long))
+    by true e = is q
+    by false e = sym (ap (λ c. cond c w (find by_bytes q long)) (differ q k true of_k e))
+
+pub change_long : (short long new : Pairs) (k : List ℕ) (w : Option (List ℕ)) → is_short k ≡ false → AreApart short long → Changes k w long new → Changes k w (short ++ long) (short ++ new)
+change_long short long new k w of_k apart is q =
+    find_whole short new q (apart_long short long new k w of_k apart is)
+    ∙ (by (is_short q) refl ∙ ap (cond (eq_by_cmp by_bytes q k) w) (sym (find_whole short long q apart)))
+  where
+    by : (b : Bool) → is_short q ≡ b → cond b (find by_bytes q short) (find by_bytes q new) ≡ cond (eq_by_cmp by_bytes q k) w (cond b (find by_bytes q short) (find by_bytes q long))
+    by true e = sym (ap (λ c. cond c w (find by_bytes q short)) (differ q k false of_k e))
+    by false e = is q
+
+-- ---- how many rows both tables have
+
+pub length_rows : {K : Type 0} (bytes : K → List ℕ) (es : List (K × List ℕ)) → length (rows_by bytes es) ≡ length es
+length_rows bytes es = simp length-map
+
+pub length_whole : (es : List (ArrayVec ℕ × List ℕ)) (fs : List (Vec ℕ × List ℕ)) → length (short_rows es ++ long_rows fs) ≡ length es + length fs
+length_whole es fs = length-append (short_rows es) (long_rows fs) ∙ ap₂ (λ (m n : ℕ). m + n) (length_rows (λ (k : ArrayVec ℕ). k.items) es) (length_rows (λ (k : Vec ℕ). k.items) fs)
+
+-- of a table that has d more rows, or d fewer, and another beside it
+pub more_left : (a b c d x y : ℕ) → x ≡ a + b → y ≡ c + b → c ≡ a + d → y ≡ x + d
+more_left a b c d x y p q r = omega (arith, p, q, r)
+
+pub more_right : (a b c d x y : ℕ) → x ≡ a + b → y ≡ a + c → c ≡ b + d → y ≡ x + d
+more_right a b c d x y p q r = omega (arith, p, q, r)
+
+pub fewer_left : (a b c d x y : ℕ) → x ≡ a + b → y ≡ c + b → c + d ≡ a → y + d ≡ x
+fewer_left a b c d x y p q r = omega (arith, p, q, r)
+
+pub fewer_right : (a b c d x y : ℕ) → x ≡ a + b → y ≡ a + c → c + d ≡ b → y + d ≡ x
+fewer_right a b c d x y p q r = omega (arith, p, q, r)
+
+-- ---- both tables after a change of one
+
+abbrev Short : Type 0
+Short = List (ArrayVec ℕ × List ℕ)
+
+abbrev Long : Type 0
+Long = List (Vec ℕ × List ℕ)
+
+pub put_short_apart : (r : Result ⊤ AllocError) (old new : Short) (long : Long) (k v : List ℕ) → length k ≤ 24 → OnOk r (Changes k (Some v) (short_rows old) (short_rows new)) → OnErr r (new ≡ old) →
+    AreApart (short_rows old) (long_rows long) → AreApart (short_rows new) (long_rows long)
+put_short_apart (Ok u) old new long k v few is err apart = apart_short (short_rows old) (long_rows long) (short_rows new) k (Some v) (of_short k few) apart is
+put_short_apart (Err x) old new long k v few is err apart = subst (λ (es : Short). AreApart (short_rows es) (long_rows long)) (sym err) apart
+
+pub put_long_apart : (r : Result ⊤ AllocError) (short : Short) (old new : Long) (k v : List ℕ) → 24 < length k → OnOk r (Changes k (Some v) (long_rows old) (long_rows new)) → OnErr r (new ≡ old) →
+    AreApart (short_rows short) (long_rows old) → AreApart (short_rows short) (long_rows new)
+put_long_apart (Ok u) short old new k v many is err apart = apart_long (short_rows short) (long_rows old) (long_rows new) k (Some v) (of_long k many) apart is
+put_long_apart (Err x) short old new k v many is err apart = subst (λ (es : Long). AreApart (short_rows short) (long_rows es)) (sym err) apart
+
+pub whole_short : (old new : Short) (long : Long) (whole : Pairs) (k : List ℕ) (w : Option (List ℕ)) → length k ≤ 24 → AreApart (short_rows old) (long_rows long) → short_rows old ++ long_rows long ≡ whole →
+    Changes k w (short_rows old) (short_rows new) → Changes k w whole (short_rows new ++ long_rows long)
+whole_short old new long whole k w few apart is changes =
+    subst (λ (x : Pairs). Changes k w x (short_rows new ++ long_rows long)) is (change_short (short_rows old) (long_rows long) (short_rows new) k w (of_short k few) apart changes)
+
+pub whole_long : (short : Short) (old new : Long) (whole : Pairs) (k : List ℕ) (w : Option (List ℕ)) → 24 < length k → AreApart (short_rows short) (long_rows old) → short_rows short ++ long_rows old ≡ whole →
+    Changes k w (long_rows old) (long_rows new) → Changes k w whole (short_rows short ++ long_rows new)
+whole_long short old new whole k w many apart is changes =
+    subst (λ (x : Pairs). Changes k w x (short_rows short ++ long_rows new)) is (change_long (short_rows short) (long_rows old) (long_rows new) k w (of_long k many) apart changes)
+
+pub more_short : (old new : Short) (long : Long) (whole : Pairs) (k : List ℕ) → length k ≤ 24 → AreApart (short_rows old) (long_rows long) → short_rows old ++ long_rows long ≡ whole →
+    length new ≡ length old + cond (is_some (find by_bytes k (short_rows old))) 0 1 → length (short_rows new ++ long_rows long) ≡ length whole + cond (is_some (find by_bytes k whole)) 0 1
+more_short old new long whole k few apart is more =
+    subst (λ (x : Pairs). length (short_rows new ++ long_rows long) ≡ length x + cond (is_some (find by_bytes k x)) 0 1) is
+    (more_left (length old) (length long) (length new) (cond (is_some (find by_bytes k (short_rows old ++ long_rows long))) 0 1) _ _ (length_whole old long) (length_whole new long)
+    (more ∙ ap (λ (o : Option (List ℕ)). length old + cond (is_some o) 0 1) (sym (find_short (short_rows old) (long_rows long) k apart (of_short k few)))))
+
+pub more_long : (short : Short) (old new : Long) (whole : Pairs) (k : List ℕ) → 24 < length k → AreApart (short_rows short) (long_rows old) → short_rows short ++ long_rows old ≡ whole →
+    length new ≡ length old + cond (is_some (find by_bytes k (long_rows old))) 0 1 → length (short_rows short ++ long_rows new) ≡ length whole + cond (is_some (find by_bytes k whole)) 0 1
+more_long short old new whole k many apart is more =
+    subst (λ (x : Pairs). length (short_rows short ++ long_rows new) ≡ length x + cond (is_some (find by_bytes k x)) 0 1) is
+    (more_right (length short) (length old) (length new) (cond (is_some (find by_bytes k (short_rows short ++ long_rows old))) 0 1) _ _ (length_whole short old) (length_whole short new)
+    (more ∙ ap (λ (o : Option (List ℕ)). length old + cond (is_some o) 0 1) (sym (find_long (short_rows short) (long_rows old) k apart (of_long k many)))))
+
+pub fewer_short : (old new : Short) (long : Long) (whole : Pairs) (k : List ℕ) → length k ≤ 24 → AreApart (short_rows old) (long_rows long) → short_rows old ++ long_rows long ≡ whole →
+    length new + cond (is_some (find by_bytes k (short_rows old))) 1 0 ≡ length old → length (short_rows new ++ long_rows long) + cond (is_some (find by_bytes k whole)) 1 0 ≡ length whole
+fewer_short old new long whole k few apart is fewer =
+    subst (λ (x : Pairs). length (short_rows new ++ long_rows long) + cond (is_some (find by_bytes k x)) 1 0 ≡ length x) is
+    (fewer_left (length old) (length long) (length new) (cond (is_some (find by_bytes k (short_rows old ++ long_rows long))) 1 0) _ _ (length_whole old long) (length_whole new long)
+    (ap (λ (o : Option (List ℕ)). length new + cond (is_some o) 1 0) (find_short (short_rows old) (long_rows long) k apart (of_short k few)) ∙ fewer))
+
+pub fewer_long : (short : Short) (old new : Long) (whole : Pairs) (k : List ℕ) → 24 < length k → AreApart (short_rows short) (long_rows old) → short_rows short ++ long_rows old ≡ whole →
+    length new + cond (is_some (find by_bytes k (long_rows old))) 1 0 ≡ length old → length (short_rows short ++ long_rows new) + cond (is_some (find by_bytes k whole)) 1 0 ≡ length whole
+fewer_long short old new whole k many apart is fewer =
+    subst (λ (x : Pairs). length (short_rows short ++ long_rows new) + cond (is_some (find by_bytes k x)) 1 0 ≡ length x) is
+    (fewer_right (length short) (length old) (length new) (cond (is_some (find by_bytes k (short_rows short ++ long_rows old))) 1 0) _ _ (length_whole short old) (length_whole short new)
+    (ap (λ (o : Option (List ℕ)). length new + cond (is_some o) 1 0) (find_long (short_rows short) (long_rows old) k apart (of_long k many)) ∙ fewer))
 
 -- ---- the map
 
@@ -241,69 +430,34 @@ rows_under front rows listed rises lists =
         ∙ (ap (λ (o : Option (List ℕ)). cond (begins front q) o None) (sym (get_row rows q) ∙ fin.get-entries (row_store rows) q)
         ∙ sym (find-where_key by_bytes (begins front) q (alike q) (fin.entries (row_store rows))))))
 
--- ---- all keys of a table, as they are listed
-
--- each key with a row is listed or still to come
-abbrev pub ListsSome : Pairs → Pairs → Pairs → Type 0
-ListsSome rows listed rest = (q : List ℕ) → is_some (find by_bytes q rows) ≡ true → (is_some (find by_bytes q listed) || is_some (find by_bytes q rest)) ≡ true
-
-moved : (b : Bool) (x y : Option (List ℕ)) (v w : List ℕ) → (is_some x || is_some (cond b (Some w) y)) ≡ true → (is_some (cond b (Some v) x) || is_some y) ≡ true
-moved true x y v w h = refl
-moved false x y v w h = h
-
-pub lists_more : (rows old new rest next : Pairs) (e : List ℕ × List ℕ) (k v : List ℕ) → ListsSome rows old rest → rest ≡ e ∷ next → k ≡ e.0 → new ≡ put by_bytes k v old → ListsSome rows new next
-lists_more rows old new rest next e k v lists is key put_is q has =
-    let listed : find by_bytes q new ≡ cond (eq_by_cmp by_bytes q e.0) (Some v) (find by_bytes q old) =
-    ap (find by_bytes q) put_is ∙ (find-put by_bytes nat_list_cmp_total q k v old ∙ ap (λ (x : List ℕ). cond (eq_by_cmp by_bytes q x) (Some v) (find by_bytes q old)) key) in
-    ap (λ (o : Option (List ℕ)). is_some o || is_some (find by_bytes q next)) listed
-    ∙ moved (eq_by_cmp by_bytes q e.0) (find by_bytes q old) (find by_bytes q next) v e.1 (subst (λ (x : Pairs). (is_some (find by_bytes q old) || is_some (find by_bytes q x)) ≡ true) is (lists q has))
-
-or_none : (b : Bool) → (b || false) ≡ true → b ≡ true
-or_none true h = refl
-or_none false h = h
-
-pub lists_all : (rows listed rest : Pairs) → ListsSome rows listed rest → rest ≡ [] → ListsAll rows listed
-lists_all rows listed rest lists is q has = or_none _ (subst (λ (x : Pairs). (is_some (find by_bytes q listed) || is_some (find by_bytes q x)) ≡ true) is (lists q has))
-
-pub lists_none : (rows listed rest : Pairs) → rest ≡ rows → ListsSome rows listed rest
-lists_none rows listed rest is q has = or_true (is_some (find by_bytes q listed)) _ (ap (λ (x : Pairs). is_some (find by_bytes q x)) is ∙ has)
-  where
-    or_true : (a b : Bool) → b ≡ true → (a || b) ≡ true
-    or_true true b e = refl
-    or_true false b e = e
-
 -- ---- what a table keeps
 
 empty_bytes : ArePairs (fin.entries empty_store)
 unfolding fin.entries fin.empty
 empty_bytes = tt
 
-pub new_table : (es : List (Vec ℕ × List ℕ)) (gs : List (Vec ℕ × Group)) → es ≡ [] → gs ≡ [] → IsTable (rows_of es) (groups_of gs)
-new_table es gs e f =
+pub new_table : (rows : Pairs) (gs : List (Vec ℕ × Group)) → rows ≡ [] → gs ≡ [] → IsTable rows (groups_of gs)
+new_table rows gs e f =
     let none : IsTable [] [] = ((λ q. (tt, tt), λ q h. absurd (true≢false (sym h))), sym (fin.len-empty by_bytes (List ℕ)), empty_bytes) in
-    subst (λ (x : List (Vec ℕ × List ℕ)). IsTable (rows_of x) (groups_of gs)) (sym e) (subst (λ (y : List (Vec ℕ × Group)). IsTable [] (groups_of y)) (sym f) none)
+    subst (λ (x : Pairs). IsTable x (groups_of gs)) (sym e) (subst (λ (y : List (Vec ℕ × Group)). IsTable [] (groups_of y)) (sym f) none)
 
-pub put_table : (r : Result ⊤ AllocError) (old new : List (Vec ℕ × List ℕ)) (groups : List (List ℕ × Pairs)) (k v : List ℕ) →
-    OnOk r ((q : List ℕ) → find by_bytes q (rows_of new) ≡ cond (eq_by_cmp by_bytes q k) (Some v) (find by_bytes q (rows_of old))) →
-    OnOk r (length new ≡ cond (is_some (find by_bytes k (rows_of old))) (length old) (length old + 1)) → OnErr r (new ≡ old) →
-    AreGroups groups × Lists (rows_of old) groups → IsListed k groups → IsBytes k × IsBytes v →
-    (length (rows_of old) ≡ fin.len (row_store (rows_of old))) × ArePairs (fin.entries (row_store (rows_of old))) → IsTable (rows_of new) groups
+pub put_table : (r : Result ⊤ AllocError) (old new : Pairs) (groups : List (List ℕ × Pairs)) (k v : List ℕ) →
+    OnOk r (Changes k (Some v) old new) → OnOk r (length new ≡ length old + cond (is_some (find by_bytes k old)) 0 1) → OnErr r (new ≡ old) →
+    AreGroups groups × Lists old groups → IsListed k groups → IsBytes k × IsBytes v →
+    (length old ≡ fin.len (row_store old)) × ArePairs (fin.entries (row_store old)) → IsTable new groups
 put_table (Ok u) old new groups k v is len err lists has b h =
-    let m : row_store (rows_of new) ≡ fin.insert (row_store (rows_of old)) k v = put_row (rows_of old) (rows_of new) k v is in
-    let longer : length (rows_of new) ≡ cond (is_some (find by_bytes k (rows_of old))) (length (rows_of old)) (length (rows_of old) + 1) =
-    length-rows_of new ∙ (len ∙ ap (λ (n : ℕ). cond (is_some (find by_bytes k (rows_of old))) n (n + 1)) (sym (length-rows_of old))) in
-    ((lists.0, lists_put (rows_of old) (rows_of new) groups k v is lists.1 has), len_put (rows_of old) (rows_of new) k v h.0 m longer, bytes_after_put _ _ k v m b h.1)
-put_table (Err x) old new groups k v is len err lists has b h = subst (λ (es : List (Vec ℕ × List ℕ)). IsTable (rows_of es) groups) (sym err) (lists, h.0, h.1)
+    let m : row_store new ≡ fin.insert (row_store old) k v = put_row old new k v is in
+    let longer : length new ≡ cond (is_some (find by_bytes k old)) (length old) (length old + 1) = grown_by (is_some (find by_bytes k old)) (length old) (length new) len in
+    ((lists.0, lists_put old new groups k v is lists.1 has), len_put old new k v h.0 m longer, bytes_after_put _ _ k v m b h.1)
+put_table (Err x) old new groups k v is len err lists has b h = subst (λ (es : Pairs). IsTable es groups) (sym err) (lists, h.0, h.1)
 
-pub take_table : (old new : List (Vec ℕ × List ℕ)) (groups fewer : List (List ℕ × Pairs)) (k : List ℕ) →
-    ((q : List ℕ) → find by_bytes q (rows_of new) ≡ cond (eq_by_cmp by_bytes q k) None (find by_bytes q (rows_of old))) →
-    length new ≡ cond (is_some (find by_bytes k (rows_of old))) (length old - 1) (length old) → AreGroups fewer →
-    ((q : List ℕ) → eq_by_cmp by_bytes q k ≡ false → IsListed q groups → IsListed q fewer) → IsTable (rows_of old) groups → IsTable (rows_of new) fewer
+pub take_table : (old new : Pairs) (groups fewer : List (List ℕ × Pairs)) (k : List ℕ) → Changes k None old new →
+    length new + cond (is_some (find by_bytes k old)) 1 0 ≡ length old → AreGroups fewer →
+    ((q : List ℕ) → eq_by_cmp by_bytes q k ≡ false → IsListed q groups → IsListed q fewer) → IsTable old groups → IsTable new fewer
 take_table old new groups fewer k is len are others h =
-    let m : row_store (rows_of new) ≡ fin.remove (row_store (rows_of old)) k = take_row (rows_of old) (rows_of new) k is in
-    let shorter : length (rows_of new) ≡ cond (is_some (find by_bytes k (rows_of old))) (length (rows_of old) - 1) (length (rows_of old)) =
-    length-rows_of new ∙ (len ∙ ap (λ (n : ℕ). cond (is_some (find by_bytes k (rows_of old))) (n - 1) n) (sym (length-rows_of old))) in
-    ((are, lists_take (rows_of old) (rows_of new) groups fewer k is h.0.1 others), len_take (rows_of old) (rows_of new) k h.1 m shorter, bytes_after_take _ _ k m h.2)
+    let m : row_store new ≡ fin.remove (row_store old) k = take_row old new k is in
+    let shorter : length new ≡ cond (is_some (find by_bytes k old)) (length old - 1) (length old) = shrunk_by (is_some (find by_bytes k old)) (length old) (length new) len in
+    ((are, lists_take old new groups fewer k is h.0.1 others), len_take old new k h.1 m shorter, bytes_after_take _ _ k m h.2)
 
 -- ---- the rows of the first keys of a list, and one more
 
@@ -332,9 +486,5 @@ pub held_more_shown : (rows keys shown found more : Pairs) (i : ℕ) (x : List �
 held_more_shown rows keys shown found more i x d lt is so_far longer =
     held_more rows keys found more i x (subst (λ (k : Pairs). i < length k) d lt) (is ∙ ap (λ (k : Pairs). get_or k i x) d) so_far longer
 
--- a value that is written in place of one leaves the length
 pub some_found : {o : Option (List ℕ)} {v : List ℕ} → Some v ≡ o → IsSome o
 some_found {o} e = subst IsSome e refl
-
-pub kept_len : (old new : List (Vec ℕ × List ℕ)) (k v : List ℕ) → length new ≡ length old → Some v ≡ lookup (λ (x : Vec ℕ). pointwise nat_eq k x.items) old → length new ≡ cond (is_some (find by_bytes k (rows_of old))) (length old) (length old + 1)
-kept_len old new k v same_len is = same_len ∙ ap (λ (o : Option (List ℕ)). cond (is_some o) (length old) (length old + 1)) (is ∙ find_rows old k)

@@ -1,11 +1,11 @@
 //! The keys that begin with a length, by what they so begin with: a small tree for each such front, and none for a key that is alone.
 ghost use Rattle.std.specs.Prelude.{◌≡◌, ◌≤◌, [], IfOk, IfSome, OnOk, OnErr, Some, length, option_copied, option_map};
 ghost use Rattle.ks_store.specs.Pairs.{pairs_of, Rises};
-ghost use Rattle.ks_store.specs.Rows.{rows_of};
 ghost use Rattle.ks_store.specs.Groups.{front_end, front_in, is_some_of, keys_in, with_key, keys_without, groups_of, listed_under, is_only_key, IsGroup, AreGroups, IsListed, StayListed, OthersStay, Lists};
 
+use crate::hashing::KeyHashing;
 use crate::pairs::{Pairs, pairs_from, set_at, take_away};
-use crate::rows::Rows;
+use crate::rows::{Rows, has_row};
 use ks_record::Blob;
 use std::alloc::{AllocError, Global};
 use std::collections::{BTreeMap, HashMap};
@@ -17,7 +17,7 @@ pub enum Group {
     Many(Pairs),
 }
 
-pub type Groups = HashMap<Vec<u8>, Group>;
+pub type Groups = HashMap<Vec<u8>, Group, KeyHashing>;
 
 // Where the front of a key ends: behind a length of four bytes and as many bytes as it says; none where it has no such front.
 fn front_end(key: &[u8]) -> Option<usize>
@@ -109,14 +109,14 @@ pub fn list_key(
     key: &[u8],
 ) -> Result<(), AllocError>
     requires { AreGroups (groups_of groups.old.entries)
-        × Lists (rows_of rows.now.entries) (groups_of groups.old.entries) }
+        × Lists rows.now (groups_of groups.old.entries) }
     ensures lists { AreGroups (groups_of groups.new.entries)
-        × Lists (rows_of rows.now.entries) (groups_of groups.new.entries) }
+        × Lists rows.now (groups_of groups.new.entries) }
     ensures has { OnOk result (IsListed key.now (groups_of groups.new.entries)) }
 {
     match front_in(key) {
         Some(front) => {
-            if rows.contains_key(key) {
+            if has_row(rows, key) {
                 return Ok(());
             }
             list_under(alloc, groups, front, key)

@@ -3,6 +3,7 @@
 
 mod calls;
 mod groups;
+mod hashing;
 mod ordered;
 mod pairs;
 mod plain;

@@ -25,12 +25,13 @@ impl Model for OrderedStore {
 }
 
 impl OrderedStore {
-    /// A store without a key. Takes no memory.
-    pub fn new(alloc: Global) -> OrderedStore
+    /// A store without a key, whose hashes of keys begin with this seed: keys can be searched for that have one hash by a seed that is
+    /// known. Takes no memory.
+    pub fn new(alloc: Global, seed: u64) -> OrderedStore
         ensures { result ≡ empty_store }
     {
         OrderedStore {
-            table: Table::new(alloc),
+            table: Table::new(alloc, seed),
         }
     }
 

@@ -1,49 +1,151 @@
 //! Pairs in a hash table, by their keys.
-ghost use Rattle.std.specs.Prelude.{◌≡◌, ◌+◌, ◌-◌, ◌++◌, [], ℕ, List, IfOk, OnOk, OnErr, Some, None, true, false, cond, is_some, option_map, length};
+ghost use Rattle.std.specs.Prelude.{◌≡◌, ◌≤◌, ◌+◌, ◌++◌, ◌==◌, [], ℕ, List, IfOk, OnOk, OnErr, Some, None, cond, is_some, option_map, length};
+ghost use Rattle.std.specs.List.{filter, starts_with};
 ghost use Rattle.std.specs.Ordering.{eq_by_cmp};
 ghost use Rattle.std.specs.FinMap.Entries.{find};
 ghost use Rattle.ks_def_runs.specs.Bytes.{by_bytes};
-ghost use Rattle.ks_store.specs.Pairs.{pairs_of, Rises};
-ghost use Rattle.ks_store.specs.Rows.{rows_of, ListsAll, with_found, rows_for};
+ghost use Rattle.ks_def_runs.specs.FinMap as map;
+ghost use Rattle.ks_def_runs.specs.Prefixes.{pairs_under};
+ghost use Rattle.ks_store.specs.Rows.{short_rows, long_rows, row_store, with_found, rows_for};
 
-use crate::pairs::{Pairs, set_at};
+use crate::hashing::KeyHashing;
+use arrayvec::ArrayVec;
 use ks_record::Blob;
 use std::alloc::{AllocError, Global};
-use std::collections::{BTreeMap, HashMap};
+use std::collections::HashMap;
+use std::marker::Model;
 
-pub type Rows = HashMap<Vec<u8>, Blob>;
+type Short = HashMap<ArrayVec<u8, 24>, Blob, KeyHashing>;
+
+type Long = HashMap<Vec<u8>, Blob, KeyHashing>;
+
+/// The rows of keys. A key of up to 24 bytes stands in the table itself, a longer one in memory of its own.
+#[derive(Drop)]
+pub struct Rows {
+    short: Short,
+    long: Long,
+}
+
+impl Model for Rows {
+    ghost use Rattle.std.specs.Prelude.{ℕ, List, ◌++◌};
+    ghost use Rattle.ks_store.specs.Rows.{short_rows, long_rows, AreApart};
+
+    ghost Value = { List (List ℕ × List ℕ) };
+
+    ghost view = { λ r. short_rows r.short.entries ++ long_rows r.long.entries };
+
+    ghost invariant = { λ r. AreApart (short_rows r.short.entries) (long_rows r.long.entries) };
+}
+
+impl Rows {
+    /// No rows, whose keys are hashed so; takes no memory.
+    pub fn new(alloc: Global, hashing: KeyHashing) -> Rows
+        ensures { result ≡ [] }
+    {
+        Rows {
+            short: HashMap::with_hasher(alloc, hashing),
+            long: HashMap::with_hasher(alloc, hashing),
+        }
+    }
+
+    /// How many rows there are.
+    pub fn len(&self) -> usize
+        ensures { result ≡ length self.now }
+    {
+        self.short.len() + self.long.len()
+    }
+}
+
+// A short key, as the table keeps it.
+fn short_key(key: &[u8]) -> ArrayVec<u8, 24>
+    requires { length key.now ≤ 24 }
+    ensures { result.items ≡ key.now }
+{
+    let mut kept = ArrayVec::new();
+    match kept.try_extend_from_slice(key) {
+        Ok(()) => kept,
+        Err(_) => unreachable!(),
+    }
+}
+
+fn at_short<'a>(rows: &'a Short, key: &[u8]) -> Option<&'a Blob>
+    requires { length key.now ≤ 24 }
+    ensures { option_map (λ v. v.now) result
+        ≡ find by_bytes key.now (short_rows rows.now.entries) }
+{
+    let key = short_key(key);
+    rows.get(&key)
+}
+
+fn at_long<'a>(rows: &'a Long, key: &[u8]) -> Option<&'a Blob>
+    ensures { option_map (λ v. v.now) result
+        ≡ find by_bytes key.now (long_rows rows.now.entries) }
+{
+    rows.get(key)
+}
+
+fn blob_at<'a>(rows: &'a Rows, key: &[u8]) -> Option<&'a Blob>
+    ensures { option_map (λ v. v.now) result ≡ find by_bytes key.now rows.now }
+{
+    if key.len() <= 24 {
+        at_short(&rows.short, key)
+    } else {
+        at_long(&rows.long, key)
+    }
+}
 
 /// The row of a key; none where it has none.
 pub fn row_at<'a>(rows: &'a Rows, key: &[u8]) -> Option<&'a [u8]>
-    ensures { option_map (λ v. v.now) result ≡ find by_bytes key.now (rows_of rows.now.entries) }
+    ensures { option_map (λ v. v.now) result ≡ find by_bytes key.now rows.now }
 {
-    match rows.get(key) {
+    match blob_at(rows, key) {
         Some(value) => Some(value.as_slice()),
         None => None,
     }
 }
 
-fn set_row(rows: &mut Rows, key: Vec<u8>, value: Blob) -> Result<(), AllocError>
-    ensures ok { OnOk result ((q : List ℕ) → find by_bytes q (rows_of rows.new.entries)
-        ≡ cond (eq_by_cmp by_bytes q key.items) (Some value)
-        (find by_bytes q (rows_of rows.old.entries))) }
+/// Whether a key has a row.
+pub fn has_row(rows: &Rows, key: &[u8]) -> bool
+    ensures { result ≡ is_some (find by_bytes key.now rows.now) }
+{
+    blob_at(rows, key).is_some()
+}
+
+fn put_short(rows: &mut Short, key: &[u8], value: Blob) -> Result<(), AllocError>
+    requires { length key.now ≤ 24 }
+    ensures ok { OnOk result ((q : List ℕ) → find by_bytes q (short_rows rows.new.entries)
+        ≡ cond (eq_by_cmp by_bytes q key.now) (Some value)
+        (find by_bytes q (short_rows rows.old.entries))) }
     ensures len { OnOk result (length rows.new.entries
-        ≡ cond (is_some (find by_bytes key.items (rows_of rows.old.entries)))
-        (length rows.old.entries) (length rows.old.entries + 1)) }
+        ≡ length rows.old.entries
+        + cond (is_some (find by_bytes key.now (short_rows rows.old.entries))) 0 1) }
+    ensures err { OnErr result (rows.new.entries ≡ rows.old.entries) }
+{
+    rows.insert(short_key(key), value)?;
+    Ok(())
+}
+
+fn set_long(rows: &mut Long, key: Vec<u8>, value: Blob) -> Result<(), AllocError>
+    ensures ok { OnOk result ((q : List ℕ) → find by_bytes q (long_rows rows.new.entries)
+        ≡ cond (eq_by_cmp by_bytes q key.items) (Some value)
+        (find by_bytes q (long_rows rows.old.entries))) }
+    ensures len { OnOk result (length rows.new.entries
+        ≡ length rows.old.entries
+        + cond (is_some (find by_bytes key.items (long_rows rows.old.entries))) 0 1) }
     ensures err { OnErr result (rows.new.entries ≡ rows.old.entries) }
 {
     rows.insert(key, value)?;
     Ok(())
 }
 
-/// Puts a row. The key is copied where it has none yet; after want of memory the table is as before.
-pub fn put_row(alloc: Global, rows: &mut Rows, key: &[u8], value: Blob) -> Result<(), AllocError>
-    ensures ok { OnOk result ((q : List ℕ) → find by_bytes q (rows_of rows.new.entries)
+// The key is copied where it has no row yet.
+fn put_long(alloc: Global, rows: &mut Long, key: &[u8], value: Blob) -> Result<(), AllocError>
+    ensures ok { OnOk result ((q : List ℕ) → find by_bytes q (long_rows rows.new.entries)
         ≡ cond (eq_by_cmp by_bytes q key.now) (Some value)
-        (find by_bytes q (rows_of rows.old.entries))) }
+        (find by_bytes q (long_rows rows.old.entries))) }
     ensures len { OnOk result (length rows.new.entries
-        ≡ cond (is_some (find by_bytes key.now (rows_of rows.old.entries)))
-        (length rows.old.entries) (length rows.old.entries + 1)) }
+        ≡ length rows.old.entries
+        + cond (is_some (find by_bytes key.now (long_rows rows.old.entries))) 0 1) }
     ensures err { OnErr result (rows.new.entries ≡ rows.old.entries) }
 {
     if let Some(place) = rows.get_mut(key) {
@@ -51,39 +153,113 @@ pub fn put_row(alloc: Global, rows: &mut Rows, key: &[u8], value: Blob) -> Resul
         return Ok(());
     }
     let copy = Vec::from_slice(alloc, key)?;
-    set_row(rows, copy, value)
+    set_long(rows, copy, value)
 }
 
-/// Takes a key's row out, where there is one.
-pub fn take_row(rows: &mut Rows, key: &[u8])
-    ensures gone { (q : List ℕ) → find by_bytes q (rows_of rows.new.entries)
-        ≡ cond (eq_by_cmp by_bytes q key.now) None (find by_bytes q (rows_of rows.old.entries)) }
+/// Puts a row. A long key is copied where it has none yet; after want of memory the table is as before.
+pub fn put_row(alloc: Global, rows: &mut Rows, key: &[u8], value: Blob) -> Result<(), AllocError>
+    ensures ok { OnOk result ((q : List ℕ) → find by_bytes q rows.new
+        ≡ cond (eq_by_cmp by_bytes q key.now) (Some value) (find by_bytes q rows.old)) }
+    ensures len { OnOk result (length rows.new
+        ≡ length rows.old + cond (is_some (find by_bytes key.now rows.old)) 0 1) }
+    ensures err { OnErr result (rows.new ≡ rows.old) }
+{
+    if key.len() <= 24 {
+        put_short(&mut rows.short, key, value)
+    } else {
+        put_long(alloc, &mut rows.long, key, value)
+    }
+}
+
+fn take_short(rows: &mut Short, key: &[u8])
+    requires { length key.now ≤ 24 }
+    ensures gone { (q : List ℕ) → find by_bytes q (short_rows rows.new.entries)
+        ≡ cond (eq_by_cmp by_bytes q key.now) None
+        (find by_bytes q (short_rows rows.old.entries)) }
     ensures len { length rows.new.entries
-        ≡ cond (is_some (find by_bytes key.now (rows_of rows.old.entries)))
-        (length rows.old.entries - 1) (length rows.old.entries) }
+        + cond (is_some (find by_bytes key.now (short_rows rows.old.entries))) 1 0
+        ≡ length rows.old.entries }
+{
+    let key = short_key(key);
+    rows.remove(&key);
+}
+
+fn take_long(rows: &mut Long, key: &[u8])
+    ensures gone { (q : List ℕ) → find by_bytes q (long_rows rows.new.entries)
+        ≡ cond (eq_by_cmp by_bytes q key.now) None
+        (find by_bytes q (long_rows rows.old.entries)) }
+    ensures len { length rows.new.entries
+        + cond (is_some (find by_bytes key.now (long_rows rows.old.entries))) 1 0
+        ≡ length rows.old.entries }
 {
     rows.remove(key);
 }
 
-/// All keys of a table, in order.
-pub fn all_keys(alloc: Global, rows: &Rows) -> Result<Pairs, AllocError>
-    ensures { IfOk result (λ p. Rises (pairs_of p.entries)
-        × ListsAll (rows_of rows.now.entries) (pairs_of p.entries)) }
+/// Takes a key's row out, where there is one.
+pub fn take_row(rows: &mut Rows, key: &[u8])
+    ensures gone { (q : List ℕ) → find by_bytes q rows.new
+        ≡ cond (eq_by_cmp by_bytes q key.now) None (find by_bytes q rows.old) }
+    ensures len { length rows.new + cond (is_some (find by_bytes key.now rows.old)) 1 0
+        ≡ length rows.old }
 {
-    let mut keys = BTreeMap::new(alloc);
-    for (key, _) in rows {
-        let copy = Vec::from_slice(alloc, key.as_slice())?;
-        set_at(&mut keys, copy, Vec::new(alloc))?;
+    if key.len() <= 24 {
+        take_short(&mut rows.short, key);
+    } else {
+        take_long(&mut rows.long, key);
     }
-    Ok(keys)
+}
+
+// The rows of short keys that begin so.
+fn short_under(alloc: Global, rows: &Short, front: &[u8]) -> Result<Vec<(Blob, Blob)>, AllocError>
+    ensures { IfOk result (λ v. v.items ≡ filter (λ e. starts_with ◌==◌ e.0 front.now)
+        (short_rows rows.now.entries)) }
+{
+    let mut found = Vec::new(alloc);
+    for (key, value) in rows {
+        if key.as_slice().starts_with(front) {
+            let key = Blob::from_slice(alloc, key.as_slice())?;
+            found.push((key, value.clone()?))?;
+        }
+    }
+    Ok(found)
+}
+
+// The rows that were found, and those of long keys that begin so.
+fn long_under(
+    alloc: Global,
+    rows: &Long,
+    front: &[u8],
+    found: Vec<(Blob, Blob)>,
+) -> Result<Vec<(Blob, Blob)>, AllocError>
+    ensures { IfOk result (λ v. v.items ≡ found.items
+        ++ filter (λ e. starts_with ◌==◌ e.0 front.now) (long_rows rows.now.entries)) }
+{
+    let mut all = found;
+    for (key, value) in rows {
+        if key.as_slice().starts_with(front) {
+            let key = Blob::from_slice(alloc, key.as_slice())?;
+            all.push((key, value.clone()?))?;
+        }
+    }
+    Ok(all)
+}
+
+/// The rows whose key begins so, in order of keys; looks at every row.
+pub fn rows_under(alloc: Global, rows: &Rows, front: &[u8]) -> Result<Vec<(Blob, Blob)>, AllocError>
+    requires { length rows.now ≡ map.len (row_store rows.now) }
+    ensures { IfOk result (λ v. v.items ≡ pairs_under front.now (row_store rows.now)) }
+{
+    let short = short_under(alloc, &rows.short, front)?;
+    let mut found = long_under(alloc, &rows.long, front, short)?;
+    found.sort_by(|a, b| a.0.as_slice().cmp(b.0.as_slice()))?;
+    Ok(found)
 }
 
 fn push_row(rows: &Rows, key: &Blob, found: &mut Vec<(Blob, Blob)>) -> Result<(), AllocError>
     ensures { OnOk result (found.new.items
-        ≡ found.old.items
-        ++ with_found (find by_bytes key.now (rows_of rows.now.entries)) key.now []) }
+        ≡ found.old.items ++ with_found (find by_bytes key.now rows.now) key.now []) }
 {
-    match rows.get(key.as_slice()) {
+    match blob_at(rows, key.as_slice()) {
         Some(value) => {
             let key = key.clone()?;
             let value = value.clone()?;
@@ -100,7 +276,7 @@ pub fn rows_at(
     rows: &Rows,
     keys: Vec<(Blob, Blob)>,
 ) -> Result<Vec<(Blob, Blob)>, AllocError>
-    ensures { IfOk result (λ v. v.items ≡ rows_for (rows_of rows.now.entries) keys.items) }
+    ensures { IfOk result (λ v. v.items ≡ rows_for rows.now keys.items) }
 {
     let mut found = Vec::new(alloc);
     for (key, _) in &keys {

@@ -7,8 +7,8 @@ ghost use Rattle.ks_def_runs.specs.Pairs.{ArePairs};
 ghost use Rattle.ks_def_runs.specs.Prefixes.{pairs_under};
 
 use crate::groups::{Groups, is_front, keys_under, list_key, unlist_key};
-use crate::pairs::pairs_from;
-use crate::rows::{Rows, all_keys, put_row, row_at, rows_at, take_row};
+use crate::hashing::KeyHashing;
+use crate::rows::{Rows, put_row, row_at, rows_at, rows_under, take_row};
 use ks_record::Blob;
 use std::alloc::{AllocError, Global};
 use std::collections::HashMap;
@@ -26,24 +26,25 @@ pub struct Table {
 impl Model for Table {
     ghost use Rattle.ks_def_runs.specs.Bytes.{Store};
     ghost use Rattle.ks_store.specs.Groups.{groups_of};
-    ghost use Rattle.ks_store.specs.Rows.{rows_of, row_store, IsTable};
+    ghost use Rattle.ks_store.specs.Rows.{row_store, IsTable};
 
     ghost Value = { Store };
 
-    ghost view = { λ t. row_store (rows_of t.rows.entries) };
+    ghost view = { λ t. row_store t.rows };
 
-    ghost invariant = { λ t. IsTable (rows_of t.rows.entries) (groups_of t.groups.entries) };
+    ghost invariant = { λ t. IsTable t.rows (groups_of t.groups.entries) };
 }
 
 impl Table {
-    /// The empty map; takes no memory.
-    pub fn new(alloc: Global) -> Table
+    /// The empty map, whose hashes of keys begin with this seed; takes no memory.
+    pub fn new(alloc: Global, seed: u64) -> Table
         ensures { result ≡ empty_store }
     {
+        let hashing = KeyHashing::new(seed);
         Table {
             alloc,
-            rows: HashMap::new(alloc),
-            groups: HashMap::new(alloc),
+            rows: Rows::new(alloc, hashing),
+            groups: HashMap::with_hasher(alloc, hashing),
         }
     }
 
@@ -88,9 +89,7 @@ impl Table {
             let keys = keys_under(self.alloc, &self.groups, front)?;
             return rows_at(self.alloc, &self.rows, keys);
         }
-        let all = all_keys(self.alloc, &self.rows)?;
-        let keys = pairs_from(self.alloc, &all, front)?;
-        rows_at(self.alloc, &self.rows, keys)
+        rows_under(self.alloc, &self.rows, front)
     }
 
     /// How many keys have a value.

@@ -34,7 +34,7 @@ fn count_in(
         }
         rest = more;
     }
-    let none = TaskStore::new(alloc);
+    let none = TaskStore::new(alloc, 0);
     count(alloc, &none, key, time, window.window())
 }
 

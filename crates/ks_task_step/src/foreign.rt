@@ -176,7 +176,7 @@ fn responses_in(
         }
         rest = more;
     }
-    let none = TaskStore::new(alloc);
+    let none = TaskStore::new(alloc, 0);
     on_right(alloc, &none, change)
 }
 

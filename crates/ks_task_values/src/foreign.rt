@@ -2,18 +2,16 @@
 ghost use Rattle.std.specs.Prelude.{◌≡◌, IfOk, Some, None, option_copied};
 ghost use Rattle.ks_expr.specs.Terms.{set_of};
 ghost use Rattle.ks_plan.specs.declared.node.Topic.TheVariants.{Responses};
-ghost use Rattle.ks_def_tasks.specs.Foreign.{is_direct as direct_is, key_of_row, direct_row};
+ghost use Rattle.ks_def_tasks.specs.Foreign.{is_direct as direct_is, direct_row};
 ghost use Rattle.ks_def_tasks.specs.Step.{arrived, step_key, row_in, direct, responded};
 ghost use Rattle.ks_def_tasks.specs.Rules.{rules_of};
 ghost use Rattle.ks_task_nodes.specs.Records.{arrival_of, message_of};
 ghost use Rattle.ks_task_nodes.specs.Stored.{stored_in, value_view};
 ghost use Rattle.ks_task_values.specs.Values.{olds_in, news_in, foreign_value as foreign_stored, is_awaited as awaited, foreign_stays as foreign_kept};
 
-use crate::hashes::hash_made;
 use crate::step::{NodeValues, is_changed, new_row, old_row};
 use crate::values::value_of_row;
-use ks_expr::{Fk, fk_of};
-use ks_fk_left::is_answer_to;
+use ks_fk_left::{foreign_key, hash_of_row, is_answer_to};
 use ks_hash::Hash128;
 use ks_plan::Topic;
 use ks_record::Key;
@@ -24,21 +22,6 @@ use ks_task_nodes::{
 };
 use ks_wire::Response;
 use std::alloc::{AllocError, Global};
-
-// None where there is no row, or none is given by it.
-fn foreign_key(
-    alloc: Global,
-    fk: &Fk,
-    key: &Key,
-    row: &Option<Row>,
-) -> Result<Option<Key>, AllocError>
-    ensures { IfOk result (λ k. k ≡ key_of_row fk.now key.now row.now) }
-{
-    match row {
-        Some(row) => fk_of(alloc, fk, key, row),
-        None => Ok(None),
-    }
-}
 
 // Whether no answer will come to a changed left row, so that the result is set at once. The row before is read only where there is none
 // after.
@@ -53,10 +36,10 @@ fn is_direct(
         (row_in (olds_in values.now) join.now.left) new.now) }
 {
     match new {
-        Some(_) => Ok(foreign_key(alloc, join.foreign_key, key, new)?.is_none()),
+        Some(_) => Ok(foreign_key(alloc, join.foreign_key, key, new.as_ref())?.is_none()),
         None => {
             let old = old_row(alloc, values, join.left)?;
-            Ok(foreign_key(alloc, join.foreign_key, key, &old)?.is_none())
+            Ok(foreign_key(alloc, join.foreign_key, key, old.as_ref())?.is_none())
         }
     }
 }
@@ -118,7 +101,7 @@ fn responded_value<'a, H: Hash128>(
     };
     let left = new_row(alloc, values, join.left)?;
     let (left, right) = (left.as_ref(), response.right.as_ref());
-    if !is_answer_to(hash_made::<H>(left), response) {
+    if !is_answer_to(hash_of_row::<H>(left), response) {
         return Ok(NewValue::Unchanged(old));
     }
     Ok(value_of_row(join_rows(alloc, join.kind, join.set, left, right)?))

@@ -1,5 +1,5 @@
 //! The hashes of the rows that nodes show, by their bytes where they stand encoded.
-ghost use Rattle.std.specs.Prelude.{◌≡◌, IfOk, option_map, option_copied};
+ghost use Rattle.std.specs.Prelude.{◌≡◌, IfOk, option_map};
 ghost use Rattle.ks_row.specs.Reading.{row_from};
 ghost use Rattle.ks_def_tasks.specs.Messages.{shown};
 ghost use Rattle.ks_def_tasks.specs.Foreign.{hash_of};
@@ -9,21 +9,10 @@ ghost use Rattle.ks_task_nodes.specs.Stored.{value_view};
 ghost use Rattle.ks_task_values.specs.Values.{news_in};
 
 use crate::step::{NodeValues, live_value, new_row};
-use ks_fk_left::hash_row;
+use ks_fk_left::{hash_of_row, hash_row};
 use ks_hash::Hash128;
-use ks_row::Row;
 use ks_task_nodes::{EncodedRow, NewValue, StoredValue, row_after};
 use std::alloc::{AllocError, Global};
-
-/// The hash of a row, where there is one. Takes no memory.
-pub fn hash_made<H: Hash128>(row: Option<&Row>) -> Option<u128>
-    ensures { result ≡ hash_of (row_hash H.hash_of) (option_copied row.entry) }
-{
-    match row {
-        Some(row) => Some(hash_row::<H>(row)),
-        None => None,
-    }
-}
 
 // Of stored bytes; none where they spell no row.
 fn hash_stored<H: Hash128>(bytes: &[u8]) -> Option<u128>
@@ -45,7 +34,7 @@ fn hash_after<H: Hash128>(alloc: Global, new: &NewValue<'_>) -> Result<Option<u1
         NewValue::Unchanged(Some(StoredValue::Row(bytes))) => Ok(hash_stored::<H>(bytes)),
         _ => {
             let row = row_after(alloc, new)?;
-            Ok(hash_made::<H>(row.as_ref()))
+            Ok(hash_of_row::<H>(row.as_ref()))
         }
     }
 }
@@ -63,7 +52,7 @@ pub fn new_hash<H: Hash128>(
         Some(live) => hash_after::<H>(alloc, &live.new),
         None => {
             let row = new_row(alloc, values, number)?;
-            Ok(hash_made::<H>(row.as_ref()))
+            Ok(hash_of_row::<H>(row.as_ref()))
         }
     }
 }

@@ -34,7 +34,7 @@ const STEPS: &[(Step, &str)] = &[
 pub fn new_cached(alloc: Global, capacity: u32) -> Result<CachedStore<OrderedStore>, AllocError>
     requires { 1 ≤ capacity }
 {
-    match CachedStore::new(alloc, OrderedStore::new(alloc), capacity) {
+    match CachedStore::new(alloc, OrderedStore::new(alloc, 1), capacity) {
         Ok(store) => Ok(store),
         Err(_) => Err(AllocError),
     }

@@ -164,7 +164,7 @@ fn run_on_each<R: Abort>(
     calls: &[(Call, &[u8])],
 ) -> Result<(), Fail> {
     run_all(rt, alloc, given, &mut PlainStore::new(alloc), calls)?;
-    run_all(rt, alloc, given, &mut OrderedStore::new(alloc), calls)?;
+    run_all(rt, alloc, given, &mut OrderedStore::new(alloc, 1), calls)?;
     run_all(rt, alloc, given, &mut new_cached(alloc, 1)?, calls)
 }
 

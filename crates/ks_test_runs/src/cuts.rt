@@ -11,6 +11,7 @@ use ks_history::{Entry, Request};
 use ks_words::Settings;
 use std::alloc::{AllocError, Global};
 use std::process::Abort;
+use std::random::RandomSource;
 use std::sync::atomic::{AtomicU64, Ordering};
 use std::sync::{Arc, Wait};
 use std::test::Fail;
@@ -189,7 +190,7 @@ fn count_epochs(entries: &[Entry]) -> usize {
 
 // Runs the job by these settings once for each step of these turns, at which its worker is cut off. It begins anew each time: in a second
 // epoch, but where it was cut off before it began its first.
-fn expect_cut_off<R: Threads + Wait + Sync + Abort>(
+fn expect_cut_off<R: Threads + Wait + Sync + RandomSource + Abort>(
     rt: &R,
     alloc: Global,
     turns: &[(Act, u32)],

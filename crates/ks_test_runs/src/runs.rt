@@ -7,6 +7,7 @@ use ks_run::{run_job, top};
 use ks_words::Settings;
 use std::alloc::{AllocError, Global};
 use std::process::Abort;
+use std::random::RandomSource;
 use std::sync::Wait;
 use std::test::Fail;
 use std::thread::Threads;
@@ -74,7 +75,7 @@ fn sink_of(alloc: Global, devices: &Devices) -> Result<MemSink, AllocError> {
     Ok(MemSink::narrow(alloc, devices.width, failing))
 }
 
-fn expect_by<R: Threads + Wait + Sync + Abort>(
+fn expect_by<R: Threads + Wait + Sync + RandomSource + Abort>(
     rt: &R,
     alloc: Global,
     run: &Run,
@@ -90,7 +91,7 @@ fn expect_by<R: Threads + Wait + Sync + Abort>(
 }
 
 /// The run gives its output; so it does with the input cut into single bytes, where the devices don't fail.
-pub fn expect<R: Threads + Wait + Sync + Abort>(
+pub fn expect<R: Threads + Wait + Sync + RandomSource + Abort>(
     rt: &R,
     alloc: Global,
     run: &Run,
@@ -127,7 +128,7 @@ fn piece_source(alloc: Global, piece: &Piece) -> Result<MemSource, AllocError> {
 }
 
 /// The bytes give their output.
-pub fn expect_piece<R: Threads + Wait + Sync + Abort>(
+pub fn expect_piece<R: Threads + Wait + Sync + RandomSource + Abort>(
     rt: &R,
     alloc: Global,
     piece: &Piece,
@@ -142,7 +143,7 @@ pub fn expect_piece<R: Threads + Wait + Sync + Abort>(
 }
 
 /// The job has this output and status where all rows have one hash.
-pub fn expect_by_one_hash<R: Threads + Wait + Sync + Abort>(
+pub fn expect_by_one_hash<R: Threads + Wait + Sync + RandomSource + Abort>(
     rt: &R,
     alloc: Global,
     job: &str,
@@ -152,14 +153,10 @@ pub fn expect_by_one_hash<R: Threads + Wait + Sync + Abort>(
     let bytes = Vec::from_slice(alloc, job.as_bytes())?;
     let mut input = MemSource::new(bytes, Vec::new(alloc), Vec::new(alloc));
     let mut out = MemSink::new(alloc, Vec::new(alloc));
-    let settings = Settings::usual();
+    let (settings, gates) = (Settings::usual(), gates(alloc)?);
+    let (source, sink) = (&mut input, &mut out);
     let ended = run_job::<Constant, R, MemSource, MemSink>(
-        rt,
-        alloc,
-        &settings,
-        &mut input,
-        &mut out,
-        gates(alloc)?,
+        rt, alloc, &settings, source, sink, gates,
     );
     assert_eq!(rt; out.held(), output.as_bytes());
     assert_eq!(rt; ended.status, status);

@@ -10,6 +10,7 @@ use ks_run::{Ended, run_job};
 use ks_words::Settings;
 use std::alloc::{AllocError, Global};
 use std::process::Abort;
+use std::random::RandomSource;
 use std::sync::Wait;
 use std::test::Fail;
 use std::thread::Threads;
@@ -69,7 +70,7 @@ pub fn two_threads() -> Settings
 }
 
 /// How the run of a job ended that printed this.
-pub fn run_with<H: Hash128 + Send + Sync, R: Threads + Wait + Sync + Abort>(
+pub fn run_with<H: Hash128 + Send + Sync, R: Threads + Wait + Sync + RandomSource + Abort>(
     rt: &R,
     alloc: Global,
     settings: &Settings,

@@ -148,7 +148,7 @@ pub fn feed<R: Wait>(
     ensures follows { IfOk result (λ r. IsReplicaOf setup pass.new.seen the_task r) }
 {
     let (recs, next) = fetch(rt, alloc, shared, 1, pass)?;
-    let mut replica = Replica::new(alloc, TASK, &[1])?;
+    let mut replica = Replica::new(alloc, TASK, &[1], 1)?;
     replica.feed(1, recs.as_slice(), next)?;
     Ok(replica)
 }

@@ -1,6 +1,6 @@
 //! A commit that is cut off at each of its steps, and a later turn at its first.
 use crate::scenes::{Does, Move, Scene, Who};
-use crate::workers::{LOST, TOGETHER, expect, play_order};
+use crate::workers::{BOTH_AT_REST, LOST, TOGETHER, expect, play_order};
 use ks_edge::Act;
 use std::test::Fail;
 
@@ -18,11 +18,7 @@ const CUT: &[Move<'static>] = &[
 const COMMITTED: &[Move<'static>] = &[
     (Who::First, Does::Turn(Act::Work(0)), ""),
     (Who::First, Does::Act(Act::Work(0)), ""),
-    (
-        Who::First,
-        Does::Act(Act::Commit),
-        "member, epoch 1, generation 1, task 0_0 at 1 0, task 1_0 at 1 0",
-    ),
+    (Who::First, Does::Act(Act::Commit), BOTH_AT_REST),
 ];
 
 /// The worker is cut off before the first step of its second turn, since the steps count from 0 in each turn; in the third it begins anew.

@@ -53,6 +53,17 @@ const APART_WARM: Placing = Placing {
 /// What is told of a worker that lost all that it had.
 pub const LOST: &str = "no member, epoch 0, generation 0";
 
+/// What is told of a first member that has read the order.
+pub const ORDER_IN_WORK: &str =
+    "member, epoch 1, generation 1, task 0_0 at 1 0 dirty, task 1_0 at 0 0";
+
+/// What is told of it once it has read the customer too.
+pub const BOTH_IN_WORK: &str =
+    "member, epoch 1, generation 1, task 0_0 at 1 0 dirty, task 1_0 at 1 0 dirty";
+
+/// What is told of it once it has committed both.
+pub const BOTH_AT_REST: &str = "member, epoch 1, generation 1, task 0_0 at 1 0, task 1_0 at 1 0";
+
 /// The step of its first turn before which the first worker decides on its commit, once it has read both topics: the turn has 12 steps, the
 /// further act 3, and the commit adds 3 partitions, appends to them, and sends the offsets of two tasks.
 const DECIDING: u32 = 23;
@@ -61,21 +72,9 @@ const DECIDING: u32 = 23;
 /// has nothing to do.
 const ALONE: Scene<'static> = Scene {
     moves: &[
-        (
-            Who::First,
-            Does::Turn(Act::Work(0)),
-            "member, epoch 1, generation 1, task 0_0 at 1 0 dirty, task 1_0 at 0 0",
-        ),
-        (
-            Who::First,
-            Does::Act(Act::Work(0)),
-            "member, epoch 1, generation 1, task 0_0 at 1 0 dirty, task 1_0 at 1 0 dirty",
-        ),
-        (
-            Who::First,
-            Does::Act(Act::Commit),
-            "member, epoch 1, generation 1, task 0_0 at 1 0, task 1_0 at 1 0",
-        ),
+        (Who::First, Does::Turn(Act::Work(0)), ORDER_IN_WORK),
+        (Who::First, Does::Act(Act::Work(0)), BOTH_IN_WORK),
+        (Who::First, Does::Act(Act::Commit), BOTH_AT_REST),
         (Who::First, Does::Act(Act::Crash), LOST),
         (
             Who::First,
@@ -146,16 +145,8 @@ const ALONE: Scene<'static> = Scene {
 /// The second worker removes the first one, which has read: its commit is refused, and it has nothing any more.
 const TAKEN_OVER: Scene<'static> = Scene {
     moves: &[
-        (
-            Who::First,
-            Does::Turn(Act::Work(0)),
-            "member, epoch 1, generation 1, task 0_0 at 1 0 dirty, task 1_0 at 0 0",
-        ),
-        (
-            Who::First,
-            Does::Act(Act::Work(0)),
-            "member, epoch 1, generation 1, task 0_0 at 1 0 dirty, task 1_0 at 1 0 dirty",
-        ),
+        (Who::First, Does::Turn(Act::Work(0)), ORDER_IN_WORK),
+        (Who::First, Does::Act(Act::Work(0)), BOTH_IN_WORK),
         (Who::Second, Does::Act(Act::Evict(0)), LOST),
         (Who::First, Does::Act(Act::Commit), LOST),
         (
@@ -195,11 +186,7 @@ const TAKEN_OVER: Scene<'static> = Scene {
 /// to, and in the same epoch it commits.
 const OUTRUN: Scene<'static> = Scene {
     moves: &[
-        (
-            Who::First,
-            Does::Turn(Act::Work(0)),
-            "member, epoch 1, generation 1, task 0_0 at 1 0 dirty, task 1_0 at 0 0",
-        ),
+        (Who::First, Does::Turn(Act::Work(0)), ORDER_IN_WORK),
         (
             Who::Second,
             Does::Turn(Act::Pump),
@@ -251,26 +238,10 @@ const OUTRUN: Scene<'static> = Scene {
 
 /// The first worker leaves after a commit, and the second one begins.
 const LEAVING: &[Move<'static>] = &[
-    (
-        Who::First,
-        Does::Turn(Act::Work(0)),
-        "member, epoch 1, generation 1, task 0_0 at 1 0 dirty, task 1_0 at 0 0",
-    ),
-    (
-        Who::First,
-        Does::Act(Act::Work(0)),
-        "member, epoch 1, generation 1, task 0_0 at 1 0 dirty, task 1_0 at 1 0 dirty",
-    ),
-    (
-        Who::First,
-        Does::Act(Act::Commit),
-        "member, epoch 1, generation 1, task 0_0 at 1 0, task 1_0 at 1 0",
-    ),
-    (
-        Who::First,
-        Does::Act(Act::Probe),
-        "member, epoch 1, generation 1, task 0_0 at 1 0, task 1_0 at 1 0",
-    ),
+    (Who::First, Does::Turn(Act::Work(0)), ORDER_IN_WORK),
+    (Who::First, Does::Act(Act::Work(0)), BOTH_IN_WORK),
+    (Who::First, Does::Act(Act::Commit), BOTH_AT_REST),
+    (Who::First, Does::Act(Act::Probe), BOTH_AT_REST),
     (
         Who::First,
         Does::Act(Act::Leave),
@@ -389,26 +360,10 @@ const UNDECIDED: Scene<'static> = Scene {
 /// there: its replica, which is at the end already, becomes the task, and takes what was left to take.
 const MOVED: Scene<'static> = Scene {
     moves: &[
-        (
-            Who::First,
-            Does::Turn(Act::Work(0)),
-            "member, epoch 1, generation 1, task 0_0 at 1 0 dirty, task 1_0 at 0 0",
-        ),
-        (
-            Who::First,
-            Does::Act(Act::Work(0)),
-            "member, epoch 1, generation 1, task 0_0 at 1 0 dirty, task 1_0 at 1 0 dirty",
-        ),
-        (
-            Who::First,
-            Does::Act(Act::Commit),
-            "member, epoch 1, generation 1, task 0_0 at 1 0, task 1_0 at 1 0",
-        ),
-        (
-            Who::First,
-            Does::Act(Act::Probe),
-            "member, epoch 1, generation 1, task 0_0 at 1 0, task 1_0 at 1 0",
-        ),
+        (Who::First, Does::Turn(Act::Work(0)), ORDER_IN_WORK),
+        (Who::First, Does::Act(Act::Work(0)), BOTH_IN_WORK),
+        (Who::First, Does::Act(Act::Commit), BOTH_AT_REST),
+        (Who::First, Does::Act(Act::Probe), BOTH_AT_REST),
         (
             Who::Second,
             Does::Turn(Act::Probe),

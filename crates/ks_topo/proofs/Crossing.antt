@@ -27,4 +27,4 @@ topic_drafts_sync : IsSync (Seq.the_row (Tuple (Name.the_row ∷ TopicDraft.the_
 topic_drafts_sync = seq_sync (Tuple (Name.the_row ∷ TopicDraft.the_row ∷ [])) (search (topic_draft_sync, plain) depth 20)
 
 pub topology_sync : IsSync Node.the_row → IsSync Topology.the_row
-topology_sync node = declared_sync Topology.the_type (search plain depth 20, (topic_drafts_sync, (search plain depth 20, (search (node, plain) depth 20, (search plain depth 20, (search plain depth 20, (search plain depth 20, (search plain depth 20, (search plain depth 20, (search plain depth 20, tt))))))))))
+topology_sync node = declared_sync Topology.the_type (search plain depth 20, (topic_drafts_sync, (search plain depth 20, (search (node, plain) depth 20, (search plain depth 20, (search plain depth 20, (search plain depth 20, (search plain depth 20, (search plain depth 20, (search plain depth 20, (search plain depth 20, tt)))))))))))

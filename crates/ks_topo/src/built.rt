@@ -19,5 +19,7 @@ pub struct Topology {
     pub(crate) inputs: Vec<Seq<u16>>,
     pub(crate) changelogs: Vec<Seq<u16>>,
     pub(crate) drained: Vec<u16>,
+    // what the hashes of stores' keys begin with
+    pub(crate) seed: u64,
     ghost built: { IsBuilt (kept_draft app counts nodes.items print) (map node_place nodes.items) topics.items purposes.items tasks.items inputs.items changelogs.items drained.items },
 }

@@ -177,6 +177,7 @@ fn lay_out(
         inputs: shown.inputs,
         changelogs: shown.changelogs,
         drained: shown.drained,
+        seed: 0,
     })
 }
 
@@ -242,6 +243,22 @@ impl Topology {
             Err(Refusal::Memory) => Err(AllocError),
             Err(Refusal::Fault(fault)) => Ok(Err(fault)),
         }
+    }
+
+    /// From now on its tasks' stores begin the hashes of keys with this seed; with 0 before. Keys can be searched for that have one hash by
+    /// a seed that is known, so a run draws one. Takes no memory.
+    pub fn set_seed(&mut self, seed: u64)
+        ensures draft { draft_of self.new ≡ draft_of self.old }
+        ensures seed { self.new.seed ≡ seed }
+    {
+        self.seed = seed;
+    }
+
+    /// What its tasks' stores begin the hashes of keys with. Takes no memory.
+    pub fn seed(&self) -> u64
+        ensures { result ≡ self.now.seed }
+    {
+        self.seed
     }
 
     /// The topics, by number.

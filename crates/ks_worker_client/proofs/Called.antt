@@ -1,8 +1,11 @@
 -- What a call through the lock tells a client.
 use Rattle.std.proofs.Common.{◌≡◌, ℕ, ◌+◌, ◌-◌, List, [], ◌∷◌, ◌++◌, length, refl, sym, ap, ap₂, subst, ◌∙◌, arith, append-nil, append_assoc, length-append, Result, Ok, Err, IfOk, OnErr}
+use Rattle.ks_record.specs.declared.record.TaskId.{TaskId}
 use Rattle.ks_history.specs.declared.journal.Entry.{Entry}
 use Rattle.ks_history.specs.declared.journal.Request.{Request}
+use Rattle.ks_history.specs.declared.journal.Request.TheVariants.{SendOffsets}
 use Rattle.ks_history.specs.declared.journal.Reply.{Reply}
+use Rattle.ks_history.specs.declared.journal.Reply.TheVariants.{Done}
 use Rattle.ks_history.specs.Machine.{TaskPlan}
 use Rattle.ks_history.specs.State.{State, Setup}
 use Rattle.ks_history.specs.Step.{reply_to}
@@ -10,9 +13,13 @@ use Rattle.ks_history.specs.History.{at, IsHistory}
 use Rattle.ks_cluster.specs.View.{ClusterView, AddsEntry, setup_of, state_of}
 use Rattle.ks_growing.specs.Passes.{PassView}
 use Rattle.ks_shared.specs.declared.state.Frame.{Frame}
-use Rattle.ks_shared.specs.Calls.{setup_in, frame_of, Called}
+use Rattle.ks_shared.specs.declared.barred.Barred.{Barred}
+use Rattle.ks_shared.specs.Calls.{setup_in, Called}
+use Rattle.ks_shared.specs.Own.{IsOwn}
+use Rattle.ks_worker_client.specs.declared.halt.Halt.{Halt}
+use Rattle.ks_worker_client.specs.declared.halt.Halt.TheVariants.{Cut, OutOfMemory}
 use Rattle.ks_worker_client.specs.Turns.{GateCounts, counts_after, with_halt}
-use Rattle.ks_worker_client.specs.Calls.{Later, Wrote, state_seen}
+use Rattle.ks_worker_client.specs.Calls.{Later, Wrote, Answered, state_seen}
 
 module _ {W : Type 0} (plan : W → TaskPlan) (old new : PassView Entry (Frame W)) where
   -- nothing was done yet
@@ -100,3 +107,48 @@ module _ {W : Type 0} (plan : W → TaskPlan) (old new : PassView Entry (Frame W
     pub ok_at : (r : Result A E) (P : State → A → Type 0) (s t : State) → s ≡ t → IfOk r (P s) → IfOk (with_halt r) (P t)
     ok_at (Ok n) P s t e h = subst (λ k. P k n) e h
     ok_at (Err z) P s t e h = tt
+
+-- the same call, of which less is told
+told_less : {W : Type 0} (plan : W → TaskPlan) (old new : PassView Entry (Frame W)) (One Other : ClusterView W → ClusterView W → Type 0) → ((b a : ClusterView W) → One b a → Other b a) → Called plan old new One → Called plan old new Other
+told_less plan old new One Other f c = record { before = c.before; after = c.after; frame = c.frame; others = c.others; came = c.came; quiet = c.quiet; does = f c.before c.after c.does; grew = c.grew; history = c.history; same = c.same }
+
+-- what a call came to
+module _ {W A : Type 0} (plan : W → TaskPlan) (old new : PassView Entry (Frame W)) (Does : A → ClusterView W → ClusterView W → Type 0) where
+  -- in a history the pass is at a later moment, whatever the call came to
+  pub answered_later : (x : Result A Halt) → IsHistory (setup_in plan old.frame) old.seen → Answered plan old new Does x → Later plan old new
+  answered_later (Ok n) history c = later plan old new c
+  answered_later (Err OutOfMemory) history c = later plan old new c
+  answered_later (Err Cut) history same = not_yet plan old new same history
+
+  module _ {E : Type 0} where
+    pub answered : (r : Result A E) (x : Result A Halt) → x ≡ with_halt r → Called plan old new (λ before after. IfOk r (λ n. Does n before after) × OnErr r (after ≡ before)) → Answered plan old new Does x
+    answered r x is c = subst (λ y. Answered plan old new Does y) (sym is) (by r c)
+      where
+        by : (r : Result A E) → Called plan old new (λ before after. IfOk r (λ n. Does n before after) × OnErr r (after ≡ before)) → Answered plan old new Does (with_halt r)
+        by (Ok n) c = told_less plan old new _ (Does n) (λ b a d. d.0) c
+        by (Err e) c = told_less plan old new _ (λ b a. a ≡ b) (λ b a d. d.1) c
+
+    -- one of the worker's own, of which more is told where there was no memory
+    module _ (P : Type 0) where
+      pub own_answered : (r : Result A E) (x : Result A Halt) → x ≡ with_halt r → Called plan old new (λ before after. IfOk r (λ n. Does n before after) × OnErr r (after ≡ before) × OnErr r P) → Answered plan old new Does x
+      own_answered r x is c = subst (λ y. Answered plan old new Does y) (sym is) (by r c)
+        where
+          by : (r : Result A E) → Called plan old new (λ before after. IfOk r (λ n. Does n before after) × OnErr r (after ≡ before) × OnErr r P) → Answered plan old new Does (with_halt r)
+          by (Ok n) c = told_less plan old new _ (Does n) (λ b a d. d.0) c
+          by (Err e) c = told_less plan old new _ (λ b a. a ≡ b) (λ b a d. d.1) c
+
+-- the offsets of a work, as another names them and their order
+pub offsets_answered : {W E : Type 0} (plan : W → TaskPlan) (old new : PassView Entry (Frame W)) (w e g last next : ℕ) (t : TaskId) (late : ℕ) (offsets order others then_order : List (ℕ × ℕ)) → offsets ≡ others → order ≡ then_order →
+    (P : Type 0) (r : Result (Result (Unit {0}) Barred) E) (x : Result (Result (Unit {0}) Barred) Halt) → x ≡ with_halt r →
+    Called plan old new (λ before after. IfOk r (λ n. IsOwn plan before after w last next (SendOffsets w e g t offsets order late) (λ u. Done) n) × OnErr r (after ≡ before) × OnErr r P) →
+    Answered plan old new (λ n before after. IsOwn plan before after w last next (SendOffsets w e g t others then_order late) (λ u. Done) n) x
+offsets_answered plan old new w e g last next t late offsets order others then_order is order_is P r x same c =
+    subst (λ o. Answered plan old new (λ n before after. IsOwn plan before after w last next (SendOffsets w e g t others o late) (λ u. Done) n) x) order_is
+    (subst (λ o. Answered plan old new (λ n before after. IsOwn plan before after w last next (SendOffsets w e g t o order late) (λ u. Done) n) x) is
+    (own_answered plan old new (λ n before after. IsOwn plan before after w last next (SendOffsets w e g t offsets order late) (λ u. Done) n) P r x same c))
+
+-- a call that added its entry
+pub answered_wrote : {W A : Type 0} (plan : W → TaskPlan) (old new : PassView Entry (Frame W)) (request : Request) (reply : A → Reply) (x : Result A Halt) →
+    Answered plan old new (λ n before after. AddsEntry plan before after request (reply n)) x → IfOk x (λ n. Wrote plan old new request (reply n))
+answered_wrote plan old new request reply (Ok n) c = wrote plan old new c request (reply n) c.does
+answered_wrote plan old new request reply (Err h) c = tt

@@ -49,7 +49,7 @@ impl<G: Gate> TurnGate<G> {
     }
 
     /// Goes on to the next step of the turn; `Cut`, where the gate cuts the worker off before it.
-    pub fn pass_step(&mut self) -> Result<(), Halt>
+    pub(crate) fn pass_step(&mut self) -> Result<(), Halt>
         requires { HasRoomFor self.old }
         ensures counts { self.new ≡ counts_after self.old result }
         ensures cut { IfErr result (λ halt. halt ≡ Cut) }

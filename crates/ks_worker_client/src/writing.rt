@@ -59,8 +59,7 @@ impl<W: Work, G: Gate> ClusterClient<W, G> {
         ensures wrote { IfOk result (λ n. Wrote W.plan self.old.pass self.new.pass (MarkNext w)
             (Marked n)) }
     {
-        self.gate.pass_step()?;
-        or_halt(shared.mark_next(rt, alloc, w, &mut self.pass))
+        self.write_marker(rt, alloc, shared, w)
     }
 
     /// Makes a worker a member, and answers the next generation, which begins without an assignment. The number 16 is left to the

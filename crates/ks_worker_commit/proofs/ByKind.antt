@@ -1,6 +1,6 @@
 -- Each request of a commit, by its kind.
 use Rattle.std.proofs.Common.{◌≡◌, ℕ, ◌+◌, ◌&&◌, Bool, true, false, cond, List, [], ◌∷◌, ◌++◌, length, Option, Some, None, Result, Ok, Err, refl, sym, ap, subst, ◌∙◌, arith, append-nil, append_assoc}
-use Rattle.std.specs.Prelude.{◌==◌, OnOk, IfOk, OnErr}
+use Rattle.std.specs.Prelude.{◌==◌, OnOk, IfOk}
 use Rattle.std.proofs.lemmas.Bool.{eqb-true, eq-eqb, and_from, true≢false}
 use Rattle.ks_record.specs.Records.{Record as Rec}
 use Rattle.ks_record.specs.declared.record.PartId.{PartId}
@@ -41,10 +41,14 @@ use Rattle.ks_shared.specs.Calls.{setup_in, Called}
 use Rattle.ks_shared.specs.Own.{IsAccepted, IsRefused, IsTouched}
 use Rattle.ks_worker_commit.specs.declared.halt.Halt.{Halt}
 use Rattle.ks_worker_commit.specs.declared.halt.Halt.TheVariants.{OutOfMemory, Cut, Barred as IsBarred}
+use Rattle.ks_worker_client.specs.declared.halt.Halt.{Halt as TurnHalt}
+use Rattle.ks_worker_client.specs.declared.halt.Halt.TheVariants.{OutOfMemory as NoMemory, Cut as CutOff}
+use Rattle.ks_worker_client.specs.Calls.{Answered}
 use Rattle.ks_worker_commit.specs.Outcomes.{Requests, halted, written}
-use Rattle.ks_worker_commit.specs.Underway.{Memory, memory, with_end, HasEnds, IsUnderway, Puts, Halts, Carries, HasDecided, Decides, HasAborted, HasNotAborted, Aborts, always, has_added, has_work, has_pending_work}
+use Rattle.ks_worker_commit.specs.Ends.{NeverBarred}
+use Rattle.ks_worker_commit.specs.Underway.{Memory, with_end, HasEnds, IsUnderway, Puts, Halts, Carries, HasDecided, Decides, HasAborted, HasNotAborted, Aborts, always, has_added, has_work, has_pending_work}
 use Rattle.ks_worker_commit.proofs.Ended.{append_has_ends}
-use Rattle.ks_worker_commit.proofs.Requesting.{Asked, Counts, history_now, carries_request, requests_request, requests_by, called_as, numbered_reached, assigned_reached, reached_history, requests_now, more_now, before_is, before_setup, is_accepted, one_of_commit, request_refused, request_touched, seen_after}
+use Rattle.ks_worker_commit.proofs.Requesting.{Asked, history_now, carries_request, requests_request, requests_by, requests_nothing, requests_cut, numbered_reached, assigned_reached, reached_history, requests_now, more_now, before_is, before_setup, is_accepted, one_of_commit, request_refused, request_touched, seen_after}
 
 -- the answer is what the call's is to a commit
 pub carried_as : {W A : Type 0} (plan : W → TaskPlan) (old new : PassView Entry (Frame W)) (w e g : ℕ) (mem next : Memory) (Ready : List WorkView → Contents → Type 0) (puts : Contents → Contents)
@@ -104,12 +108,12 @@ is_same : (w : ℕ) → (w == w) ≡ true
 is_same w = eq-eqb w w refl
 
 module _ {W : Type 0} (plan : W → TaskPlan) (old new : PassView Entry (Frame W)) (w e g : ℕ) (mem : Memory) (next : ℕ) where
-  pub add_carries : {E : Type 0} (p : PartId) (r : Result (Result (Unit {0}) Barred) E) → Called plan old new (Asked plan w mem.last next (Add w e p) (λ u. Done) r) → Carries plan old new w e g mem (record mem { last = next }) always (with_part p) (halted r)
+  pub add_carries : (p : PartId) (r : Result (Result (Unit {0}) Barred) TurnHalt) → Asked plan old new w mem.last next (Add w e p) (λ u. Done) r → Carries plan old new w e g mem (record mem { last = next }) always (with_part p) (halted r)
   add_carries p r called =
       carries_request plan old new w e g mem (record mem { last = next }) always (Add w e p) (λ u. Done) (is_same w) (is_same w) (and_from (w == w) (e == e) (is_same w) (is_same e)) (is_same w) (λ u. refl) (λ s. refl)
       r (λ u same. record { numbers = λ s n. n; ends = λ s c is h. h }) (λ b same. (refl, refl)) (λ from first fs c refused ready u k mine place. tt) called
 
-  pub add_requests : {E : Type 0} (p : PartId) (r : Result (Result (Unit {0}) Barred) E) → Called plan old new (Asked plan w mem.last next (Add w e p) (λ u. Done) r) → Requests plan old new w
+  pub add_requests : (p : PartId) (r : Result (Result (Unit {0}) Barred) TurnHalt) → Asked plan old new w mem.last next (Add w e p) (λ u. Done) r → Requests plan old new w
   add_requests p r called =
       requests_request plan old new w e g mem (record mem { last = next }) always (Add w e p) (λ u. Done) (is_same w) (is_same w) (and_from (w == w) (e == e) (is_same w) (is_same e)) (is_same w) (λ u. refl) (λ s. refl) r called
 
@@ -129,9 +133,9 @@ module _ {W : Type 0} (plan : W → TaskPlan) (old new : PassView Entry (Frame W
       same a b h = cc
 
   module _ (number now : ℕ) (t : TaskId) (p : PartId) (rs : List Rec) (made : Memory) (is : number ≡ number_in p mem.numbers) (rises : now ≡ number + length rs) (next_is : made.last ≡ next) where
-    pub append_carries : {E : Type 0} (r : Result (Result ℕ Barred) E) → ((n : ℕ) → halted r ≡ Ok n → (made.numbers ≡ renumber p now mem.numbers) × (made.ends ≡ with_end t p n rs mem.ends)) →
+    pub append_carries : (r : Result (Result ℕ Barred) TurnHalt) → ((n : ℕ) → halted r ≡ Ok n → (made.numbers ≡ renumber p now mem.numbers) × (made.ends ≡ with_end t p n rs mem.ends)) →
         ((b : Barred) → halted r ≡ Err (IsBarred b) → (made.numbers ≡ mem.numbers) × (made.ends ≡ mem.ends)) →
-        Called plan old new (Asked plan w mem.last next (Append w e number t p rs) (λ n. Number n) r) → Carries plan old new w e g mem made (has_added p) (with_records t p rs) (halted r)
+        Asked plan old new w mem.last next (Append w e number t p rs) (λ n. Number n) r → Carries plan old new w e g mem made (has_added p) (with_records t p rs) (halted r)
     append_carries r goes stays called =
         carries_request plan old new w e g mem made (has_added p) (Append w e number t p rs) (λ n. Number n) (is_same w) (is_same w) (and_from (w == w) (e == e) (is_same w) (is_same e)) (is_same w) (λ n. refl) (λ s. refl)
         r
@@ -143,19 +147,19 @@ module _ {W : Type 0} (plan : W → TaskPlan) (old new : PassView Entry (Frame W
         stays
         (λ from first fs c refused ready u k mine place.
         (ready, is ∙ numbered_reached plan from old new w e g first mem fs c u (λ b x. IsRefused plan b x w mem.last made.last (Append w e number t p rs) refused) k mine place p))
-        (subst (λ l. Called plan old new (Asked plan w mem.last l (Append w e number t p rs) (λ n. Number n) r)) (sym next_is) called)
+        (subst (λ l. Asked plan old new w mem.last l (Append w e number t p rs) (λ n. Number n) r) (sym next_is) called)
 
   -- the same, as another names the records
-  pub append_carried : {E : Type 0} (number now : ℕ) (t : TaskId) (p : PartId) (rs others : List Rec) (made : Memory) → number ≡ number_in p mem.numbers → now ≡ number + length rs → made.last ≡ next → rs ≡ others →
-      (r : Result (Result ℕ Barred) E) → ((n : ℕ) → halted r ≡ Ok n → (made.numbers ≡ renumber p now mem.numbers) × (made.ends ≡ with_end t p n rs mem.ends)) →
+  pub append_carried : (number now : ℕ) (t : TaskId) (p : PartId) (rs others : List Rec) (made : Memory) → number ≡ number_in p mem.numbers → now ≡ number + length rs → made.last ≡ next → rs ≡ others →
+      (r : Result (Result ℕ Barred) TurnHalt) → ((n : ℕ) → halted r ≡ Ok n → (made.numbers ≡ renumber p now mem.numbers) × (made.ends ≡ with_end t p n rs mem.ends)) →
       ((b : Barred) → halted r ≡ Err (IsBarred b) → (made.numbers ≡ mem.numbers) × (made.ends ≡ mem.ends)) →
-      Called plan old new (Asked plan w mem.last next (Append w e number t p rs) (λ n. Number n) r) → Carries plan old new w e g mem made (has_added p) (with_records t p others) (halted r)
+      Asked plan old new w mem.last next (Append w e number t p rs) (λ n. Number n) r → Carries plan old new w e g mem made (has_added p) (with_records t p others) (halted r)
   append_carried number now t p rs others made is rises next_is same r goes stays called =
       subst (λ x. Carries plan old new w e g mem made (has_added p) (with_records t p x) (halted r)) same (append_carries number now t p rs made is rises next_is r goes stays called)
 
   -- it is done, and its end taken down
-  pub append_done : {E : Type 0} (r : Result (Result ℕ Barred) E) (x : Result ℕ Halt) (number now offset : ℕ) (t : TaskId) (p : PartId) (rs others : List Rec) (made : Memory) →
-      Called plan old new (Asked plan w mem.last next (Append w e number t p rs) (λ n. Number n) r) → x ≡ halted r → x ≡ Ok offset → number ≡ number_in p mem.numbers → now ≡ number + length rs → made.last ≡ next → rs ≡ others →
+  pub append_done : (r : Result (Result ℕ Barred) TurnHalt) (x : Result ℕ Halt) (number now offset : ℕ) (t : TaskId) (p : PartId) (rs others : List Rec) (made : Memory) →
+      Asked plan old new w mem.last next (Append w e number t p rs) (λ n. Number n) r → x ≡ halted r → x ≡ Ok offset → number ≡ number_in p mem.numbers → now ≡ number + length rs → made.last ≡ next → rs ≡ others →
       made.numbers ≡ renumber p now mem.numbers → made.ends ≡ with_end t p offset rs mem.ends → Puts plan old new w e g mem made (with_records t p others)
   append_done r x number now offset t p rs others made called told done is rises next_is same numbers ends =
       subst (λ y. Carries plan old new w e g mem made (has_added p) (with_records t p others) y) (sym told ∙ done)
@@ -163,14 +167,14 @@ module _ {W : Type 0} (plan : W → TaskPlan) (old new : PassView Entry (Frame W
       (λ n k. (numbers, end_as t p rs mem.ends made.ends offset n ends (same_answer x (halted r) offset n told done k))) (λ b k. no_halt x (halted r) offset b told done k) called)
 
   -- it isn't done, and the producer remembers the same
-  pub append_halted : {E : Type 0} (B : Type 0) (r : Result (Result ℕ Barred) E) (x : Result ℕ Halt) (halt : Halt) (number now : ℕ) (t : TaskId) (p : PartId) (rs others : List Rec) →
-      Called plan old new (Asked plan w mem.last next (Append w e number t p rs) (λ n. Number n) r) → x ≡ halted r → x ≡ Err halt → number ≡ number_in p mem.numbers → now ≡ number + length rs → rs ≡ others →
+  pub append_halted : (B : Type 0) (r : Result (Result ℕ Barred) TurnHalt) (x : Result ℕ Halt) (halt : Halt) (number now : ℕ) (t : TaskId) (p : PartId) (rs others : List Rec) →
+      Asked plan old new w mem.last next (Append w e number t p rs) (λ n. Number n) r → x ≡ halted r → x ≡ Err halt → number ≡ number_in p mem.numbers → now ≡ number + length rs → rs ≡ others →
       Carries {A = B} plan old new w e g mem (record mem { last = next }) (has_added p) (with_records t p others) (Err halt)
   append_halted B r x halt number now t p rs others called told stops is rises same =
       err_carries B plan old new w e g mem (record mem { last = next }) (has_added p) (with_records t p others) (halted r) halt (sym told ∙ stops)
       (append_carried number now t p rs others (record mem { last = next }) is rises refl same r (λ n k. no_answer x (halted r) halt n told stops k) (λ b k. (refl, refl)) called)
 
-  pub append_requests : {E : Type 0} (number : ℕ) (t : TaskId) (p : PartId) (rs : List Rec) (r : Result (Result ℕ Barred) E) → Called plan old new (Asked plan w mem.last next (Append w e number t p rs) (λ n. Number n) r) → Requests plan old new w
+  pub append_requests : (number : ℕ) (t : TaskId) (p : PartId) (rs : List Rec) (r : Result (Result ℕ Barred) TurnHalt) → Asked plan old new w mem.last next (Append w e number t p rs) (λ n. Number n) r → Requests plan old new w
   append_requests number t p rs r called =
       requests_request plan old new w e g mem (record mem { last = next }) (has_added p) (Append w e number t p rs) (λ n. Number n) (is_same w) (is_same w) (and_from (w == w) (e == e) (is_same w) (is_same e)) (is_same w) (λ n. refl) (λ s. refl) r called
 
@@ -182,22 +186,15 @@ module _ {W : Type 0} (plan : W → TaskPlan) (old new : PassView Entry (Frame W
     carried : (w == w) && ((e == e) && (g == g)) ≡ true
     carried = and_from (w == w) ((e == e) && (g == g)) (is_same w) (and_from (e == e) (g == g) (is_same e) (is_same g))
 
-    pub offsets_carries : {E : Type 0} (r : Result (Result (Unit {0}) Barred) E) → Called plan old new (Asked plan w mem.last next sending (λ u. Done) r) →
+    pub offsets_carries : (r : Result (Result (Unit {0}) Barred) TurnHalt) → Asked plan old new w mem.last next sending (λ u. Done) r →
         Carries plan old new w e g mem (record mem { last = next }) (has_work t) (with_pending_offsets (record { task = t; offsets = offsets; order = order; late = late })) (halted r)
     offsets_carries r called =
         carries_request plan old new w e g mem (record mem { last = next }) (has_work t) sending (λ u. Done) (is_same w) (is_same w) carried (is_same w) (λ u. refl) (λ s. refl) r (λ u same. record { numbers = λ s n. n; ends = λ s c is h. h }) (λ b same. (refl, refl))
         (λ from first fs c refused ready u k mine place same. assigned_reached plan from old new w e g first mem fs c u (λ b x. IsRefused plan b x w mem.last next sending refused) k t ready mine place same)
         called
 
-    pub offsets_requests : {E : Type 0} (r : Result (Result (Unit {0}) Barred) E) → Called plan old new (Asked plan w mem.last next sending (λ u. Done) r) → Requests plan old new w
+    pub offsets_requests : (r : Result (Result (Unit {0}) Barred) TurnHalt) → Asked plan old new w mem.last next sending (λ u. Done) r → Requests plan old new w
     offsets_requests r called = requests_request plan old new w e g mem (record mem { last = next }) (has_work t) sending (λ u. Done) (is_same w) (is_same w) carried (is_same w) (λ u. refl) (λ s. refl) r called
-
-    -- the same, as another names its offsets and their order
-    pub offsets_carried : {E : Type 0} (others then_order : List (ℕ × ℕ)) → offsets ≡ others → order ≡ then_order → (r : Result (Result (Unit {0}) Barred) E) → Called plan old new (Asked plan w mem.last next sending (λ u. Done) r) →
-        Carries plan old new w e g mem (record mem { last = next }) (has_work t) (with_pending_offsets (record { task = t; offsets = others; order = then_order; late = late })) (halted r)
-    offsets_carried others then_order is order_is r called =
-        subst (λ o. Carries plan old new w e g mem (record mem { last = next }) (has_work t) (with_pending_offsets (record { task = t; offsets = others; order = o; late = late })) (halted r)) order_is
-        (subst (λ o. Carries plan old new w e g mem (record mem { last = next }) (has_work t) (with_pending_offsets (record { task = t; offsets = o; order = order; late = late })) (halted r)) is (offsets_carries r called))
 
     -- they are accepted in the worker's generation
     in_generation : (s : State) → old_generation s g ≡ None → s.generation ≡ g
@@ -226,12 +223,11 @@ module _ {W : Type 0} (plan : W → TaskPlan) (old new : PassView Entry (Frame W
           ∙ ap (λ (k : State). k.generation) there
           ∙ generation
 
-    pub offsets_sent : {E : Type 0} (r : Result (Result (Unit {0}) Barred) E) → Called plan old new (Asked plan w mem.last next sending (λ u. Done) r) → OnOk (halted r) ((touched w new.seen ≡ next) × ((at (setup_in plan old.frame) new.seen).generation ≡ g))
-    offsets_sent (Ok (Ok u)) called =
-        let c = called_as plan old new _ (λ b x. IsAccepted plan b x w mem.last next sending Done) (λ b x d. d.0) called in
-        (offsets_place c, offsets_generation c)
+    pub offsets_sent : (r : Result (Result (Unit {0}) Barred) TurnHalt) → Asked plan old new w mem.last next sending (λ u. Done) r → OnOk (halted r) ((touched w new.seen ≡ next) × ((at (setup_in plan old.frame) new.seen).generation ≡ g))
+    offsets_sent (Ok (Ok u)) called = (offsets_place called, offsets_generation called)
     offsets_sent (Ok (Err b)) called = tt
-    offsets_sent (Err x) called = tt
+    offsets_sent (Err NoMemory) called = tt
+    offsets_sent (Err CutOff) called = tt
 
   -- ---- the decision
   abbrev pub deciding : Request
@@ -271,11 +267,12 @@ module _ {W : Type 0} (plan : W → TaskPlan) (old new : PassView Entry (Frame W
   was_touched : (place : ℕ) → Called plan old new (λ b x. IsTouched b x w mem.last next place) → Halts plan old new w e g mem decided_memory has_pending_work (Touched place)
   was_touched place k from first fs c ready u = request_touched plan from old new w e g first mem decided_memory place fs c u k refl refl
 
-  pub decide_decides : {E : Type 0} (r : Result (Result (Unit {0}) Barred) E) → Called plan old new (Asked plan w mem.last next deciding (λ u. Done) r) → Decides plan old new w e g mem decided_memory (halted r)
-  decide_decides (Ok (Ok u)) called = is_decided (called_as plan old new _ (λ b x. IsAccepted plan b x w mem.last next deciding Done) (λ b x d. d.0) called)
-  decide_decides (Ok (Err (Refusal r))) called = not_done r (called_as plan old new _ (λ b x. IsRefused plan b x w mem.last next deciding r) (λ b x d. d.0) called)
-  decide_decides (Ok (Err (Touched place))) called = was_touched place (called_as plan old new _ (λ b x. IsTouched b x w mem.last next place) (λ b x d. d.0) called)
-  decide_decides (Err x) called = tt
+  pub decide_decides : (r : Result (Result (Unit {0}) Barred) TurnHalt) → Asked plan old new w mem.last next deciding (λ u. Done) r → Decides plan old new w e g mem decided_memory (halted r)
+  decide_decides (Ok (Ok u)) called = is_decided called
+  decide_decides (Ok (Err (Refusal r))) called = not_done r called
+  decide_decides (Ok (Err (Touched place))) called = was_touched place called
+  decide_decides (Err NoMemory) called = tt
+  decide_decides (Err CutOff) called = tt
 
   -- the abort
   abbrev pub aborting : Request
@@ -302,21 +299,23 @@ module _ {W : Type 0} (plan : W → TaskPlan) (old new : PassView Entry (Frame W
         same = λ i. record mem { last = k.does.same i };
       }
 
-  pub abort_aborts : {E : Type 0} (r : Result (Result (Unit {0}) Barred) E) → Called plan old new (Asked plan w mem.last next aborting (λ u. Done) r) → Aborts plan old new w e mem decided_memory (halted r)
-  abort_aborts (Ok (Ok u)) called = is_aborted (called_as plan old new _ (λ b x. IsAccepted plan b x w mem.last next aborting Done) (λ b x d. d.0) called)
-  abort_aborts (Ok (Err (Refusal r))) called = not_aborted r (called_as plan old new _ (λ b x. IsRefused plan b x w mem.last next aborting r) (λ b x d. d.0) called)
+  pub abort_aborts : (r : Result (Result (Unit {0}) Barred) TurnHalt) → Asked plan old new w mem.last next aborting (λ u. Done) r → Aborts plan old new w e mem decided_memory (halted r)
+  abort_aborts (Ok (Ok u)) called = is_aborted called
+  abort_aborts (Ok (Err (Refusal r))) called = not_aborted r called
   abort_aborts (Ok (Err (Touched place))) called = tt
-  abort_aborts (Err x) called = tt
+  abort_aborts (Err NoMemory) called = tt
+  abort_aborts (Err CutOff) called = tt
 
-  pub decide_requests : {E : Type 0} (commit : Bool) (r : Result (Result (Unit {0}) Barred) E) → Called plan old new (Asked plan w mem.last next (Decide w e commit) (λ u. Done) r) → Requests plan old new w
+  pub decide_requests : (commit : Bool) (r : Result (Result (Unit {0}) Barred) TurnHalt) → Asked plan old new w mem.last next (Decide w e commit) (λ u. Done) r → Requests plan old new w
   decide_requests commit (Ok (Ok u)) k =
-      requests_by plan old new _ k w (record { request = Decide w e commit; reply = Done } ∷ []) (ap (λ (x : ClusterView W). x.journal) k.does.0.adds.journal)
+      requests_by plan old new _ k w (record { request = Decide w e commit; reply = Done } ∷ []) (ap (λ (x : ClusterView W). x.journal) k.does.adds.journal)
       (one_of_commit w (record { request = Decide w e commit; reply = Done }) (is_same w))
   decide_requests commit (Ok (Err (Refusal r))) k =
-      requests_by plan old new _ k w (record { request = Decide w e commit; reply = Refuse r } ∷ []) (ap (λ (x : ClusterView W). x.journal) k.does.0.adds.journal)
+      requests_by plan old new _ k w (record { request = Decide w e commit; reply = Refuse r } ∷ []) (ap (λ (x : ClusterView W). x.journal) k.does.adds.journal)
       (one_of_commit w (record { request = Decide w e commit; reply = Refuse r }) (is_same w))
-  decide_requests commit (Ok (Err (Touched place))) k = requests_by plan old new _ k w [] (ap (λ (x : ClusterView W). x.journal) k.does.0.same ∙ sym (append-nil k.before.journal)) refl
-  decide_requests commit (Err x) k = requests_by plan old new _ k w [] (ap (λ (x : ClusterView W). x.journal) k.does.1 ∙ sym (append-nil k.before.journal)) refl
+  decide_requests commit (Ok (Err (Touched place))) k = requests_by plan old new _ k w [] (ap (λ (x : ClusterView W). x.journal) k.does.same ∙ sym (append-nil k.before.journal)) refl
+  decide_requests commit (Err NoMemory) k = requests_nothing plan old new w k
+  decide_requests commit (Err CutOff) k = requests_cut plan old new w k
 
 -- ---- markers
 -- nothing waits where none was given
@@ -352,20 +351,32 @@ none_left {W} plan old new w k =
     ∙ ap (λ (x : State). (x.producer w).waiting) there
     ∙ still_none s w (none_waits s w k.does.step)
 
-module _ {W E : Type 0} (plan : W → TaskPlan) (old new : PassView Entry (Frame W)) (w : ℕ) where
-  abbrev pub MarkerAsked : Result (Option (PartId × Bool)) E → ClusterView W → ClusterView W → Type 0
-  MarkerAsked r before after = IfOk r (λ m. AddsEntry plan before after (MarkNext w) (Marked m)) × OnErr r (after ≡ before)
+module _ {W : Type 0} (plan : W → TaskPlan) (old new : PassView Entry (Frame W)) (w : ℕ) where
+  abbrev pub MarkerAsked : Result (Option (PartId × Bool)) TurnHalt → Type 0
+  MarkerAsked r = Answered plan old new (λ m before after. AddsEntry plan before after (MarkNext w) (Marked m)) r
 
-  pub marker_requests : (r : Result (Option (PartId × Bool)) E) → Called plan old new (MarkerAsked r) → Requests plan old new w
+  pub marker_requests : (r : Result (Option (PartId × Bool)) TurnHalt) → MarkerAsked r → Requests plan old new w
   marker_requests (Ok m) k =
-      requests_by plan old new (MarkerAsked (Ok m)) k w (record { request = MarkNext w; reply = Marked m } ∷ []) (ap (λ (x : ClusterView W). x.journal) k.does.0.journal)
+      requests_by plan old new _ k w (record { request = MarkNext w; reply = Marked m } ∷ []) (ap (λ (x : ClusterView W). x.journal) k.does.journal)
       (one_of_commit w (record { request = MarkNext w; reply = Marked m }) (is_same w))
-  marker_requests (Err x) k = requests_by plan old new (MarkerAsked (Err x)) k w [] (ap (λ (x : ClusterView W). x.journal) k.does.1 ∙ sym (append-nil k.before.journal)) refl
+  marker_requests (Err NoMemory) k = requests_nothing plan old new w k
+  marker_requests (Err CutOff) k = requests_cut plan old new w k
 
-  waits_none : (r : Result (Option (PartId × Bool)) E) → Called plan old new (MarkerAsked r) → IfOk (written r) (λ more. more ≡ false → ((at (setup_in plan old.frame) new.seen).producer w).waiting ≡ [])
-  waits_none (Ok None) k = λ h. none_left plan old new w (called_as plan old new _ (λ b a. AddsEntry plan b a (MarkNext w) (Marked None)) (λ b a d. d.0) k)
+  waits_none : (r : Result (Option (PartId × Bool)) TurnHalt) → MarkerAsked r → IfOk (written r) (λ more. more ≡ false → ((at (setup_in plan old.frame) new.seen).producer w).waiting ≡ [])
+  waits_none (Ok None) k = λ h. none_left plan old new w k
   waits_none (Ok (Some m)) k = λ h. absurd (true≢false h)
-  waits_none (Err x) k = tt
+  waits_none (Err NoMemory) k = tt
+  waits_none (Err CutOff) k = tt
 
-  pub waits_as : (x : Result Bool Halt) (r : Result (Option (PartId × Bool)) E) → x ≡ written r → Called plan old new (MarkerAsked r) → IfOk x (λ more. more ≡ false → ((at (setup_in plan old.frame) new.seen).producer w).waiting ≡ [])
+  pub waits_as : (x : Result Bool Halt) (r : Result (Option (PartId × Bool)) TurnHalt) → x ≡ written r → MarkerAsked r → IfOk x (λ more. more ≡ false → ((at (setup_in plan old.frame) new.seen).producer w).waiting ≡ [])
   waits_as x r is k = subst (λ y. IfOk y (λ more. more ≡ false → ((at (setup_in plan old.frame) new.seen).producer w).waiting ≡ [])) (sym is) (waits_none r k)
+
+-- a marker's request is never barred
+pub marker_never_barred : {A : Type 0} (x : Result Bool Halt) (r : Result (Option A) TurnHalt) → x ≡ written r → NeverBarred x
+marker_never_barred {A} x r is = subst (λ y. NeverBarred y) (sym is) (by r)
+  where
+    by : (r : Result (Option A) TurnHalt) → NeverBarred (written r)
+    by (Ok None) = tt
+    by (Ok (Some a)) = tt
+    by (Err NoMemory) = tt
+    by (Err CutOff) = tt

@@ -1,8 +1,6 @@
 -- What a call through the lock is to a commit that is under way.
 use Rattle.std.proofs.Common.{◌≡◌, ◌≢◌, ◌⊎◌, inl, inr, ℕ, suc, ◌+◌, ◌-◌, ◌≤◌, ◌&&◌, ◌||◌, Bool, true, false, not, List, [], ◌∷◌, ◌++◌, length, length-append, Option, Some, None, Result, Ok, Err, refl, sym, ap, ap₂, subst, ◌∙◌, arith, append_assoc, append-nil}
-use Rattle.std.specs.Prelude.{IfOk, OnErr}
 use Rattle.std.proofs.lemmas.Bool.{true≢false}
-use Rattle.ks_record.specs.declared.record.PartId.{PartId}
 use Rattle.ks_record.specs.declared.record.TaskId.{TaskId}
 use Rattle.ks_record.specs.Parts.{same_task}
 use Rattle.ks_record.specs.declared.assignment.Refused.{Refused}
@@ -40,9 +38,14 @@ use Rattle.ks_shared.specs.declared.state.Frame.{Frame}
 use Rattle.ks_shared.specs.declared.barred.Barred.{Barred}
 use Rattle.ks_shared.specs.declared.barred.Barred.TheVariants.{Refused as Refusal, Touched}
 use Rattle.ks_shared.specs.Calls.{setup_in, Called}
+use Rattle.ks_worker_commit.specs.declared.halt.Halt.{Halt}
 use Rattle.ks_worker_commit.specs.declared.halt.Halt.TheVariants.{Barred as IsBarred}
 use Rattle.ks_shared.specs.Own.{IsAccepted, IsRefused, IsTouched, IsOwn}
-use Rattle.ks_worker_commit.specs.Outcomes.{IsAmong, are_of_commit, Requests, halted}
+use Rattle.ks_worker_client.specs.declared.halt.Halt.{Halt as TurnHalt}
+use Rattle.ks_worker_client.specs.declared.halt.Halt.TheVariants.{OutOfMemory as NoMemory, Cut as CutOff}
+use Rattle.ks_worker_client.specs.Turns.{GateCounts, counts_after}
+use Rattle.ks_worker_client.specs.Calls.{Answered}
+use Rattle.ks_worker_commit.specs.Outcomes.{IsAmong, are_of_commit, Requests, halted, written, with_cuts, cuts_in}
 use Rattle.ks_worker_commit.proofs.Ended.{ends_stay, gained_epoch}
 use Rattle.ks_worker_commit.specs.Underway.{Memory, HasEnds, AreActiveWorks, IsUnderway, IsHalted, Puts, Halts, Carries}
 
@@ -422,12 +425,18 @@ module _ {W : Type 0} (plan : W → TaskPlan) (from old new : PassView Entry (Fr
   }
 
 -- ---- a request, whatever is answered
-pub called_as : {W : Type 0} (plan : W → TaskPlan) (old new : PassView Entry (Frame W)) (One Other : ClusterView W → ClusterView W → Type 0) → ((b a : ClusterView W) → One b a → Other b a) → Called plan old new One → Called plan old new Other
-called_as plan old new One Other f c = record { before = c.before; after = c.after; frame = c.frame; others = c.others; came = c.came; quiet = c.quiet; does = f c.before c.after c.does; grew = c.grew; history = c.history; same = c.same }
+-- what the worker's own request came to
+abbrev pub Asked : {W A : Type 0} → (W → TaskPlan) → PassView Entry (Frame W) → PassView Entry (Frame W) → ℕ → ℕ → ℕ → Request → (A → Reply) → Result (Result A Barred) TurnHalt → Type 0
+Asked plan old new w last next request reply r = Answered plan old new (λ x before after. IsOwn plan before after w last next request reply x) r
 
--- the worker's own request, or no memory
-abbrev pub Asked : {W A E : Type 0} → (W → TaskPlan) → ℕ → ℕ → ℕ → Request → (A → Reply) → Result (Result A Barred) E → ClusterView W → ClusterView W → Type 0
-Asked plan w last next request reply r before after = IfOk r (λ x. IsOwn plan before after w last next request reply x) × OnErr r (after ≡ before) × OnErr r (next ≡ last)
+module _ {W : Type 0} (plan : W → TaskPlan) (old new : PassView Entry (Frame W)) (w : ℕ) where
+  -- a request that added nothing
+  pub requests_nothing : Called plan old new (λ b a. a ≡ b) → Requests plan old new w
+  requests_nothing k = requests_by plan old new _ k w [] (ap (λ (x : ClusterView W). x.journal) k.does ∙ sym (append-nil k.before.journal)) refl
+
+  -- one that wasn't made
+  pub requests_cut : new ≡ old → Requests plan old new w
+  requests_cut same = subst (λ (k : PassView Entry (Frame W)). Requests plan old k w) (sym same) (requests_none plan old w)
 
 module _ {W A : Type 0} (plan : W → TaskPlan) (old new : PassView Entry (Frame W)) (w e g : ℕ) (mem next : Memory) (Ready : List WorkView → Contents → Type 0) (request : Request) (reply : A → Reply)
     (adds : adds_to w request ≡ true) (kind : is_of_commit w request ≡ true) (carried : carries w e g request ≡ true) (own : is_of w request ≡ true) (plain : (a : A) → is_refused (reply a) ≡ false)
@@ -458,19 +467,44 @@ module _ {W A : Type 0} (plan : W → TaskPlan) (old new : PassView Entry (Frame
   is_touched_so : (place : ℕ) → Same → Called plan old new (λ b x. IsTouched b x w mem.last next.last place) → Halts plan old new w e g mem next Ready (Touched place)
   is_touched_so place same k from first fs c is u = request_touched plan from old new w e g first mem next place fs c u k same.0 same.1
 
-  pub carries_request : {E : Type 0} (r : Result (Result A Barred) E) → ((a : A) → halted r ≡ Ok a → Counts a) → ((b : Barred) → halted r ≡ Err (IsBarred b) → Same) → Prepared → Called plan old new (Asked plan w mem.last next.last request reply r) → Carries plan old new w e g mem next Ready (added_by request) (halted r)
-  carries_request (Ok (Ok a)) counts same ready k = is_done a (counts a refl) (called_as plan old new _ (λ b x. IsAccepted plan b x w mem.last next.last request (reply a)) (λ b x d. d.0) k)
-  carries_request (Ok (Err (Refusal refused))) counts same ready k = is_refused_so refused (same (Refusal refused) refl) ready (called_as plan old new _ (λ b x. IsRefused plan b x w mem.last next.last request refused) (λ b x d. d.0) k)
-  carries_request (Ok (Err (Touched place))) counts same ready k = is_touched_so place (same (Touched place) refl) (called_as plan old new _ (λ b x. IsTouched b x w mem.last next.last place) (λ b x d. d.0) k)
-  carries_request (Err x) counts same ready k = tt
+  pub carries_request : (r : Result (Result A Barred) TurnHalt) → ((a : A) → halted r ≡ Ok a → Counts a) → ((b : Barred) → halted r ≡ Err (IsBarred b) → Same) → Prepared → Asked plan old new w mem.last next.last request reply r → Carries plan old new w e g mem next Ready (added_by request) (halted r)
+  carries_request (Ok (Ok a)) counts same ready k = is_done a (counts a refl) k
+  carries_request (Ok (Err (Refusal refused))) counts same ready k = is_refused_so refused (same (Refusal refused) refl) ready k
+  carries_request (Ok (Err (Touched place))) counts same ready k = is_touched_so place (same (Touched place) refl) k
+  carries_request (Err NoMemory) counts same ready k = tt
+  carries_request (Err CutOff) counts same ready k = tt
 
-  pub requests_request : {E : Type 0} (r : Result (Result A Barred) E) → Called plan old new (Asked plan w mem.last next.last request reply r) → Requests plan old new w
+  pub requests_request : (r : Result (Result A Barred) TurnHalt) → Asked plan old new w mem.last next.last request reply r → Requests plan old new w
   requests_request (Ok (Ok a)) k =
-      requests_by plan old new _ k w (record { request = request; reply = reply a } ∷ []) (ap (λ (x : ClusterView W). x.journal) k.does.0.adds.journal) (one_of_commit w (record { request = request; reply = reply a }) kind)
+      requests_by plan old new _ k w (record { request = request; reply = reply a } ∷ []) (ap (λ (x : ClusterView W). x.journal) k.does.adds.journal) (one_of_commit w (record { request = request; reply = reply a }) kind)
   requests_request (Ok (Err (Refusal refused))) k =
       requests_by plan old new _ k w (record { request = request; reply = Refuse refused } ∷ [])
-      (ap (λ (x : ClusterView W). x.journal) k.does.0.adds.journal) (one_of_commit w (record { request = request; reply = Refuse refused }) kind)
+      (ap (λ (x : ClusterView W). x.journal) k.does.adds.journal) (one_of_commit w (record { request = request; reply = Refuse refused }) kind)
   requests_request (Ok (Err (Touched place))) k =
-      requests_by plan old new _ k w [] (ap (λ (x : ClusterView W). x.journal) k.does.0.same ∙ sym (append-nil k.before.journal)) refl
-  requests_request (Err x) k =
-      requests_by plan old new _ k w [] (ap (λ (x : ClusterView W). x.journal) k.does.1 ∙ sym (append-nil k.before.journal)) refl
+      requests_by plan old new _ k w [] (ap (λ (x : ClusterView W). x.journal) k.does.same ∙ sym (append-nil k.before.journal)) refl
+  requests_request (Err NoMemory) k = requests_nothing plan old new w k
+  requests_request (Err CutOff) k = requests_cut plan old new w k
+
+-- ---- the gate
+-- a request that is cut off counts one cut
+pub cuts_as : {A : Type 0} (first now : GateCounts) (r : Result (Result A Barred) TurnHalt) (x : Result A Halt) → x ≡ halted r → now ≡ counts_after first r → now ≡ with_cuts first (cuts_in x)
+cuts_as {A} first now r x is e = e ∙ by r ∙ ap (λ y. with_cuts first (cuts_in y)) (sym is)
+  where
+    by : (r : Result (Result A Barred) TurnHalt) → counts_after first r ≡ with_cuts first (cuts_in (halted r))
+    by (Ok (Ok a)) = refl
+    by (Ok (Err b)) = refl
+    by (Err NoMemory) = refl
+    by (Err CutOff) = refl
+
+-- the same, where the answer is known
+pub cuts_known : {A : Type 0} (first now : GateCounts) (r : Result (Result A Barred) TurnHalt) (x y : Result A Halt) → x ≡ halted r → now ≡ counts_after first r → x ≡ y → now ≡ with_cuts first (cuts_in y)
+cuts_known first now r x y is e known = subst (λ z. now ≡ with_cuts first (cuts_in z)) known (cuts_as first now r x is e)
+
+pub marker_cuts : {A : Type 0} (first now : GateCounts) (r : Result (Option A) TurnHalt) (x : Result Bool Halt) → x ≡ written r → now ≡ counts_after first r → now ≡ with_cuts first (cuts_in x)
+marker_cuts {A} first now r x is e = e ∙ by r ∙ ap (λ y. with_cuts first (cuts_in y)) (sym is)
+  where
+    by : (r : Result (Option A) TurnHalt) → counts_after first r ≡ with_cuts first (cuts_in (written r))
+    by (Ok None) = refl
+    by (Ok (Some a)) = refl
+    by (Err NoMemory) = refl
+    by (Err CutOff) = refl

@@ -12,6 +12,8 @@ use Rattle.ks_shared.specs.declared.barred.Barred.TheVariants.{Refused as Refusa
 use Rattle.ks_law_sharing.specs.Refusals.{IsFencing, IsMarkersWaiting}
 use Rattle.ks_law_commit.specs.Accounts.{is_of_commit, accepted_of}
 use Rattle.ks_law_commit.specs.Cases.{IsTurnedDown}
+use Rattle.ks_worker_client.specs.declared.halt.Halt.{Halt as TurnHalt}
+use Rattle.ks_worker_client.specs.declared.halt.Halt.TheVariants.{OutOfMemory as NoMemory, Cut as CutOff}
 use Rattle.ks_worker_client.specs.Turns.{GateCounts}
 use Rattle.ks_worker_commit.specs.declared.halt.Halt.{Halt}
 use Rattle.ks_worker_commit.specs.declared.halt.Halt.TheVariants.{OutOfMemory, Cut, Barred as IsBarred}
@@ -37,16 +39,18 @@ pub record Requests {W : Type 0} (plan : W → TaskPlan) (old new : PassView Ent
   pub history : IsHistory (setup_in plan old.frame) old.seen → IsHistory (setup_in plan old.frame) new.seen
 
 -- what a call's answer is to a commit
-abbrev pub halted : {A E : Type 0} → Result (Result A Barred) E → Result A Halt
+abbrev pub halted : {A : Type 0} → Result (Result A Barred) TurnHalt → Result A Halt
 halted (Ok (Ok a)) = Ok a
 halted (Ok (Err b)) = Err (IsBarred b)
-halted (Err e) = Err OutOfMemory
+halted (Err NoMemory) = Err OutOfMemory
+halted (Err CutOff) = Err Cut
 
 -- whether a marker was written
-abbrev pub written : {A E : Type 0} → Result (Option A) E → Result Bool Halt
+abbrev pub written : {A : Type 0} → Result (Option A) TurnHalt → Result Bool Halt
 written (Ok None) = Ok false
 written (Ok (Some a)) = Ok true
-written (Err e) = Err OutOfMemory
+written (Err NoMemory) = Err OutOfMemory
+written (Err CutOff) = Err Cut
 
 -- the counts of a gate that cut the worker off so often more
 abbrev pub with_cuts : GateCounts → ℕ → GateCounts

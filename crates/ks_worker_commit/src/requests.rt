@@ -19,7 +19,7 @@ use ks_commit::{Frozen, number_at, with_next_number};
 use ks_edge::Gate;
 use ks_record::{PartId, SharedRecords, TaskId};
 use ks_shared::{Barred, Shared};
-use ks_worker_client::{Member, Session};
+use ks_worker_client::{BatchHeader, Halt as TurnHalt, Member, Session};
 use std::alloc::{AllocError, Global};
 use std::sync::Wait;
 
@@ -53,24 +53,26 @@ fn note_end(
 }
 
 // What a call's answer is to a commit.
-fn done<T: Drop>(answer: Result<Result<T, Barred>, AllocError>) -> Result<T, Halt>
+fn done<T: Drop>(answer: Result<Result<T, Barred>, TurnHalt>) -> Result<T, Halt>
     ensures { result ≡ halted answer }
 {
     match answer {
         Ok(Ok(value)) => Ok(value),
         Ok(Err(barred)) => Err(Halt::Barred(barred)),
-        Err(_) => Err(Halt::OutOfMemory),
+        Err(TurnHalt::OutOfMemory) => Err(Halt::OutOfMemory),
+        Err(TurnHalt::Cut) => Err(Halt::Cut),
     }
 }
 
 // Whether a marker was written.
-fn is_written(answer: Result<Option<(PartId, bool)>, AllocError>) -> Result<bool, Halt>
+fn is_written(answer: Result<Option<(PartId, bool)>, TurnHalt>) -> Result<bool, Halt>
     ensures { result ≡ written answer }
 {
     match answer {
         Ok(None) => Ok(false),
         Ok(Some(_)) => Ok(true),
-        Err(_) => Err(Halt::OutOfMemory),
+        Err(TurnHalt::OutOfMemory) => Err(Halt::OutOfMemory),
+        Err(TurnHalt::Cut) => Err(Halt::Cut),
     }
 }
 
@@ -94,19 +96,8 @@ pub fn add_part<R: Wait, W: Work, G: Gate>(
         always (with_part part) result }
     ensures gate { session.new.client.gate ≡ with_cuts session.old.client.gate (cuts_in result) }
 {
-    if session.client.gate.pass_step().is_err() {
-        return Err(Halt::Cut);
-    }
-    let (worker, epoch) = (member.number, member.epoch);
-    done(shared.add(
-        rt,
-        alloc,
-        worker,
-        epoch,
-        part,
-        &mut session.last,
-        &mut session.client.pass,
-    ))
+    let (client, last) = (&mut session.client, &mut session.last);
+    done(client.add(rt, alloc, shared, member, part, last))
 }
 
 /// Appends a task's records to a partition of the worker's transaction, with the next number of its epoch
@@ -132,18 +123,17 @@ pub fn append_output<R: Wait, W: Work, G: Gate>(
         (has_added out.now.0) (with_records task out.now.0 out.now.1) result }
     ensures gate { session.new.client.gate ≡ with_cuts session.old.client.gate (cuts_in result) }
 {
-    if session.client.gate.pass_step().is_err() {
-        return Err(Halt::Cut);
-    }
     let (part, recs) = (out.0, &out.1);
     let before = number_at(session.numbers.as_slice(), part);
     let after = number_after(before, recs)?;
     let numbers = with_next_number(alloc, session.numbers.as_slice(), part, after)?;
-    let (worker, epoch) = (member.number, member.epoch);
-    let (last, pass) = (&mut session.last, &mut session.client.pass);
-    let offset = match done(shared.append(
-        rt, alloc, worker, epoch, before, task, part, recs, last, pass,
-    )) {
+    let header = BatchHeader {
+        task,
+        part,
+        number: before,
+    };
+    let (client, last) = (&mut session.client, &mut session.last);
+    let offset = match done(client.append(rt, alloc, shared, member, header, recs, last)) {
         Ok(offset) => offset,
         Err(halt) => return Err(halt),
     };
@@ -182,23 +172,8 @@ pub fn send_offsets<R: Wait, W: Work, G: Gate>(
         ≡ member.generation) }
     ensures gate { session.new.client.gate ≡ with_cuts session.old.client.gate (cuts_in result) }
 {
-    if session.client.gate.pass_step().is_err() {
-        return Err(Halt::Cut);
-    }
-    let (offsets, order) = (work.offsets.as_slice(), work.order.as_slice());
-    done(shared.send_offsets(
-        rt,
-        alloc,
-        member.number,
-        member.epoch,
-        member.generation,
-        work.task,
-        offsets,
-        order,
-        work.late,
-        &mut session.last,
-        &mut session.client.pass,
-    ))
+    let (client, last) = (&mut session.client, &mut session.last);
+    done(client.send_offsets(rt, alloc, shared, member, work, last))
 }
 
 /// Commits the worker's transaction, which is faithful in what the pass has seen.
@@ -222,11 +197,8 @@ pub fn decide_commit<R: Wait, W: Work, G: Gate>(
         (memory session.new.last session.new.numbers.items session.new.ends.items) result }
     ensures gate { session.new.client.gate ≡ with_cuts session.old.client.gate (cuts_in result) }
 {
-    if session.client.gate.pass_step().is_err() {
-        return Err(Halt::Cut);
-    }
-    let (last, pass) = (&mut session.last, &mut session.client.pass);
-    done(shared.decide(rt, alloc, member.number, member.epoch, true, last, pass))
+    let (client, last) = (&mut session.client, &mut session.last);
+    done(client.decide(rt, alloc, shared, member, true, last))
 }
 
 /// Aborts the worker's transaction.
@@ -246,11 +218,8 @@ pub fn decide_abort<R: Wait, W: Work, G: Gate>(
         (memory session.new.last session.new.numbers.items session.new.ends.items) result }
     ensures gate { session.new.client.gate ≡ with_cuts session.old.client.gate (cuts_in result) }
 {
-    if session.client.gate.pass_step().is_err() {
-        return Err(Halt::Cut);
-    }
-    let (last, pass) = (&mut session.last, &mut session.client.pass);
-    done(shared.decide(rt, alloc, member.number, member.epoch, false, last, pass))
+    let (client, last) = (&mut session.client, &mut session.last);
+    done(client.decide(rt, alloc, shared, member, false, last))
 }
 
 /// Writes the worker's next waiting marker; false where none waits.
@@ -272,8 +241,6 @@ pub fn write_marker<R: Wait, W: Work, G: Gate>(
         session.new.client.pass.seen).producer member.number).waiting ≡ []) }
     ensures gate { session.new.client.gate ≡ with_cuts session.old.client.gate (cuts_in result) }
 {
-    if session.client.gate.pass_step().is_err() {
-        return Err(Halt::Cut);
-    }
-    is_written(shared.mark_next(rt, alloc, member.number, &mut session.client.pass))
+    let client = &mut session.client;
+    is_written(client.write_marker(rt, alloc, shared, member.number))
 }

@@ -58,7 +58,12 @@ fn replica_from_shelf<H: Hash128, R: Wait, W: Work, G: Gate>(
     let parked = client.unpark(rt, alloc, shared, instance, task)?;
     match parked {
         Some(replica) => Ok(replica),
-        None => or_halt(Replica::new(alloc, task, changelogs_in(topology, task.sub))),
+        None => or_halt(Replica::new(
+            alloc,
+            task,
+            changelogs_in(topology, task.sub),
+            topology.seed(),
+        )),
     }
 }
 

@@ -1,5 +1,6 @@
-//! Keys that fall into one place of the program's hash table of so many keys: `collisions COUNT` prints them, a line each. The table's hash
-//! is the one of the kit's standard library: a multiplication for the key's length and one for each of its bytes, each folded to 64 bits;
+//! Keys that fall into one place of the program's hash table of so many keys, where its hashes begin with a seed that is known, here 0:
+//! `collisions COUNT` prints them, a line each. The table's hash is the one of the kit's standard library: a multiplication for the seed,
+//! one for the key's length and one for each of its bytes, each folded to 64 bits;
 //! then its halves are xored. Its lowest bits name one of 2^n groups, of nine keys each when the table is full. All that it prints have the
 //! group 0 in a table of COUNT keys.
 use std::sync::atomic::{AtomicU64, Ordering};
@@ -7,7 +8,8 @@ use std::sync::Mutex;
 
 const DIGITS: &[u8; 64] = b"0123456789abcdefghijklmnopqrstuvwxyzABCDEFGHIJKLMNOPQRSTUVWXYZ_-";
 const MULTIPLIER: u64 = 0x9e37_79b9_7f4a_7c15;
-const SEED: u64 = 0x243f_6a88_85a3_08d3;
+const FIRST: u64 = 0x243f_6a88_85a3_08d3;
+const SEED: u64 = 0;
 // How many digits a key begins with that stay while the last ones are tried, and how many these are.
 const FRONT: usize = 6;
 const BACK: usize = 3;
@@ -30,7 +32,7 @@ fn digit(number: u64, i: usize) -> u8 {
 /// The keys with this front that fall into the group 0 of so many.
 fn keys_of(front: u64, groups: u64) -> Vec<String> {
     let mut key = [0; FRONT + BACK];
-    let mut begun = write(SEED, key.len() as u64, 8);
+    let mut begun = write(write(FIRST, SEED, 8), key.len() as u64, 8);
     for i in 0..FRONT {
         key[i] = digit(front, i);
         begun = write_byte(begun, key[i]);

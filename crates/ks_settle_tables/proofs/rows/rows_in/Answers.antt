@@ -5,4 +5,4 @@ use Rattle.ks_settle_tables.proofs.rows.rows_in.Goals as goal
 
 pub returns : goal.returns
 returns g c =
-    rows_of_part (op_as c.args.shown) (state_of g.W.Work.plan c.args.cluster.now) c.args.topic c.args.part _ _ _ _ c.in_ok-rows.ensures.items c.as_slice.ensures.value c.in_ok-pairs.ensures c.in_ok-push_pairs.ensures
+    rows_of_part (op_as c.args.log.form) (state_of g.W.Work.plan c.args.cluster.now) c.args.log.topic c.args.part _ _ _ _ c.in_ok-rows.ensures.items c.as_slice.ensures.value c.in_ok-pairs.ensures c.in_ok-push_pairs.ensures

@@ -1,4 +1,4 @@
-use Rattle.std.proofs.Common.{◌≡◌, List, ℕ, subst, ap, sym, ◌∙◌}
+use Rattle.std.proofs.Common.{◌≡◌, subst, ap, sym, ◌∙◌}
 use Rattle.std.specs.Prelude.{IfOk}
 use Rattle.ks_store.specs.declared.groups.Group.{Group}
 use Rattle.ks_store.specs.Groups.{Keys, IsGroup, keys_in}

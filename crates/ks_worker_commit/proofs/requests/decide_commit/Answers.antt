@@ -1,10 +1,14 @@
 use Rattle.std.proofs.Common.{true}
 use Rattle.ks_worker_commit.proofs.ByKind.{decide_decides, decide_requests, decided_as}
+use Rattle.ks_worker_commit.proofs.Requesting.{cuts_as}
 use Rattle.ks_worker_commit.specs.Underway.{memory}
 use Rattle.ks_worker_commit.proofs.requests.decide_commit.Goals as goal
 
 pub returns-clause-requests : goal.returns-clause-requests
-returns-clause-requests g c = decide_requests g.W.Work.plan _ _ c.args.member.number c.args.member.epoch c.args.member.generation (memory c.args.session.now.last c.args.session.now.numbers.items c.args.session.now.ends.items) _ true c.decide.result c.decide.ensures
+returns-clause-requests g c = decide_requests g.W.Work.plan _ _ c.args.member.number c.args.member.epoch c.args.member.generation (memory c.args.session.now.last c.args.session.now.numbers.items c.args.session.now.ends.items) _ true c.decide.result c.decide.ensures.answered
 
 pub returns-clause-decides : goal.returns-clause-decides
-returns-clause-decides g c = decided_as g.W.Work.plan _ _ _ _ _ _ _ _ _ c.done.ensures (decide_decides g.W.Work.plan _ _ c.args.member.number c.args.member.epoch c.args.member.generation (memory c.args.session.now.last c.args.session.now.numbers.items c.args.session.now.ends.items) _ c.decide.result c.decide.ensures)
+returns-clause-decides g c = decided_as g.W.Work.plan _ _ _ _ _ _ _ _ _ c.done.ensures (decide_decides g.W.Work.plan _ _ c.args.member.number c.args.member.epoch c.args.member.generation (memory c.args.session.now.last c.args.session.now.numbers.items c.args.session.now.ends.items) _ c.decide.result c.decide.ensures.answered)
+
+pub returns-clause-gate : goal.returns-clause-gate
+returns-clause-gate g c = cuts_as _ _ c.decide.result _ c.done.ensures c.decide.ensures.gate

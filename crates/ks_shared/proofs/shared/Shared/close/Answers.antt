@@ -6,7 +6,7 @@ use Rattle.ks_shared.specs.Calls.{frame_of}
 use Rattle.ks_shared.proofs.shared.Shared.close.Goals as goal
 
 pub returns-clause-frames : goal.returns-clause-frames
-returns-clause-frames g c = λ k x at. subst (λ v. pass_frame x ≡ Some (frame_of v)) (sym c.cluster.view_is) (c.close.ensures.frames k x at)
+returns-clause-frames g c = λ k x at. subst (λ v. pass_frame x ≡ Some (frame_of v)) (sym c.cluster_in.ensures) (c.close.ensures.frames k x at)
 
 pub returns-clause-seen : goal.returns-clause-seen
-returns-clause-seen g c = λ k x at. subst (λ v. IsPrefix (seen_of x) v.journal) (sym c.cluster.view_is) (c.close.ensures.seen k x at)
+returns-clause-seen g c = λ k x at. subst (λ v. IsPrefix (seen_of x) v.journal) (sym c.cluster_in.ensures) (c.close.ensures.seen k x at)

@@ -1,5 +1,5 @@
-use Rattle.std.proofs.Common.{ap, refl}
-use Rattle.ks_shared.proofs.Turns.{called, unchanged, same_grew}
+use Rattle.std.proofs.Common.{ap, refl, ◌∙◌}
+use Rattle.ks_shared.proofs.Turns.{called_in, unchanged, same_grew}
 use Rattle.ks_shared.proofs.shared.Shared.committed.Goals as goal
 
 pub leave-requires-clause-grown : goal.leave-requires-clause-grown
@@ -8,4 +8,4 @@ leave-requires-clause-grown g c = unchanged _ _ (ap (λ p. p.seen) c.enter-state
 pub returns : goal.returns
 returns g c =
     let e = c.enter-state.ensures in
-    called g.W.Work.plan _ _ _ _ _ _ c.requires.free e.pass e.begins e.frame e.reserved (refl, c.committed-answer.ensures.offsets, c.committed-answer.ensures.refused) (same_grew _) c.tell.ensures c.leave.ensures
+    called_in g.W.Work.plan _ _ _ c.enter-state.result c.deref.result.now c.deref.result.now c.enter-state.result c.deref-2.result.now _ (c.deref.ensures ∙ c.state.view_is) (c.deref.ensures ∙ c.state.view_is) (c.deref-2.ensures ∙ c.state.view_is) c.requires.free e.pass e.begins e.frame e.reserved (refl, c.committed-answer.ensures.offsets, c.committed-answer.ensures.refused) (same_grew c.deref.result.now) c.tell.ensures c.leave.ensures

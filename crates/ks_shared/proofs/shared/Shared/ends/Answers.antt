@@ -1,6 +1,6 @@
-use Rattle.ks_shared.proofs.Turns.{called}
+use Rattle.ks_shared.proofs.Turns.{called_in}
 use Rattle.ks_shared.proofs.shared.Shared.ends.Goals as goal
-use Rattle.std.proofs.Common.{ap, refl}
+use Rattle.std.proofs.Common.{ap, refl, ◌∙◌}
 use Rattle.ks_shared.proofs.Turns.{unchanged, same_grew}
 
 pub leave-requires-clause-grown : goal.leave-requires-clause-grown
@@ -9,4 +9,4 @@ leave-requires-clause-grown g c = unchanged _ _ (ap (λ p. p.seen) c.enter-state
 pub returns : goal.returns
 returns g c =
     let e = c.enter-state.ensures in
-    called g.W.Work.plan _ _ _ _ _ _ c.requires.free e.pass e.begins e.frame e.reserved (refl, c.ends-answer.ensures) (same_grew _) c.tell.ensures c.leave.ensures
+    called_in g.W.Work.plan _ _ _ c.enter-state.result c.deref.result.now c.deref.result.now c.enter-state.result c.deref-2.result.now _ (c.deref.ensures ∙ c.state.view_is) (c.deref.ensures ∙ c.state.view_is) (c.deref-2.ensures ∙ c.state.view_is) c.requires.free e.pass e.begins e.frame e.reserved (refl, c.ends-answer.ensures) (same_grew c.deref.result.now) c.tell.ensures c.leave.ensures

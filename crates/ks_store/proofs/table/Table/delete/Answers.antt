@@ -2,16 +2,15 @@ use Rattle.std.proofs.Common.{ap, ◌∙◌}
 use Rattle.ks_def_runs.specs.Bytes.{Store}
 use Rattle.ks_def_runs.specs.FinMap as fin
 use Rattle.ks_store.specs.Groups.{groups_of}
-use Rattle.ks_store.specs.Rows.{rows_of}
 use Rattle.ks_store.proofs.Tables.{take_row, take_table}
 use Rattle.ks_store.proofs.table.Table.delete.Goals as goal
 
 pub returns : goal.returns
 returns c =
-    take_row (rows_of c.self.inside.rows.entries) (rows_of c.take_row.new.rows.entries) c.args.key.now c.take_row.ensures.gone
+    take_row c.self.inside.rows c.take_row.new.rows c.args.key.now c.take_row.ensures.gone
     ∙ ap (λ (m : Store). fin.remove m c.args.key.now) c.self.view_is
 
 pub invariant_of-self : goal.invariant_of-self
 invariant_of-self c =
-    take_table c.self.inside.rows.entries c.take_row.new.rows.entries (groups_of c.self.inside.groups.entries) (groups_of c.unlist_key.new.groups.entries) c.args.key.now
+    take_table c.self.inside.rows c.take_row.new.rows (groups_of c.self.inside.groups.entries) (groups_of c.unlist_key.new.groups.entries) c.args.key.now
     c.take_row.ensures.gone c.take_row.ensures.len c.unlist_key.ensures.groups c.unlist_key.ensures.others c.self.invariant

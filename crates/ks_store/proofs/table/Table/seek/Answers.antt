@@ -3,15 +3,14 @@ use Rattle.std.specs.Prelude.{IfOk}
 use Rattle.ks_def_runs.specs.Bytes.{Store}
 use Rattle.ks_store.specs.Groups.{groups_of, listed_under}
 use Rattle.ks_def_runs.specs.Prefixes.{pairs_under}
-use Rattle.ks_store.specs.Pairs.{pairs_of}
-use Rattle.ks_store.specs.Rows.{rows_of, rows_for}
+use Rattle.ks_store.specs.Rows.{rows_for}
 use Rattle.ks_store.proofs.Tables.{rows_under}
 use Rattle.ks_store.proofs.Fronted.{under_own, begun_has}
 use Rattle.ks_store.proofs.table.Table.seek.Goals as goal
 
 pub returns-then-is_front : goal.returns-then-is_front
 returns-then-is_front c =
-    let rows = rows_of c.self.inside.rows.entries in
+    let rows = c.self.inside.rows in
     let front = c.args.front.now in
     let keys = listed_under front (groups_of c.self.inside.groups.entries) in
     let own = c.self.invariant.0.0 front in
@@ -22,9 +21,4 @@ returns-then-is_front c =
     subst (λ (found : List (List ℕ × List ℕ)). IfOk c.rows_at.result (λ v. v.items ≡ found)) e c.rows_at.ensures
 
 pub returns : goal.returns
-returns c =
-    let rows = rows_of c.self.inside.rows.entries in
-    let e = ap (rows_for rows) c.in_ok-keys-2.ensures
-    ∙ (rows_under c.args.front.now rows (pairs_of c.in_ok-all.all.entries) c.in_ok-all.ensures.0 (λ q b has. c.in_ok-all.ensures.1 q has)
-    ∙ ap (λ (m : Store). pairs_under c.args.front.now m) c.self.view_is) in
-    subst (λ (found : List (List ℕ × List ℕ)). IfOk c.rows_at-2.result (λ v. v.items ≡ found)) e c.rows_at-2.ensures
+returns c = subst (λ (m : Store). IfOk c.rows_under.result (λ v. v.items ≡ pairs_under c.args.front.now m)) c.self.view_is c.rows_under.ensures
