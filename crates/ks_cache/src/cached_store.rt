@@ -10,7 +10,8 @@ use crate::pairs::{
     Cache, count_off, count_on, make_room, put_first, take_out, value_in, write_all,
 };
 use ks_record::Blob;
-use ks_store::{KvStore, OrderedStore, PlainStore};
+use ks_restoring::RestoringStore;
+use ks_store::{KvStore, PlainStore};
 use lru::LruCache;
 use std::alloc::{AllocError, AllocFailed, Global};
 use std::marker::Model;
@@ -95,7 +96,7 @@ impl<S: KvStore> CachedStore<S> {
     }
 }
 
-impl CachedStore<OrderedStore> {
+impl CachedStore<RestoringStore> {
     /// Its keys and values are bytes, as a fact for the calls that follow; does nothing.
     pub fn holds_bytes(&self)
         ensures { ArePairs (map.entries (map_of (λ s. s) self.now)) }

@@ -8,7 +8,8 @@ ghost use Rattle.ks_cache.specs.Kept.{empty_kept, put_kept, delete_kept, kept_wi
 
 use crate::cached_store::CachedStore;
 use ks_record::{Blob, Rec, RecordRef};
-use ks_store::{KvStore, OrderedStore};
+use ks_restoring::RestoringStore;
+use ks_store::KvStore;
 use std::alloc::{AllocError, Global};
 use std::marker::Model;
 use std::mem;
@@ -16,8 +17,8 @@ use std::mem;
 /// The two ways in which a store is kept.
 #[derive(Drop)]
 pub(crate) enum Holding {
-    Plain(OrderedStore),
-    Cached(CachedStore<OrderedStore>),
+    Plain(RestoringStore),
+    Cached(CachedStore<RestoringStore>),
 }
 
 /// A store that writes at once, or one that holds its newest writes back. It is seen as its map with what is held back over it, the list
@@ -42,7 +43,7 @@ impl KeptStore {
         ensures { result ≡ empty_kept }
     {
         KeptStore {
-            store: Holding::Plain(OrderedStore::new(alloc, seed)),
+            store: Holding::Plain(RestoringStore::new(alloc, seed)),
         }
     }
 
@@ -77,8 +78,30 @@ impl KeptStore {
         }
     }
 
+    /// Writes the records that wait since it was restored into its table. The map and what is held back are the same, also after want
+    /// of memory; where nothing waits nothing happens.
+    pub fn apply(&mut self) -> Result<(), AllocError>
+        ensures { self.new ≡ self.old }
+    {
+        match &mut self.store {
+            Holding::Plain(store) => store.apply(),
+            // Nothing waits there: `hold_back` has it written first.
+            Holding::Cached(_) => Ok(()),
+        }
+    }
+
+    // Writes what waits where a cache is to be laid over it: below a cache nothing waits.
+    fn apply_below(&mut self, cache: u32) -> Result<(), AllocError>
+        ensures { self.new ≡ self.old }
+    {
+        if cache == 0 {
+            return Ok(());
+        }
+        self.apply()
+    }
+
     // The store alone, where nothing is held back. Takes no memory.
-    fn into_table(self) -> OrderedStore
+    fn into_table(self) -> RestoringStore
         requires { self.cached ≡ [] }
         ensures { result ≡ self.whole }
     {
@@ -90,7 +113,7 @@ impl KeptStore {
     }
 
     // The same table, behind a cache of at most so many pairs where that isn't 0.
-    fn over(alloc: Global, table: OrderedStore, cache: u32) -> Result<KeptStore, OrderedStore>
+    fn over(alloc: Global, table: RestoringStore, cache: u32) -> Result<KeptStore, RestoringStore>
         ensures ok { IfOk result (λ s. s ≡ held_back cache (kept_plain table)) }
         ensures err { IfErr result (λ t. t ≡ table) }
     {
@@ -114,6 +137,7 @@ impl KeptStore {
         ensures err { OnErr result (self.new.whole ≡ self.old.whole) }
     {
         self.flush()?;
+        self.apply_below(cache)?;
         let table = mem::replace(self, KeptStore::new(alloc, 0)).into_table();
         match KeptStore::over(alloc, table, cache) {
             Ok(store) => {
@@ -143,15 +167,25 @@ impl KeptStore {
         }
     }
 
-    /// Takes records of its changelog, each with its offset, in order. After want of memory the first of them were taken, and the store
-    /// is to be dropped.
-    pub fn restore(&mut self, recs: &[(u64, Rec)]) -> Result<(), AllocError>
+    // Takes records of its changelog, one after another.
+    fn keep_each(&mut self, recs: &[(u64, Rec)]) -> Result<(), AllocError>
         ensures { OnOk result (self.new ≡ kept_after self.old (records_of recs.now)) }
     {
         for (_, rec) in recs {
             self.keep(rec.as_ref())?;
         }
         Ok(())
+    }
+
+    /// Takes records of its changelog, each with its offset, in order; where it writes at once they wait, shared and not copied, for the
+    /// first write or for `apply`. After want of memory the first of them were taken, and the store is to be dropped.
+    pub fn restore(&mut self, recs: &[(u64, Rec)]) -> Result<(), AllocError>
+        ensures { OnOk result (self.new ≡ kept_after self.old (records_of recs.now)) }
+    {
+        if let Holding::Plain(store) = &mut self.store {
+            return store.restore(recs);
+        }
+        self.keep_each(recs)
     }
 }
 

@@ -1,10 +1,11 @@
 -- What a status tells is what the state says.
-use Rattle.std.proofs.Common.{◌≡◌, ℕ, zero, suc, ◌+◌, ◌-◌, ◌<◌, cond, List, [], ◌∷◌, ◌++◌, length, get_or, Option, refl, sym, ap, ◌∙◌, arith}
+use Rattle.std.proofs.Common.{◌≡◌, ℕ, zero, suc, ◌+◌, ◌-◌, ◌<◌, cond, nat_eq, List, [], ◌∷◌, ◌++◌, length, get_or, Option, Some, None, refl, sym, ap, subst, ◌∙◌, arith, eqb-true}
 use Rattle.std.specs.Prelude.{map, Bool, true, false, ◌||◌}
 use Rattle.ks_record.specs.declared.record.PartId.{PartId}
 use Rattle.ks_record.specs.declared.record.TaskId.{TaskId}
 use Rattle.ks_record.specs.declared.assignment.Assignment.{Assignment}
 use Rattle.ks_history.specs.Machine.{has_topic}
+use Rattle.ks_history.specs.Machine.{TaskPlan}
 use Rattle.ks_history.specs.State.{State, Setup}
 use Rattle.ks_history.specs.Reads.{is_changelog, topic_ends, changelog_ends, waiting_from, status}
 use Rattle.ks_cluster.specs.declared.broker.Broker.{Broker}
@@ -13,7 +14,7 @@ use Rattle.ks_log.specs.Written.{slots_in}
 use Rattle.ks_log.specs.Reading.{end_at}
 use Rattle.ks_cluster.specs.Moves.{IsAt}
 use Rattle.ks_cluster.specs.View.{setup_from}
-use Rattle.ks_cluster.specs.Statuses.{with_producers, ends_on, ends_if, changelogs_on}
+use Rattle.ks_cluster.specs.Statuses.{with_producers, ends_on, ends_if, changelogs_on, firsts_from}
 use Rattle.ks_cluster.proofs.Readings.{waiting-are}
 
 -- one partition more of a topic
@@ -57,3 +58,41 @@ status-is setup s b generation members given held waiting ends k generates there
   waiting = (waits ∙ waiting-are setup s b k) i;
   ends = (ended ∙ ap (λ ts. changelogs_on (setup_from setup.plan [] ts) b.log 0 setup.counts) k.group_is.tasks_is ∙ ends-are setup s b.log 0 setup.counts k.log_is) i;
 }
+
+-- ---- of tasks of one subtopology that stand together one is enough
+abbrev known : Setup → Option ℕ → ℕ → Bool
+known setup None topic = false
+known setup (Some sub) topic = has_topic topic (setup.plan.changelogs sub)
+
+said-twice : (b c d : Bool) → (b || c) ≡ (b || d) → (b || c) ≡ (b || (b || d))
+said-twice true c d h = refl
+said-twice false c d h = h
+
+firsts-kept : (setup : Setup) (last : Option ℕ) (ts : List TaskId) (topic : ℕ)
+    → (known setup last topic || is_changelog setup (firsts_from last ts) topic) ≡ (known setup last topic || is_changelog setup ts topic)
+firsts-kept setup last [] topic = refl
+firsts-kept setup None (t ∷ ts) topic = firsts-kept setup (Some t.sub) ts topic
+firsts-kept setup (Some other) (t ∷ ts) topic =
+    elim (nat_eq other t.sub) as (λ b. nat_eq other t.sub ≡ b
+    → (has_topic topic (setup.plan.changelogs other) || is_changelog setup (cond b (firsts_from (Some t.sub) ts) (t ∷ firsts_from (Some t.sub) ts)) topic)
+    ≡ (has_topic topic (setup.plan.changelogs other) || (has_topic topic (setup.plan.changelogs t.sub) || is_changelog setup ts topic))) [
+      | true ↦ λ e. subst (λ s. (has_topic topic (setup.plan.changelogs s) || is_changelog setup (firsts_from (Some t.sub) ts) topic)
+          ≡ (has_topic topic (setup.plan.changelogs s) || (has_topic topic (setup.plan.changelogs t.sub) || is_changelog setup ts topic)))
+          (sym (eqb-true other t.sub e))
+          (said-twice (has_topic topic (setup.plan.changelogs t.sub)) _ _ (firsts-kept setup (Some t.sub) ts topic))
+      | false ↦ λ e. ap (λ b. has_topic topic (setup.plan.changelogs other) || b) (firsts-kept setup (Some t.sub) ts topic)
+    ] refl
+
+firsts-same : (plan : TaskPlan) (ts : List TaskId) (topic : ℕ)
+    → is_changelog (setup_from plan [] (firsts_from None ts)) (firsts_from None ts) topic ≡ is_changelog (setup_from plan [] ts) ts topic
+firsts-same plan ts topic =
+    changelog-same (setup_from plan [] []) (firsts_from None ts) (firsts_from None ts) topic
+    ∙ firsts-kept (setup_from plan [] []) None ts topic
+    ∙ sym (changelog-same (setup_from plan [] []) ts ts topic)
+
+pub firsts_have_ends : (plan : TaskPlan) (ts : List TaskId) (log : List Written) (topic : ℕ) (counts : List ℕ)
+    → changelogs_on (setup_from plan [] (firsts_from None ts)) log topic counts ≡ changelogs_on (setup_from plan [] ts) log topic counts
+firsts_have_ends plan ts log topic [] = refl
+firsts_have_ends plan ts log topic (count ∷ counts) =
+    ap (λ b. cond b (ends_on log topic 0 count) [] ++ changelogs_on (setup_from plan [] (firsts_from None ts)) log (topic + 1) counts) (firsts-same plan ts topic)
+    ∙ ap (λ l. ends_if (setup_from plan [] ts) log topic count ++ l) (firsts_have_ends plan ts log (topic + 1) counts)

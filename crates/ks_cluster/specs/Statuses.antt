@@ -1,5 +1,5 @@
 -- The parts of a status over the lists of a broker.
-use Rattle.std.specs.Prelude.{ℕ, zero, suc, ◌+◌, if◌then◌else◌, List, [], ◌∷◌, ◌++◌, length}
+use Rattle.std.specs.Prelude.{ℕ, zero, suc, ◌+◌, Bool, false, nat_eq, if◌then◌else◌, Option, None, Some, List, [], ◌∷◌, ◌++◌, length}
 use Rattle.ks_record.specs.declared.record.PartId.{PartId}
 use Rattle.ks_record.specs.declared.record.TaskId.{TaskId}
 use Rattle.ks_history.specs.declared.transaction.Producer.{Producer}
@@ -28,3 +28,12 @@ ends_if setup log topic count = if is_changelog setup setup.tasks topic then end
 abbrev pub changelogs_on : Setup → List Written → ℕ → List ℕ → List (PartId × ℕ)
 changelogs_on setup log topic [] = []
 changelogs_on setup log topic (count ∷ counts) = ends_if setup log topic count ++ changelogs_on setup log (topic + 1) counts
+
+abbrev pub is_same_sub : Option ℕ → ℕ → Bool
+is_same_sub None sub = false
+is_same_sub (Some other) sub = nat_eq other sub
+
+-- of tasks of one subtopology that stand together the first, behind one of the subtopology `last`
+abbrev pub firsts_from : Option ℕ → List TaskId → List TaskId
+firsts_from last [] = []
+firsts_from last (t ∷ ts) = if is_same_sub last t.sub then firsts_from (Some t.sub) ts else t ∷ firsts_from (Some t.sub) ts

@@ -1,9 +1,9 @@
 //! What a cluster tells of its group, its waiting markers and the ends of its changelogs.
-ghost use Rattle.std.specs.Prelude.{◌≡◌, ℕ, ◌++◌, [], false, Some, IfOk, OnOk, option_copied};
+ghost use Rattle.std.specs.Prelude.{◌≡◌, ◌++◌, [], None, IfOk, OnOk, option_copied};
 ghost use Rattle.ks_history.specs.Machine.{has_topic};
 ghost use Rattle.ks_history.specs.Reads.{is_changelog};
 ghost use Rattle.ks_cluster.specs.View.{setup_from};
-ghost use Rattle.ks_cluster.specs.Statuses.{ends_on, ends_if, changelogs_on};
+ghost use Rattle.ks_cluster.specs.Statuses.{ends_on, ends_if, changelogs_on, is_same_sub, firsts_from};
 
 use crate::work::Work;
 use ks_group::copy_assignment;
@@ -56,27 +56,38 @@ fn has_number(numbers: &[u16], number: u16) -> bool
     false
 }
 
-// Whether a topic is a changelog of a subtopology, where it is none of the one that was asked last.
-fn keeps<W: Work>(work: &W, last: Option<u8>, sub: u8, topic: u16) -> bool
-    requires { (s : ℕ) → last ≡ Some s → has_topic topic ((W.plan work.now).changelogs s) ≡ false }
-    ensures { result ≡ has_topic topic ((W.plan work.now).changelogs sub) }
+fn is_same_subtopology(last: Option<u8>, sub: u8) -> bool
+    ensures { result ≡ is_same_sub last sub }
 {
-    if last == Some(sub) {
-        return false;
+    match last {
+        Some(other) => other == sub,
+        None => false,
     }
-    has_number(work.changelogs(sub), topic)
 }
 
-// Whether a topic is a changelog of one of these tasks. Where tasks of a subtopology stand together, it is asked once.
+// Of tasks of one subtopology that stand together the first.
+fn first_tasks(alloc: Global, tasks: &[TaskId]) -> Result<Vec<TaskId>, AllocError>
+    ensures { IfOk result (λ v. v.items ≡ firsts_from None tasks.now) }
+{
+    let mut firsts = Vec::new(alloc);
+    let mut last: Option<u8> = None;
+    for task in tasks {
+        if !is_same_subtopology(last, task.sub) {
+            firsts.push(*task)?;
+        }
+        last = Some(task.sub);
+    }
+    Ok(firsts)
+}
+
+// Whether a topic is a changelog of one of these tasks.
 fn is_kept<W: Work>(work: &W, tasks: &[TaskId], topic: u16) -> bool
     ensures { result ≡ is_changelog (setup_from (W.plan work.now) [] []) tasks.now topic }
 {
-    let mut last: Option<u8> = None;
     for task in tasks {
-        if keeps(work, last, task.sub, topic) {
+        if has_number(work.changelogs(task.sub), topic) {
             return true;
         }
-        last = Some(task.sub);
     }
     false
 }
@@ -114,8 +125,8 @@ fn push_changelog<W: Work>(
     Ok(())
 }
 
-/// The ends of the partitions of all changelogs, by topic and partition. Want of memory also where there are more than 65,536 topics.
-pub fn changelog_ends<W: Work>(
+// The ends of the partitions of all changelogs of these tasks, by topic and partition.
+fn ends_of_tasks<W: Work>(
     alloc: Global,
     work: &W,
     tasks: &[TaskId],
@@ -133,4 +144,21 @@ pub fn changelog_ends<W: Work>(
         push_changelog(&mut made, work, tasks, log, (topic, *count))?;
     }
     Ok(made)
+}
+
+/// The ends of the partitions of all changelogs, by topic and partition. Want of memory also where there are more than 65,536 topics.
+/// Where tasks of a subtopology stand together, one of them is asked for its changelogs.
+#[tactic(auto, using(crate::proofs::StatusParts::firsts_have_ends))]
+pub fn changelog_ends<W: Work>(
+    alloc: Global,
+    work: &W,
+    tasks: &[TaskId],
+    counts: &[u8],
+    log: &Log,
+) -> Result<Vec<(PartId, u64)>, AllocError>
+    ensures { IfOk result (λ made. made.items
+        ≡ changelogs_on (setup_from (W.plan work.now) [] tasks.now) log.now 0 counts.now) }
+{
+    let firsts = first_tasks(alloc, tasks)?;
+    ends_of_tasks(alloc, work, firsts.as_slice(), counts, log)
 }

@@ -5,3 +5,5 @@ pub mod Fronted
 pub mod Fronts
 pub mod Applied
 pub mod Called
+pub mod Mixing
+pub mod Packing

@@ -1,10 +1,9 @@
 -- A table of short keys and one of long keys are the finite map of the rows of both, and the rows of the keys listed under a front are
 -- the pairs under it.
 use Rattle.std.proofs.Common.{◌≡◌, ℕ, ◌+◌, ◌-◌, Bool, true, false, cond, not, ◌&&◌, T, List, [], ◌∷◌, ◌++◌, length, get_or, take, ◌<◌, ◌≤◌, Option, Some, None, refl, sym, ap, ap₂, subst, ◌∙◌, arith, append-nil}
-use Rattle.std.specs.Prelude.{is_some, IsSome, ◌==◌, nat_le, Result, Ok, Err, OnOk, OnErr, ⊤}
+use Rattle.std.specs.Prelude.{is_some, IsSome, ◌==◌, nat_le, Result, Ok, Err, IfOk, OnOk, OnErr}
 use Rattle.std.specs.Bool.{nat_eq}
 use Rattle.std.specs.Global.{Vec}
-use Rattle.arrayvec.specs.ArrayVec.{ArrayVec}
 use Rattle.std.specs.declared.alloc.AllocError.{AllocError}
 use Rattle.std.specs.declared.cmp.Ordering.{Ordering}
 use Rattle.std.specs.declared.cmp.Ordering.TheVariants.{Less, Equal, Greater}
@@ -25,7 +24,7 @@ use Rattle.ks_store.specs.Pairs.{Rises}
 use Rattle.ks_def_runs.specs.Pairs.{ArePairs}
 use Rattle.ks_def_runs.specs.Prefixes.{pairs_under}
 use Rattle.ks_store.specs.declared.groups.Group.{Group}
-use Rattle.ks_store.specs.Groups.{groups_of, AreGroups, IsListed, Lists}
+use Rattle.ks_store.specs.Groups.{groups_of, AreGroups, IsListed, StayListed, Lists}
 use Rattle.ks_store.specs.Rows.{rows_by, short_rows, long_rows, AreApart, row_store, with_found, rows_for, IsTable}
 use Rattle.ks_store.proofs.Trees.{first, second, under, bytes_where, bytes_put}
 
@@ -103,17 +102,17 @@ shrunk_by false m n e = omega (arith, e)
 -- ---- the rows of both tables
 
 abbrev is_short : List ℕ → Bool
-is_short q = nat_le (length q) 24
+is_short q = nat_le (length q) 23
 
-pub of_short : (q : List ℕ) → length q ≤ 24 → is_short q ≡ true
-of_short q h = le-leb (length q) 24 h
+pub of_short : (q : List ℕ) → length q ≤ 23 → is_short q ≡ true
+of_short q h = le-leb (length q) 23 h
 
-pub of_long : (q : List ℕ) → 24 < length q → is_short q ≡ false
+pub of_long : (q : List ℕ) → 23 < length q → is_short q ≡ false
 of_long q h = by (is_short q) refl
   where
     by : (b : Bool) → is_short q ≡ b → b ≡ false
     by false e = refl
-    by true e = absurd (omega (arith, h, leb-true (length q) 24 e))
+    by true e = absurd (omega (arith, h, leb-true (length q) 23 e))
 
 abbrev or_else : Option (List ℕ) → Option (List ℕ) → Option (List ℕ)
 or_else (Some v) o = Some v
@@ -200,8 +199,8 @@ change_long short long new k w of_k apart is q =
 pub length_rows : {K : Type 0} (bytes : K → List ℕ) (es : List (K × List ℕ)) → length (rows_by bytes es) ≡ length es
 length_rows bytes es = simp length-map
 
-pub length_whole : (es : List (ArrayVec ℕ × List ℕ)) (fs : List (Vec ℕ × List ℕ)) → length (short_rows es ++ long_rows fs) ≡ length es + length fs
-length_whole es fs = length-append (short_rows es) (long_rows fs) ∙ ap₂ (λ (m n : ℕ). m + n) (length_rows (λ (k : ArrayVec ℕ). k.items) es) (length_rows (λ (k : Vec ℕ). k.items) fs)
+pub length_whole : (es : List (List ℕ × List ℕ)) (fs : List (Vec ℕ × List ℕ)) → length (short_rows es ++ long_rows fs) ≡ length es + length fs
+length_whole es fs = length-append (short_rows es) (long_rows fs) ∙ ap₂ (λ (m n : ℕ). m + n) (length_rows (λ (k : List ℕ). k) es) (length_rows (λ (k : Vec ℕ). k.items) fs)
 
 -- of a table that has d more rows, or d fewer, and another beside it
 pub more_left : (a b c d x y : ℕ) → x ≡ a + b → y ≡ c + b → c ≡ a + d → y ≡ x + d
@@ -219,58 +218,69 @@ fewer_right a b c d x y p q r = omega (arith, p, q, r)
 -- ---- both tables after a change of one
 
 abbrev Short : Type 0
-Short = List (ArrayVec ℕ × List ℕ)
+Short = List (List ℕ × List ℕ)
 
 abbrev Long : Type 0
 Long = List (Vec ℕ × List ℕ)
 
-pub put_short_apart : (r : Result ⊤ AllocError) (old new : Short) (long : Long) (k v : List ℕ) → length k ≤ 24 → OnOk r (Changes k (Some v) (short_rows old) (short_rows new)) → OnErr r (new ≡ old) →
+pub put_short_apart : (r : Result Bool AllocError) (old new : Short) (long : Long) (k v : List ℕ) → length k ≤ 23 → OnOk r (Changes k (Some v) (short_rows old) (short_rows new)) → OnErr r (new ≡ old) →
     AreApart (short_rows old) (long_rows long) → AreApart (short_rows new) (long_rows long)
-put_short_apart (Ok u) old new long k v few is err apart = apart_short (short_rows old) (long_rows long) (short_rows new) k (Some v) (of_short k few) apart is
+put_short_apart (Ok b) old new long k v few is err apart = apart_short (short_rows old) (long_rows long) (short_rows new) k (Some v) (of_short k few) apart is
 put_short_apart (Err x) old new long k v few is err apart = subst (λ (es : Short). AreApart (short_rows es) (long_rows long)) (sym err) apart
 
-pub put_long_apart : (r : Result ⊤ AllocError) (short : Short) (old new : Long) (k v : List ℕ) → 24 < length k → OnOk r (Changes k (Some v) (long_rows old) (long_rows new)) → OnErr r (new ≡ old) →
+pub put_long_apart : (r : Result Bool AllocError) (short : Short) (old new : Long) (k v : List ℕ) → 23 < length k → OnOk r (Changes k (Some v) (long_rows old) (long_rows new)) → OnErr r (new ≡ old) →
     AreApart (short_rows short) (long_rows old) → AreApart (short_rows short) (long_rows new)
-put_long_apart (Ok u) short old new k v many is err apart = apart_long (short_rows short) (long_rows old) (long_rows new) k (Some v) (of_long k many) apart is
+put_long_apart (Ok b) short old new k v many is err apart = apart_long (short_rows short) (long_rows old) (long_rows new) k (Some v) (of_long k many) apart is
 put_long_apart (Err x) short old new k v many is err apart = subst (λ (es : Long). AreApart (short_rows short) (long_rows es)) (sym err) apart
 
-pub whole_short : (old new : Short) (long : Long) (whole : Pairs) (k : List ℕ) (w : Option (List ℕ)) → length k ≤ 24 → AreApart (short_rows old) (long_rows long) → short_rows old ++ long_rows long ≡ whole →
+pub whole_short : (old new : Short) (long : Long) (whole : Pairs) (k : List ℕ) (w : Option (List ℕ)) → length k ≤ 23 → AreApart (short_rows old) (long_rows long) → short_rows old ++ long_rows long ≡ whole →
     Changes k w (short_rows old) (short_rows new) → Changes k w whole (short_rows new ++ long_rows long)
 whole_short old new long whole k w few apart is changes =
     subst (λ (x : Pairs). Changes k w x (short_rows new ++ long_rows long)) is (change_short (short_rows old) (long_rows long) (short_rows new) k w (of_short k few) apart changes)
 
-pub whole_long : (short : Short) (old new : Long) (whole : Pairs) (k : List ℕ) (w : Option (List ℕ)) → 24 < length k → AreApart (short_rows short) (long_rows old) → short_rows short ++ long_rows old ≡ whole →
+pub whole_long : (short : Short) (old new : Long) (whole : Pairs) (k : List ℕ) (w : Option (List ℕ)) → 23 < length k → AreApart (short_rows short) (long_rows old) → short_rows short ++ long_rows old ≡ whole →
     Changes k w (long_rows old) (long_rows new) → Changes k w whole (short_rows short ++ long_rows new)
 whole_long short old new whole k w many apart is changes =
     subst (λ (x : Pairs). Changes k w x (short_rows short ++ long_rows new)) is (change_long (short_rows short) (long_rows old) (long_rows new) k w (of_long k many) apart changes)
 
-pub more_short : (old new : Short) (long : Long) (whole : Pairs) (k : List ℕ) → length k ≤ 24 → AreApart (short_rows old) (long_rows long) → short_rows old ++ long_rows long ≡ whole →
+pub more_short : (old new : Short) (long : Long) (whole : Pairs) (k : List ℕ) → length k ≤ 23 → AreApart (short_rows old) (long_rows long) → short_rows old ++ long_rows long ≡ whole →
     length new ≡ length old + cond (is_some (find by_bytes k (short_rows old))) 0 1 → length (short_rows new ++ long_rows long) ≡ length whole + cond (is_some (find by_bytes k whole)) 0 1
 more_short old new long whole k few apart is more =
     subst (λ (x : Pairs). length (short_rows new ++ long_rows long) ≡ length x + cond (is_some (find by_bytes k x)) 0 1) is
     (more_left (length old) (length long) (length new) (cond (is_some (find by_bytes k (short_rows old ++ long_rows long))) 0 1) _ _ (length_whole old long) (length_whole new long)
     (more ∙ ap (λ (o : Option (List ℕ)). length old + cond (is_some o) 0 1) (sym (find_short (short_rows old) (long_rows long) k apart (of_short k few)))))
 
-pub more_long : (short : Short) (old new : Long) (whole : Pairs) (k : List ℕ) → 24 < length k → AreApart (short_rows short) (long_rows old) → short_rows short ++ long_rows old ≡ whole →
+pub more_long : (short : Short) (old new : Long) (whole : Pairs) (k : List ℕ) → 23 < length k → AreApart (short_rows short) (long_rows old) → short_rows short ++ long_rows old ≡ whole →
     length new ≡ length old + cond (is_some (find by_bytes k (long_rows old))) 0 1 → length (short_rows short ++ long_rows new) ≡ length whole + cond (is_some (find by_bytes k whole)) 0 1
 more_long short old new whole k many apart is more =
     subst (λ (x : Pairs). length (short_rows short ++ long_rows new) ≡ length x + cond (is_some (find by_bytes k x)) 0 1) is
     (more_right (length short) (length old) (length new) (cond (is_some (find by_bytes k (short_rows short ++ long_rows old))) 0 1) _ _ (length_whole short old) (length_whole short new)
     (more ∙ ap (λ (o : Option (List ℕ)). length old + cond (is_some o) 0 1) (sym (find_long (short_rows short) (long_rows old) k apart (of_long k many)))))
 
-pub fewer_short : (old new : Short) (long : Long) (whole : Pairs) (k : List ℕ) → length k ≤ 24 → AreApart (short_rows old) (long_rows long) → short_rows old ++ long_rows long ≡ whole →
+pub fewer_short : (old new : Short) (long : Long) (whole : Pairs) (k : List ℕ) → length k ≤ 23 → AreApart (short_rows old) (long_rows long) → short_rows old ++ long_rows long ≡ whole →
     length new + cond (is_some (find by_bytes k (short_rows old))) 1 0 ≡ length old → length (short_rows new ++ long_rows long) + cond (is_some (find by_bytes k whole)) 1 0 ≡ length whole
 fewer_short old new long whole k few apart is fewer =
     subst (λ (x : Pairs). length (short_rows new ++ long_rows long) + cond (is_some (find by_bytes k x)) 1 0 ≡ length x) is
     (fewer_left (length old) (length long) (length new) (cond (is_some (find by_bytes k (short_rows old ++ long_rows long))) 1 0) _ _ (length_whole old long) (length_whole new long)
     (ap (λ (o : Option (List ℕ)). length new + cond (is_some o) 1 0) (find_short (short_rows old) (long_rows long) k apart (of_short k few)) ∙ fewer))
 
-pub fewer_long : (short : Short) (old new : Long) (whole : Pairs) (k : List ℕ) → 24 < length k → AreApart (short_rows short) (long_rows old) → short_rows short ++ long_rows old ≡ whole →
+pub fewer_long : (short : Short) (old new : Long) (whole : Pairs) (k : List ℕ) → 23 < length k → AreApart (short_rows short) (long_rows old) → short_rows short ++ long_rows old ≡ whole →
     length new + cond (is_some (find by_bytes k (long_rows old))) 1 0 ≡ length old → length (short_rows short ++ long_rows new) + cond (is_some (find by_bytes k whole)) 1 0 ≡ length whole
 fewer_long short old new whole k many apart is fewer =
     subst (λ (x : Pairs). length (short_rows short ++ long_rows new) + cond (is_some (find by_bytes k x)) 1 0 ≡ length x) is
     (fewer_right (length short) (length old) (length new) (cond (is_some (find by_bytes k (short_rows short ++ long_rows old))) 1 0) _ _ (length_whole short old) (length_whole short new)
     (ap (λ (o : Option (List ℕ)). length new + cond (is_some o) 1 0) (find_long (short_rows short) (long_rows old) k apart (of_long k many)) ∙ fewer))
+
+-- whether a key had a row in the one table is whether it had one in either
+pub had_short : (r : Result Bool AllocError) (short : Short) (long : Long) (whole : Pairs) (k : List ℕ) → length k ≤ 23 → AreApart (short_rows short) (long_rows long) → short_rows short ++ long_rows long ≡ whole →
+    IfOk r (λ b. b ≡ is_some (find by_bytes k (short_rows short))) → IfOk r (λ b. b ≡ is_some (find by_bytes k whole))
+had_short (Ok b) short long whole k few apart is had = had ∙ ap is_some (sym (find_short (short_rows short) (long_rows long) k apart (of_short k few)) ∙ ap (find by_bytes k) is)
+had_short (Err x) short long whole k few apart is had = tt
+
+pub had_long : (r : Result Bool AllocError) (short : Short) (long : Long) (whole : Pairs) (k : List ℕ) → 23 < length k → AreApart (short_rows short) (long_rows long) → short_rows short ++ long_rows long ≡ whole →
+    IfOk r (λ b. b ≡ is_some (find by_bytes k (long_rows long))) → IfOk r (λ b. b ≡ is_some (find by_bytes k whole))
+had_long (Ok b) short long whole k many apart is had = had ∙ ap is_some (sym (find_long (short_rows short) (long_rows long) k apart (of_long k many)) ∙ ap (find by_bytes k) is)
+had_long (Err x) short long whole k many apart is had = tt
 
 -- ---- the map
 
@@ -441,15 +451,46 @@ new_table rows gs e f =
     let none : IsTable [] [] = ((λ q. (tt, tt), λ q h. absurd (true≢false (sym h))), sym (fin.len-empty by_bytes (List ℕ)), empty_bytes) in
     subst (λ (x : Pairs). IsTable x (groups_of gs)) (sym e) (subst (λ (y : List (Vec ℕ × Group)). IsTable [] (groups_of y)) (sym f) none)
 
-pub put_table : (r : Result ⊤ AllocError) (old new : Pairs) (groups : List (List ℕ × Pairs)) (k v : List ℕ) →
-    OnOk r (Changes k (Some v) old new) → OnOk r (length new ≡ length old + cond (is_some (find by_bytes k old)) 0 1) → OnErr r (new ≡ old) →
-    AreGroups groups × Lists old groups → IsListed k groups → IsBytes k × IsBytes v →
-    (length old ≡ fin.len (row_store old)) × ArePairs (fin.entries (row_store old)) → IsTable new groups
-put_table (Ok u) old new groups k v is len err lists has b h =
+pub put_table : (old new : Pairs) (groups more : List (List ℕ × Pairs)) (k v : List ℕ) → Changes k (Some v) old new → length new ≡ length old + cond (is_some (find by_bytes k old)) 0 1 →
+    AreGroups more → StayListed groups more → IsListed k more → IsBytes k × IsBytes v → IsTable old groups → IsTable new more
+put_table old new groups more k v is len are stay has b h =
     let m : row_store new ≡ fin.insert (row_store old) k v = put_row old new k v is in
     let longer : length new ≡ cond (is_some (find by_bytes k old)) (length old) (length old + 1) = grown_by (is_some (find by_bytes k old)) (length old) (length new) len in
-    ((lists.0, lists_put old new groups k v is lists.1 has), len_put old new k v h.0 m longer, bytes_after_put _ _ k v m b h.1)
-put_table (Err x) old new groups k v is len err lists has b h = subst (λ (es : Pairs). IsTable es groups) (sym err) (lists, h.0, h.1)
+    let lists : Lists old more = λ q some. stay q (h.0.1 q some) in
+    ((are, lists_put old new more k v is lists has), len_put old new k v h.1 m longer, bytes_after_put _ _ k v m b h.2)
+
+-- a row that was put for a key without one, and then taken out again
+module _ (old put back : Pairs) (k v : List ℕ) (new_key : is_some (find by_bytes k old) ≡ false) (is : Changes k (Some v) old put) (gone : Changes k None put back) where
+  none_at : (o : Option (List ℕ)) → is_some o ≡ false → o ≡ None
+  none_at None e = refl
+  none_at (Some x) e = absurd (true≢false e)
+
+  found_as_before : (q : List ℕ) → find by_bytes q back ≡ find by_bytes q old
+  found_as_before q = gone q ∙ by (eq_by_cmp by_bytes q k) refl
+    where
+      by : (b : Bool) → eq_by_cmp by_bytes q k ≡ b → cond b None (find by_bytes q put) ≡ find by_bytes q old
+      by true e = sym (ap (λ (x : List ℕ). find by_bytes x old) (same_key q k e) ∙ none_at (find by_bytes k old) new_key)
+      by false e = is q ∙ ap (λ b. cond b (Some v) (find by_bytes q old)) e
+
+  pub map_as_before : row_store back ≡ row_store old
+  map_as_before = fin.same_map nat_list_cmp_total same (row_store back) (row_store old) (λ q. get_row back q ∙ (found_as_before q ∙ sym (get_row old q)))
+
+  len_as_before : length put ≡ length old + cond (is_some (find by_bytes k old)) 0 1 → length back + cond (is_some (find by_bytes k put)) 1 0 ≡ length put → length back ≡ length old
+  len_as_before more fewer =
+      counted (length old) (length put) (length back)
+      (more ∙ ap (λ b. length old + cond b 0 1) new_key)
+      (ap (λ b. length back + cond b 1 0) (sym (ap is_some (is k) ∙ ap (λ b. is_some (cond b (Some v) (find by_bytes k old))) ((eq_by_cmp_equiv nat_list_cmp_total).refl k))) ∙ fewer)
+    where
+      counted : (m n l : ℕ) → n ≡ m + 1 → l + 1 ≡ n → l ≡ m
+      counted m n l p q = omega (arith, p, q)
+
+  pub undone_table : (groups more : List (List ℕ × Pairs)) → length put ≡ length old + cond (is_some (find by_bytes k old)) 0 1 → length back + cond (is_some (find by_bytes k put)) 1 0 ≡ length put →
+      AreGroups more → StayListed groups more → IsTable old groups → IsTable back more
+  undone_table groups more longer fewer are stay h = (
+    (are, λ q some. stay q (h.0.1 q (ap is_some (sym (found_as_before q)) ∙ some))),
+    len_as_before longer fewer ∙ (h.1 ∙ ap (λ (m : Store). fin.len m) (sym map_as_before)),
+    subst (λ (m : Store). ArePairs (fin.entries m)) (sym map_as_before) h.2,
+  )
 
 pub take_table : (old new : Pairs) (groups fewer : List (List ℕ × Pairs)) (k : List ℕ) → Changes k None old new →
     length new + cond (is_some (find by_bytes k old)) 1 0 ≡ length old → AreGroups fewer →

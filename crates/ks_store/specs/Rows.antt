@@ -2,7 +2,6 @@
 -- beside them.
 use Rattle.std.specs.Prelude.{◌≡◌, ℕ, List, [], ◌∷◌, map, Option, Some, None, length, cond, nat_le}
 use Rattle.std.specs.Global.{Vec}
-use Rattle.arrayvec.specs.ArrayVec.{ArrayVec}
 use Rattle.std.specs.FinMap.Entries.{find}
 use Rattle.ks_def_runs.specs.Bytes.{Store, by_bytes}
 use Rattle.ks_def_runs.specs.FinMap as fin
@@ -12,15 +11,15 @@ use Rattle.ks_def_runs.specs.Pairs.{ArePairs}
 abbrev pub rows_by : {K : Type 0} → (K → List ℕ) → List (K × List ℕ) → List (List ℕ × List ℕ)
 rows_by bytes es = map (λ e. (bytes e.0, e.1)) es
 
-abbrev pub short_rows : List (ArrayVec ℕ × List ℕ) → List (List ℕ × List ℕ)
-short_rows es = rows_by (λ k. k.items) es
+abbrev pub short_rows : List (List ℕ × List ℕ) → List (List ℕ × List ℕ)
+short_rows es = rows_by (λ k. k) es
 
 abbrev pub long_rows : List (Vec ℕ × List ℕ) → List (List ℕ × List ℕ)
 long_rows es = rows_by (λ k. k.items) es
 
 -- no short key has a row in the table of long keys, and no long key in that of short ones
 abbrev pub AreApart : List (List ℕ × List ℕ) → List (List ℕ × List ℕ) → Type 0
-AreApart short long = (q : List ℕ) → cond (nat_le (length q) 24) (find by_bytes q long) (find by_bytes q short) ≡ None
+AreApart short long = (q : List ℕ) → cond (nat_le (length q) 23) (find by_bytes q long) (find by_bytes q short) ≡ None
 
 -- of several rows of a key the first counts
 abbrev pub row_store : List (List ℕ × List ℕ) → Store

@@ -1,11 +1,10 @@
 //! The keys that begin with a length, by what they so begin with: a small tree for each such front, and none for a key that is alone.
 ghost use Rattle.std.specs.Prelude.{◌≡◌, ◌≤◌, [], IfOk, IfSome, OnOk, OnErr, Some, length, option_copied, option_map};
 ghost use Rattle.ks_store.specs.Pairs.{pairs_of, Rises};
-ghost use Rattle.ks_store.specs.Groups.{front_end, front_in, is_some_of, keys_in, with_key, keys_without, groups_of, listed_under, is_only_key, IsGroup, AreGroups, IsListed, StayListed, OthersStay, Lists};
+ghost use Rattle.ks_store.specs.Groups.{front_end, front_in, is_some_of, keys_in, with_key, keys_without, groups_of, listed_under, is_only_key, IsGroup, AreGroups, IsListed, StayListed, OthersStay};
 
 use crate::hashing::KeyHashing;
 use crate::pairs::{Pairs, pairs_from, set_at, take_away};
-use crate::rows::{Rows, has_row};
 use ks_record::Blob;
 use std::alloc::{AllocError, Global};
 use std::collections::{BTreeMap, HashMap};
@@ -101,26 +100,15 @@ fn list_under(
     Ok(())
 }
 
-/// Lists a key that is to get a row, where it has a front. After want of memory what was listed still is.
-pub fn list_key(
-    alloc: Global,
-    rows: &Rows,
-    groups: &mut Groups,
-    key: &[u8],
-) -> Result<(), AllocError>
-    requires { AreGroups (groups_of groups.old.entries)
-        × Lists rows.now (groups_of groups.old.entries) }
-    ensures lists { AreGroups (groups_of groups.new.entries)
-        × Lists rows.now (groups_of groups.new.entries) }
+/// Lists a key, where it has a front. After want of memory what was listed still is.
+pub fn list_key(alloc: Global, groups: &mut Groups, key: &[u8]) -> Result<(), AllocError>
+    requires { AreGroups (groups_of groups.old.entries) }
+    ensures groups { AreGroups (groups_of groups.new.entries) }
+    ensures stay { StayListed (groups_of groups.old.entries) (groups_of groups.new.entries) }
     ensures has { OnOk result (IsListed key.now (groups_of groups.new.entries)) }
 {
     match front_in(key) {
-        Some(front) => {
-            if has_row(rows, key) {
-                return Ok(());
-            }
-            list_under(alloc, groups, front, key)
-        }
+        Some(front) => list_under(alloc, groups, front, key),
         None => Ok(()),
     }
 }

@@ -9,6 +9,7 @@ mod pairs;
 mod plain;
 mod restoring;
 mod rows;
+mod short_key;
 mod store;
 mod table;
 mod tree;

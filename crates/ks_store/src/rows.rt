@@ -9,17 +9,17 @@ ghost use Rattle.ks_def_runs.specs.Prefixes.{pairs_under};
 ghost use Rattle.ks_store.specs.Rows.{short_rows, long_rows, row_store, with_found, rows_for};
 
 use crate::hashing::KeyHashing;
-use arrayvec::ArrayVec;
+use crate::short_key::{MAX_SHORT, ShortKey};
 use ks_record::Blob;
 use std::alloc::{AllocError, Global};
 use std::collections::HashMap;
 use std::marker::Model;
 
-type Short = HashMap<ArrayVec<u8, 24>, Blob, KeyHashing>;
+type Short = HashMap<ShortKey, Blob, KeyHashing>;
 
 type Long = HashMap<Vec<u8>, Blob, KeyHashing>;
 
-/// The rows of keys. A key of up to 24 bytes stands in the table itself, a longer one in memory of its own.
+/// The rows of keys. A key of up to 23 bytes stands in the table itself, a longer one in memory of its own.
 #[derive(Drop)]
 pub struct Rows {
     short: Short,
@@ -56,24 +56,12 @@ impl Rows {
     }
 }
 
-// A short key, as the table keeps it.
-fn short_key(key: &[u8]) -> ArrayVec<u8, 24>
-    requires { length key.now ≤ 24 }
-    ensures { result.items ≡ key.now }
-{
-    let mut kept = ArrayVec::new();
-    match kept.try_extend_from_slice(key) {
-        Ok(()) => kept,
-        Err(_) => unreachable!(),
-    }
-}
-
 fn at_short<'a>(rows: &'a Short, key: &[u8]) -> Option<&'a Blob>
-    requires { length key.now ≤ 24 }
+    requires { length key.now ≤ 23 }
     ensures { option_map (λ v. v.now) result
         ≡ find by_bytes key.now (short_rows rows.now.entries) }
 {
-    let key = short_key(key);
+    let key = ShortKey::of(key);
     rows.get(&key)
 }
 
@@ -87,7 +75,7 @@ fn at_long<'a>(rows: &'a Long, key: &[u8]) -> Option<&'a Blob>
 fn blob_at<'a>(rows: &'a Rows, key: &[u8]) -> Option<&'a Blob>
     ensures { option_map (λ v. v.now) result ≡ find by_bytes key.now rows.now }
 {
-    if key.len() <= 24 {
+    if key.len() <= MAX_SHORT {
         at_short(&rows.short, key)
     } else {
         at_long(&rows.long, key)
@@ -104,15 +92,11 @@ pub fn row_at<'a>(rows: &'a Rows, key: &[u8]) -> Option<&'a [u8]>
     }
 }
 
-/// Whether a key has a row.
-pub fn has_row(rows: &Rows, key: &[u8]) -> bool
-    ensures { result ≡ is_some (find by_bytes key.now rows.now) }
-{
-    blob_at(rows, key).is_some()
-}
-
-fn put_short(rows: &mut Short, key: &[u8], value: Blob) -> Result<(), AllocError>
-    requires { length key.now ≤ 24 }
+// Whether the key had a row.
+fn put_short(rows: &mut Short, key: &[u8], value: Blob) -> Result<bool, AllocError>
+    requires { length key.now ≤ 23 }
+    ensures had { IfOk result (λ had. had
+        ≡ is_some (find by_bytes key.now (short_rows rows.old.entries))) }
     ensures ok { OnOk result ((q : List ℕ) → find by_bytes q (short_rows rows.new.entries)
         ≡ cond (eq_by_cmp by_bytes q key.now) (Some value)
         (find by_bytes q (short_rows rows.old.entries))) }
@@ -121,11 +105,14 @@ fn put_short(rows: &mut Short, key: &[u8], value: Blob) -> Result<(), AllocError
         + cond (is_some (find by_bytes key.now (short_rows rows.old.entries))) 0 1) }
     ensures err { OnErr result (rows.new.entries ≡ rows.old.entries) }
 {
-    rows.insert(short_key(key), value)?;
-    Ok(())
+    let old = rows.insert(ShortKey::of(key), value)?;
+    Ok(old.is_some())
 }
 
-fn set_long(rows: &mut Long, key: Vec<u8>, value: Blob) -> Result<(), AllocError>
+// Whether the key had a row.
+fn set_long(rows: &mut Long, key: Vec<u8>, value: Blob) -> Result<bool, AllocError>
+    ensures had { IfOk result (λ had. had
+        ≡ is_some (find by_bytes key.items (long_rows rows.old.entries))) }
     ensures ok { OnOk result ((q : List ℕ) → find by_bytes q (long_rows rows.new.entries)
         ≡ cond (eq_by_cmp by_bytes q key.items) (Some value)
         (find by_bytes q (long_rows rows.old.entries))) }
@@ -134,12 +121,14 @@ fn set_long(rows: &mut Long, key: Vec<u8>, value: Blob) -> Result<(), AllocError
         + cond (is_some (find by_bytes key.items (long_rows rows.old.entries))) 0 1) }
     ensures err { OnErr result (rows.new.entries ≡ rows.old.entries) }
 {
-    rows.insert(key, value)?;
-    Ok(())
+    let old = rows.insert(key, value)?;
+    Ok(old.is_some())
 }
 
-// The key is copied where it has no row yet.
-fn put_long(alloc: Global, rows: &mut Long, key: &[u8], value: Blob) -> Result<(), AllocError>
+// Whether the key had a row; it is copied where it had none.
+fn put_long(alloc: Global, rows: &mut Long, key: &[u8], value: Blob) -> Result<bool, AllocError>
+    ensures had { IfOk result (λ had. had
+        ≡ is_some (find by_bytes key.now (long_rows rows.old.entries))) }
     ensures ok { OnOk result ((q : List ℕ) → find by_bytes q (long_rows rows.new.entries)
         ≡ cond (eq_by_cmp by_bytes q key.now) (Some value)
         (find by_bytes q (long_rows rows.old.entries))) }
@@ -150,21 +139,22 @@ fn put_long(alloc: Global, rows: &mut Long, key: &[u8], value: Blob) -> Result<(
 {
     if let Some(place) = rows.get_mut(key) {
         *place = value;
-        return Ok(());
+        return Ok(true);
     }
     let copy = Vec::from_slice(alloc, key)?;
     set_long(rows, copy, value)
 }
 
-/// Puts a row. A long key is copied where it has none yet; after want of memory the table is as before.
-pub fn put_row(alloc: Global, rows: &mut Rows, key: &[u8], value: Blob) -> Result<(), AllocError>
+/// Puts a row, and tells whether the key had one. A long key is copied where it had none; after want of memory the table is as before.
+pub fn put_row(alloc: Global, rows: &mut Rows, key: &[u8], value: Blob) -> Result<bool, AllocError>
+    ensures had { IfOk result (λ had. had ≡ is_some (find by_bytes key.now rows.old)) }
     ensures ok { OnOk result ((q : List ℕ) → find by_bytes q rows.new
         ≡ cond (eq_by_cmp by_bytes q key.now) (Some value) (find by_bytes q rows.old)) }
     ensures len { OnOk result (length rows.new
         ≡ length rows.old + cond (is_some (find by_bytes key.now rows.old)) 0 1) }
     ensures err { OnErr result (rows.new ≡ rows.old) }
 {
-    if key.len() <= 24 {
+    if key.len() <= MAX_SHORT {
         put_short(&mut rows.short, key, value)
     } else {
         put_long(alloc, &mut rows.long, key, value)
@@ -172,7 +162,7 @@ pub fn put_row(alloc: Global, rows: &mut Rows, key: &[u8], value: Blob) -> Resul
 }
 
 fn take_short(rows: &mut Short, key: &[u8])
-    requires { length key.now ≤ 24 }
+    requires { length key.now ≤ 23 }
     ensures gone { (q : List ℕ) → find by_bytes q (short_rows rows.new.entries)
         ≡ cond (eq_by_cmp by_bytes q key.now) None
         (find by_bytes q (short_rows rows.old.entries)) }
@@ -180,7 +170,7 @@ fn take_short(rows: &mut Short, key: &[u8])
         + cond (is_some (find by_bytes key.now (short_rows rows.old.entries))) 1 0
         ≡ length rows.old.entries }
 {
-    let key = short_key(key);
+    let key = ShortKey::of(key);
     rows.remove(&key);
 }
 
@@ -202,7 +192,7 @@ pub fn take_row(rows: &mut Rows, key: &[u8])
     ensures len { length rows.new + cond (is_some (find by_bytes key.now rows.old)) 1 0
         ≡ length rows.old }
 {
-    if key.len() <= 24 {
+    if key.len() <= MAX_SHORT {
         take_short(&mut rows.short, key);
     } else {
         take_long(&mut rows.long, key);
@@ -216,8 +206,8 @@ fn short_under(alloc: Global, rows: &Short, front: &[u8]) -> Result<Vec<(Blob, B
 {
     let mut found = Vec::new(alloc);
     for (key, value) in rows {
-        if key.as_slice().starts_with(front) {
-            let key = Blob::from_slice(alloc, key.as_slice())?;
+        if key.starts_with(front) {
+            let key = key.to_blob(alloc)?;
             found.push((key, value.clone()?))?;
         }
     }

@@ -63,14 +63,23 @@ impl Table {
         row_at(&self.rows, key)
     }
 
-    /// Gives a key a value, in place of the one that it had. After want of memory the map is as before.
+    /// Gives a key a value, in place of the one that it had. A new key is listed; one that can't be for want of memory loses its value
+    /// again, so that the map is as before.
     pub fn put(&mut self, key: &[u8], value: &[u8]) -> Result<(), AllocError>
         ensures ok { OnOk result (self.new ≡ map.insert self.old key.now value.now) }
         ensures err { OnErr result (self.new ≡ self.old) }
     {
         let value = Blob::from_slice(self.alloc, value)?;
-        list_key(self.alloc, &self.rows, &mut self.groups, key)?;
-        put_row(self.alloc, &mut self.rows, key, value)
+        if put_row(self.alloc, &mut self.rows, key, value)? {
+            return Ok(());
+        }
+        match list_key(self.alloc, &mut self.groups, key) {
+            Ok(()) => Ok(()),
+            Err(e) => {
+                take_row(&mut self.rows, key);
+                Err(e)
+            }
+        }
     }
 
     /// Takes a key out, where it has a value.

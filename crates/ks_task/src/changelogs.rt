@@ -104,6 +104,23 @@ fn end_one(changelog: &mut Changelog, ends: &[(u16, u64)]) -> Result<(), AllocEr
     Ok(())
 }
 
+fn apply_one(changelog: &mut Changelog) -> Result<(), AllocError>
+    ensures { changelog.new ≡ changelog.old }
+{
+    changelog.store.apply()
+}
+
+/// The records that wait in the stores since they were restored are written into their tables; what the stores hold is the same, also
+/// after want of memory.
+pub fn apply_changelogs(changelogs: &mut Vec<Changelog>) -> Result<(), AllocError>
+    ensures { changelogs.new.items ≡ changelogs.old.items }
+{
+    for i in 0..changelogs.len() {
+        apply_one(&mut changelogs[i])?;
+    }
+    Ok(())
+}
+
 /// The named ends are the positions in their changelogs, and what the stores held back is written; after want of memory the stores are to
 /// be dropped.
 pub fn end_changelogs(

@@ -27,7 +27,8 @@ ghost use Rattle.ks_task.specs.Views.{own_ends, AreLiveAt};
 ghost use Rattle.ks_task.specs.Tasks.{task_view, with_made, uncommitted, IsClean, IsTaskOf};
 
 use crate::changelogs::{
-    cached_of, end_changelogs, hold_bytes, hold_changelogs, keep_records, record_is_bytes,
+    apply_changelogs, cached_of, end_changelogs, hold_bytes, hold_changelogs, keep_records,
+    record_is_bytes,
 };
 use crate::fitting::topology_fits;
 use crate::freezing::group;
@@ -314,8 +315,17 @@ impl Task {
         Ok(())
     }
 
-    /// Takes the next readable record of an input. After want of memory the task is to be dropped.
-    pub fn take<H: Processing>(
+    // Has its stores written what waits in them. The task is the same, also after want of memory.
+    fn write_waiting(&mut self) -> Result<(), AllocError>
+        ensures task { (d : DraftView) → IsTaskOf d self.old → IsTaskOf d self.new }
+        ensures cache { self.new.cache ≡ self.old.cache }
+        ensures view { task_view self.new ≡ task_view self.old }
+    {
+        apply_changelogs(&mut self.changelogs)
+    }
+
+    // Takes the next readable record of an input.
+    fn take_one<H: Processing>(
         &mut self,
         alloc: Global,
         topology: &Topology,
@@ -339,8 +349,8 @@ impl Task {
         self.take_by::<H>(alloc, topology, nodes, live, topic, offset, rec)
     }
 
-    /// Takes these records of an input, with their offsets, one after another. After want of memory the task is to be dropped.
-    pub fn take_all<H: Processing>(
+    // Takes these records of an input, with their offsets, one after another.
+    fn take_each<H: Processing>(
         &mut self,
         alloc: Global,
         topology: &Topology,
@@ -365,6 +375,52 @@ impl Task {
             self.take_by::<H>(alloc, topology, nodes, live, topic, rec.0, rec.1.as_ref())?;
         }
         Ok(())
+    }
+
+    /// Takes the next readable record of an input. After want of memory the task is to be dropped.
+    pub fn take<H: Processing>(
+        &mut self,
+        alloc: Global,
+        topology: &Topology,
+        topic: u16,
+        offset: u64,
+        rec: &Rec,
+    ) -> Result<(), AllocError>
+        requires task { IsTaskOf (draft_of topology.now) self.old }
+        requires input { has_topic topic (input_numbers (plan_in topology.now)
+            (task_view self.old).task.sub) ≡ true }
+        ensures task { OnOk result (IsTaskOf (draft_of topology.now) self.new) }
+        ensures cache { self.new.cache ≡ self.old.cache }
+        ensures view { OnOk result (task_view self.new
+            ≡ take_view (work_of (rules_of H.hash_of) (plan_in topology.now)) (task_view self.old)
+            topic offset rec.now) }
+    {
+        self.write_waiting()?;
+        self.take_one::<H>(alloc, topology, topic, offset, rec)
+    }
+
+    /// Takes these records of an input, with their offsets, one after another. After want of memory the task is to be dropped.
+    pub fn take_all<H: Processing>(
+        &mut self,
+        alloc: Global,
+        topology: &Topology,
+        topic: u16,
+        recs: &[(u64, Rec)],
+    ) -> Result<(), AllocError>
+        requires task { IsTaskOf (draft_of topology.now) self.old }
+        requires input { has_topic topic (input_numbers (plan_in topology.now)
+            (task_view self.old).task.sub) ≡ true }
+        ensures task { OnOk result (IsTaskOf (draft_of topology.now) self.new) }
+        ensures cache { self.new.cache ≡ self.old.cache }
+        ensures view { OnOk result (task_view self.new
+            ≡ take_all (work_of (rules_of H.hash_of) (plan_in topology.now)) (task_view self.old)
+            topic recs.now) }
+    {
+        if recs.is_empty() {
+            return Ok(());
+        }
+        self.write_waiting()?;
+        self.take_each::<H>(alloc, topology, topic, recs)
     }
 
     /// Passes over what is not readable of an input, up to `next`. Takes no memory.

@@ -1,6 +1,6 @@
 //! Keys that fall into one place of the program's hash table of so many keys, where its hashes begin with a seed that is known, here 0:
-//! `collisions COUNT` prints them, a line each. The table's hash is the one of the kit's standard library: a multiplication for the seed,
-//! one for the key's length and one for each of its bytes, each folded to 64 bits;
+//! `collisions COUNT` prints them, a line each. The table's hash (crates/ks_store/src/hashing.rt) is a multiplication for the seed, and one
+//! for each of the three words that a short key is (crates/ks_store/src/short_key.rt), each folded to 64 bits;
 //! then its halves are xored. Its lowest bits name one of 2^n groups, of nine keys each when the table is full. All that it prints have the
 //! group 0 in a table of COUNT keys.
 use std::sync::atomic::{AtomicU64, Ordering};
@@ -14,15 +14,18 @@ const SEED: u64 = 0;
 const FRONT: usize = 6;
 const BACK: usize = 3;
 
-/// What a hash is after so many more bytes, at most eight, whose number is `word`.
-fn write(state: u64, word: u64, length: u64) -> u64 {
-    let product = u128::from(state ^ word) * u128::from(MULTIPLIER ^ 2 * length);
+/// What a hash is after one more word.
+fn write(state: u64, word: u64) -> u64 {
+    let product = u128::from(state ^ word) * u128::from(MULTIPLIER);
     product as u64 ^ (product >> 64) as u64
 }
 
-/// What it is after one more byte, of which the hash takes the first, the middle and the last.
-fn write_byte(state: u64, byte: u8) -> u64 {
-    write(state, 0x01_01_01 * u64::from(byte), 1)
+/// The words of a key of at most 23 bytes: the key, zeros, and its length as the last byte.
+fn words(key: &[u8]) -> [u64; 3] {
+    let mut bytes = [0; 24];
+    bytes[..key.len()].copy_from_slice(key);
+    bytes[23] = key.len() as u8;
+    [0, 8, 16].map(|at| u64::from_le_bytes(bytes[at..at + 8].try_into().expect("eight bytes")))
 }
 
 fn digit(number: u64, i: usize) -> u8 {
@@ -32,18 +35,17 @@ fn digit(number: u64, i: usize) -> u8 {
 /// The keys with this front that fall into the group 0 of so many.
 fn keys_of(front: u64, groups: u64) -> Vec<String> {
     let mut key = [0; FRONT + BACK];
-    let mut begun = write(write(FIRST, SEED, 8), key.len() as u64, 8);
+    let begun = write(FIRST, SEED);
     for i in 0..FRONT {
         key[i] = digit(front, i);
-        begun = write_byte(begun, key[i]);
     }
     let mut found = Vec::new();
     for back in 0..1 << (6 * BACK) {
-        let hash = (0..BACK).fold(begun, |state, i| write_byte(state, digit(back, i)));
+        for i in 0..BACK {
+            key[FRONT + i] = digit(back, i);
+        }
+        let hash = words(&key).into_iter().fold(begun, write);
         if (hash ^ hash >> 32) & (groups - 1) == 0 {
-            for i in 0..BACK {
-                key[FRONT + i] = digit(back, i);
-            }
             found.push(String::from_utf8_lossy(&key).into_owned());
         }
     }

@@ -1,10 +1,14 @@
-use Rattle.std.proofs.Common.{◌∙◌, ap}
-use Rattle.ks_record.specs.Records.{Record as Rec}
-use Rattle.ks_cache.specs.Kept.{kept_with}
-use Rattle.ks_cache.proofs.Taking.{one_more}
+use Rattle.std.proofs.Common.{ap, sym, ◌∙◌}
+use Rattle.ks_store.specs.Restored.{records_of}
+use Rattle.ks_store.proofs.Applied.{on_ok}
+use Rattle.ks_cache.specs.Kept.{Kept, kept_after}
+use Rattle.ks_cache.specs.Holdings.{kept_of}
+use Rattle.ks_cache.proofs.Taking.{restored_plain}
 use Rattle.ks_cache.proofs.task_store.KeptStore.restore.Goals as goal
 
-pub loop-rec-preserved : goal.loop-rec-preserved
-loop-rec-preserved c =
-    one_more c.args.self.now c.loop-rec.self c.keep.new.self c.args.recs.now c.loop-rec.rec-index c.loop-rec-item.result c.loop-rec-test.true c.loop-rec-item.is c.loop-rec.invariant
-    (c.in_ok-keep.ensures.ok ∙ ap (λ (r : Rec). kept_with c.loop-rec.self r.key r.value) c.as_ref.ensures)
+pub returns-in-Plain : goal.returns-in-Plain
+returns-in-Plain c =
+    on_ok c.restore.result
+    (λ e. restored_plain c.in-Plain.store c.restore.new.self (records_of c.args.recs.now) e
+    ∙ ap (λ (s : Kept). kept_after s (records_of c.args.recs.now)) (ap kept_of (sym c.in-Plain.is) ∙ c.self.view_is))
+    c.restore.ensures

@@ -1,23 +1,23 @@
-use Rattle.std.proofs.Common.{List, map, ◌∙◌, ap, sym, subst}
-use Rattle.ks_record.specs.Records.{record_seen}
-use Rattle.ks_plan.specs.Layout.{topic_at}
-use Rattle.ks_topo.specs.Topologies.{plan_in}
-use Rattle.ks_def_tasks.specs.Rules.{rules_of}
+use Rattle.std.proofs.Common.{◌≡◌, true, sym, subst}
+use Rattle.std.specs.Prelude.{OnOk}
+use Rattle.ks_plan.specs.Infos.{input_numbers}
+use Rattle.ks_topo.specs.Topologies.{draft_of, plan_in}
+use Rattle.ks_history.specs.Follows.{TaskView}
+use Rattle.ks_history.specs.Machine.{has_topic}
 use Rattle.ks_law_topology.specs.Work.{work_of}
-use Rattle.ks_task_nodes.specs.declared.processor.ProcessorNode.{ProcessorNode}
-use Rattle.ks_task_nodes.specs.Nodes.{node_view}
+use Rattle.ks_law_restore.specs.Views.{take_view}
+use Rattle.ks_def_tasks.specs.Rules.{rules_of}
 use Rattle.ks_task.specs.Tasks.{task_view}
-use Rattle.ks_task.specs.Views.{AreLiveAt}
-use Rattle.ks_task.proofs.Taking.{taken_as}
 use Rattle.ks_task.proofs.task.Task.take.Goals as goal
 
-pub take_by-requires-clause-nodes : goal.take_by-requires-clause-nodes
-take_by-requires-clause-nodes g c = ap (λ (ns : List ProcessorNode). map node_view ns) c.as_slice-nodes.ensures.value ∙ c.in_ok-nodes.ensures
+pub take_one-requires-clause-task : goal.take_one-requires-clause-task
+take_one-requires-clause-task g c = c.write_waiting.ensures.task (draft_of c.args.topology.now) c.requires.task
 
-pub take_by-requires-clause-live : goal.take_by-requires-clause-live
-take_by-requires-clause-live g c = subst (λ live. AreLiveAt c.as_slice-nodes.result.now (topic_at (plan_in c.args.topology.now) c.args.topic) live) (sym c.as_slice-live.ensures.value) c.in_ok-live.ensures
+pub take_one-requires-clause-input : goal.take_one-requires-clause-input
+take_one-requires-clause-input g c =
+    subst (λ (v : TaskView). has_topic c.args.topic (input_numbers (plan_in c.args.topology.now) v.task.sub) ≡ true) (sym c.write_waiting.ensures.view) c.requires.input
 
 pub returns-clause-view : goal.returns-clause-view
 returns-clause-view g c =
-    taken_as c.take_by.result (work_of (rules_of g.H.Hash128.hash_of) (plan_in c.args.topology.now)) c.args.topic c.args.offset (task_view c.args.self.now) (task_view c.take_by.new.self) (record_seen c.as_ref-rec.result) c.args.rec.now
-    c.as_ref-rec.ensures c.take_by.ensures.view
+    subst (λ (v : TaskView). OnOk c.take_one.result (task_view c.take_one.new.self ≡ take_view (work_of (rules_of g.H.Hash128.hash_of) (plan_in c.args.topology.now)) v c.args.topic c.args.offset c.args.rec.now))
+    c.write_waiting.ensures.view c.take_one.ensures.view

@@ -1,0 +1,5 @@
+use Rattle.ks_restoring.proofs.Latest.{new_bound}
+use Rattle.ks_restoring.proofs.restoring.RestoringStore.new.Goals as goal
+
+pub invariant_of-result : goal.invariant_of-result
+invariant_of-result c = new_bound c.new.result c.new-2.result.items c.new.ensures c.new-2.ensures.items

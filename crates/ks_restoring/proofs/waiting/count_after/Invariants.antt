@@ -1,0 +1,12 @@
+use Rattle.std.proofs.Common.{◌≡◌, ◌≤◌, ◌+◌, take}
+use Rattle.ks_def_runs.specs.FinMap as fin
+use Rattle.ks_history.specs.Machine.{latest_from}
+use Rattle.ks_restoring.proofs.waiting.count_after.Given as goal
+
+-- so many more, and so many less, after the first records
+abbrev pub invariant-loop-i : goal.invariant-loop-i
+invariant-loop-i l = record {
+  len : fin.len (latest_from l.table (take l.i l.records)) + l.less ≡ fin.len l.table + l.more;
+  more : l.more ≤ l.i;
+  less : l.less ≤ l.i;
+}

@@ -1,0 +1,8 @@
+use Rattle.std.proofs.Common.{rules, not}
+use Rattle.std.proofs.lemmas.Fn.{filter_same}
+use Rattle.ks_record.specs.Records.{Record as Rec}
+use Rattle.ks_restoring.specs.Waiting.{has_key}
+use Rattle.ks_restoring.proofs.waiting.take_out.Goals as goal
+
+pub returns-then-not-is_empty : goal.returns-then-not-is_empty
+returns-then-not-is_empty c = filter_same _ (λ (r : Rec). not (has_key c.args.key.now r.key)) _ (λ x b f' k. search rules) _ _ c.retain.ensures.filtered
