@@ -177,15 +177,15 @@ impl KeptStore {
         Ok(())
     }
 
-    /// Takes records of its changelog, each with its offset, in order; where it writes at once they wait, shared and not copied, for the
-    /// first write or for `apply`. After want of memory the first of them were taken, and the store is to be dropped.
-    pub fn restore(&mut self, recs: &[(u64, Rec)]) -> Result<(), AllocError>
-        ensures { OnOk result (self.new ≡ kept_after self.old (records_of recs.now)) }
+    /// Takes records of its changelog, each with its offset, in order; where it writes at once they wait for the first write or for
+    /// `apply`. After want of memory the first of them were taken, and the store is to be dropped.
+    pub fn restore(&mut self, recs: Vec<(u64, Rec)>) -> Result<(), AllocError>
+        ensures { OnOk result (self.new ≡ kept_after self.old (records_of recs.items)) }
     {
         if let Holding::Plain(store) = &mut self.store {
             return store.restore(recs);
         }
-        self.keep_each(recs)
+        self.keep_each(recs.as_slice())
     }
 }
 

@@ -82,7 +82,7 @@ fn feed_once<R: Wait, W: Work>(
         part: replica.id().part,
     };
     let (recs, next) = fetch_through(rt, alloc, shared, pass, part, from)?;
-    replica.feed(topic, recs.as_slice(), next)?;
+    replica.feed(topic, recs, next)?;
     Ok(from < next)
 }
 

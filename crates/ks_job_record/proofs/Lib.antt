@@ -3,6 +3,7 @@ pub mod Ordered
 pub mod Spellings
 pub mod PlainRows
 pub mod PlainPlaces
+pub mod PlainGrammar
 pub mod PlainFronts
 pub mod PlainTrees
 pub mod PlainReadings

@@ -5,7 +5,7 @@ use Rattle.ks_job_record.specs.Record.{number_of}
 use Rattle.ks_job_record.specs.Plain.{IsQuoted, IsDigits}
 use Rattle.ks_job_record.specs.PlainLines.{IsFront, IsEnd}
 
-key_fits : (key : List ℕ) → 0 < length key → length key ≤ 1024 → key_of key ≡ Some key
+pub key_fits : (key : List ℕ) → 0 < length key → length key ≤ 1024 → key_of key ≡ Some key
 key_fits key some most = ap (λ b. cond b None (cond (nat_le (length key) 1024) (Some key) None)) (ne_eqb (length key) 0 (λ e. omega arith)) ∙ ap (λ b. cond b (Some key) None) (le-leb (length key) 1024 most)
 
 pub front_is : (topics : List (List ℕ)) (line r0 topic r1 r2 key r3 rest text : List ℕ) (number : ℕ) →

@@ -5,5 +5,6 @@ pub mod Texts
 pub mod Plain
 pub mod PlainRows
 pub mod PlainLines
+pub mod PlainGrammar
 pub mod Says
 pub mod Ordered

@@ -1,10 +1,11 @@
 //! The record of a plain line, read from its bytes, with no JSON value between: members as `topic`, `key`, `value` and `ts`, no blanks,
-//! ASCII without escapes, whole numbers of up to 18 digits. Of any other line nothing is told.
-ghost use Rattle.std.specs.Prelude.{◌≡◌, true, map, IfOk, IfSome};
+//! ASCII without escapes, whole numbers of up to 18 digits. Any other line gives none.
+ghost use Rattle.std.specs.Prelude.{◌≡◌, true, map, Some, None, IfOk, IfSome, option_map, if◌then◌else◌};
 ghost use Rattle.ks_row.specs.Fields.{field_seen, member_seen};
 ghost use Rattle.ks_job_record.specs.Plain.{field_of};
 ghost use Rattle.ks_job_record.specs.PlainRows.{IsMadeField, IsPut, TakesMember, ClosesRow, place_among};
 ghost use Rattle.ks_job_record.specs.PlainLines.{IsFront, IsEnd, EndsLine};
+ghost use Rattle.ks_job_record.specs.PlainGrammar.{fit_field, with_one, one_at, members_at, front_at, row_at, end_at, record_at, value_record, plain_record};
 ghost use Rattle.ks_job_record.specs.Says.{Says};
 
 use crate::pieces::{Plain, after, behind, split_digits, split_member, split_quoted};
@@ -31,7 +32,8 @@ type Member<'a> = (&'a [u8], FieldRef<'a>);
 
 // The field where it stands; none where its text is too long.
 fn see_field(plain: Plain<'_>) -> Option<FieldRef<'_>>
-    ensures { IfSome result (λ f. IsMadeField (field_of plain.entry) (field_seen f)) }
+    ensures sound { IfSome result (λ f. IsMadeField (field_of plain.entry) (field_seen f)) }
+    ensures exact { option_map field_seen result ≡ fit_field (field_of plain.entry) }
 {
     match plain {
         Plain::Number(number) => Some(FieldRef::Int(number)),
@@ -61,13 +63,16 @@ fn find_place(fields: &[Member<'_>], name: &[u8]) -> Option<usize>
 }
 
 // Puts a member at its place. Whether it is one, and its name wasn't there.
+#[tactic(auto, unfolding(crate::specs::PlainGrammar::with_one))]
 fn put_member<'a>(
     fields: &mut Vec<Member<'a>>,
     name: &'a [u8],
     plain: Plain<'a>,
 ) -> Result<bool, AllocError>
-    ensures { IfOk result (λ b. b ≡ true → IsPut (name.now, field_of plain.entry)
+    ensures sound { IfOk result (λ b. b ≡ true → IsPut (name.now, field_of plain.entry)
         (map member_seen fields.old.items) (map member_seen fields.new.items)) }
+    ensures exact { IfOk result (λ b. (if b then Some (map member_seen fields.new.items) else None)
+        ≡ with_one (name.now, field_of plain.entry) (map member_seen fields.old.items)) }
 {
     if !is_name(name) {
         return Ok(false);
@@ -82,14 +87,17 @@ fn put_member<'a>(
     Ok(true)
 }
 
-#[tactic(auto, using(crate::proofs::PlainRows::takes))]
+#[tactic(auto, using(crate::proofs::PlainRows::takes), unfolding(crate::specs::PlainGrammar::one_at))]
 fn take_member<'a>(
     fields: &mut Vec<Member<'a>>,
     bytes: &'a [u8],
 ) -> Result<Option<&'a [u8]>, AllocError>
-    ensures { IfOk result (λ o. IfSome o (λ rest.
+    ensures sound { IfOk result (λ o. IfSome o (λ rest.
         TakesMember (map member_seen fields.old.items) bytes.now (map member_seen fields.new.items)
         rest.now)) }
+    ensures exact { IfOk result (λ o.
+        option_map (λ rest. (map member_seen fields.new.items, rest.now)) o
+        ≡ one_at (map member_seen fields.old.items) bytes.now) }
 {
     let Some((name, plain, rest)) = split_member(bytes) else {
         return Ok(None);
@@ -106,9 +114,12 @@ fn take_members<'a>(
     fields: &mut Vec<Member<'a>>,
     bytes: &'a [u8],
 ) -> Result<Option<&'a [u8]>, AllocError>
-    ensures { IfOk result (λ o. IfSome o (λ rest.
+    ensures sound { IfOk result (λ o. IfSome o (λ rest.
         ClosesRow (map member_seen fields.old.items) bytes.now (map member_seen fields.new.items)
         rest.now)) }
+    ensures exact { IfOk result (λ o.
+        option_map (λ rest. (map member_seen fields.new.items, rest.now)) o
+        ≡ members_at 16 (map member_seen fields.old.items) bytes.now) }
 {
     let mut rest = bytes;
     for _ in 0..MOST_MEMBERS {
@@ -126,8 +137,11 @@ fn take_members<'a>(
     Ok(None)
 }
 
+#[tactic(auto, unfolding(crate::specs::PlainGrammar::front_at))]
 fn split_front<'a>(topics: &[Name], line: &'a [u8]) -> Option<Front<'a>>
-    ensures { IfSome result (λ f. IsFront topics.now line.now f.topic f.key.now f.rest.now) }
+    ensures sound { IfSome result (λ f. IsFront topics.now line.now f.topic f.key.now f.rest.now) }
+    ensures exact { option_map (λ f. ((f.topic, f.key.now), f.rest.now)) result
+        ≡ front_at topics.now line.now }
 {
     let (topic, rest) = split_quoted(after(line, b"{\"topic\":\"")?)?;
     let (key, rest) = split_quoted(after(rest, b",\"key\":\"")?)?;
@@ -143,8 +157,10 @@ fn split_front<'a>(topics: &[Name], line: &'a [u8]) -> Option<Front<'a>>
 }
 
 // The time at the end of a line, 0 where none is given.
+#[tactic(auto, unfolding(crate::specs::PlainGrammar::end_at, crate::specs::PlainGrammar::time_at))]
 fn read_end(bytes: &[u8]) -> Option<u64>
-    ensures { IfSome result (λ n. IsEnd bytes.now n) }
+    ensures sound { IfSome result (λ n. IsEnd bytes.now n) }
+    ensures exact { result ≡ end_at bytes.now }
 {
     if bytes == b"}".as_slice() {
         return Some(0);
@@ -157,14 +173,17 @@ fn read_end(bytes: &[u8]) -> Option<u64>
     }
 }
 
+#[tactic(auto, unfolding(crate::specs::PlainGrammar::record_at))]
 fn end_record(
     alloc: Global,
     front: Front<'_>,
     value: Option<Blob>,
     rest: &[u8],
 ) -> Result<Option<Input>, AllocError>
-    ensures { IfOk result (λ o. IfSome o (λ i.
+    ensures sound { IfOk result (λ o. IfSome o (λ i.
         EndsLine front.entry.topic front.entry.key.now value rest.now i)) }
+    ensures exact { IfOk result (λ o.
+        o ≡ record_at (front.entry.topic, front.entry.key.now) value rest.now) }
 {
     let Some(ts) = read_end(rest) else {
         return Ok(None);
@@ -180,6 +199,7 @@ fn end_record(
     }))
 }
 
+#[tactic(auto, unfolding(crate::specs::PlainGrammar::row_at, crate::specs::PlainGrammar::value_record))]
 fn read_row_record(
     alloc: Global,
     topics: &[Name],
@@ -187,7 +207,9 @@ fn read_row_record(
     front: Front<'_>,
 ) -> Result<Option<Input>, AllocError>
     requires { IsFront topics.now line.now front.topic front.key.now front.rest.now }
-    ensures { IfOk result (λ o. IfSome o (λ i. Says topics.now line.now i)) }
+    ensures sound { IfOk result (λ o. IfSome o (λ i. Says topics.now line.now i)) }
+    ensures exact { IfOk result (λ o.
+        o ≡ value_record (front.entry.topic, front.entry.key.now) (row_at front.entry.rest.now)) }
 {
     let Some(members) = behind(front.rest, b'{') else {
         return Ok(None);
@@ -204,8 +226,10 @@ fn read_row_record(
 
 /// The record of a plain line: the line is the text of a JSON value, of which `read_input` gives this record. `None`: the line isn't plain, or
 /// has a fault; it is to be read as JSON. Keys and texts are copied. `Err` only where memory ran out.
+#[tactic(auto, unfolding(crate::specs::PlainGrammar::plain_record, crate::specs::PlainGrammar::null_at, crate::specs::PlainGrammar::value_record))]
 pub fn read_plain(alloc: Global, topics: &[Name], line: &[u8]) -> Result<Option<Input>, AllocError>
-    ensures { IfOk result (λ o. IfSome o (λ i. Says topics.now line.now i)) }
+    ensures says { IfOk result (λ o. IfSome o (λ i. Says topics.now line.now i)) }
+    ensures plain { IfOk result (λ o. o ≡ plain_record topics.now line.now) }
 {
     let Some(front) = split_front(topics, line) else {
         return Ok(None);

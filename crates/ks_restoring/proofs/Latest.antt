@@ -1,13 +1,14 @@
 -- What records leave of a map, by what is found at each key.
 use Rattle.std.proofs.Common.{◌≡◌, ℕ, zero, suc, ◌+◌, ◌-◌, ◌≤◌, ◌<◌, Bool, true, false, cond, not, List, [], ◌∷◌, ◌++◌, length, get_or, take, Option, Some, None, refl, sym, ap, ap₂, subst, ◌∙◌, arith}
 use Rattle.std.specs.Prelude.{is_some, option_copied}
+use Rattle.std.specs.List.{filter}
 use denote.Ref.{Bor}
 use Rattle.std.specs.Ordering.{eq_by_cmp}
 use Rattle.std.specs.FinMap.{IsAntisymmetric, slice_cmp-IsAntisymmetric, nat_cmp-IsAntisymmetric}
 use Rattle.std.specs.FinMap.Entries.{where_key, length_without}
 use Rattle.std.proofs.lemmas.Bool.{true≢false}
 use Rattle.std.proofs.lemmas.Cmp.{nat_list_cmp_total}
-use Rattle.std.proofs.lemmas.List.{take_more}
+use Rattle.std.proofs.lemmas.List.{take_more, get_or-map, length-map, map-append}
 use Rattle.ks_record.specs.Bytes.{IsBytes}
 use Rattle.ks_record.specs.Records.{Record as Rec, bytes_or_none}
 use Rattle.ks_def_runs.specs.Bytes.{Store, by_bytes, empty_store}
@@ -15,6 +16,7 @@ use Rattle.ks_def_runs.specs.FinMap as fin
 use Rattle.ks_def_runs.specs.Pairs.{ArePairs}
 use Rattle.ks_def_runs.proofs.Tables.{get-write}
 use Rattle.ks_history.specs.Machine.{applied, latest_from}
+use Rattle.ks_store.specs.Restored.{records_of}
 use Rattle.ks_store.proofs.Applied.{latest_from-append}
 use Rattle.ks_store.proofs.Tables.{same_key}
 use Rattle.ks_store.proofs.Trees.{bytes_put, bytes_where}
@@ -40,6 +42,31 @@ found_by q (r ∷ rs) o = found_by q rs (cond (has_key q r.key) r.value o)
 pub get_latest : (m : Store) (rs : List Rec) (q : List ℕ) → fin.get (latest_from m rs) q ≡ found_by q rs (fin.get m q)
 get_latest m [] q = refl
 get_latest m (r ∷ rs) q = get_latest (applied m r.key r.value) rs q ∙ ap (found_by q rs) (get_applied m r.key r.value q)
+
+-- ---- records with their offsets
+pub records_of-append : (recs more : List (ℕ × Rec)) → records_of (recs ++ more) ≡ records_of recs ++ records_of more
+records_of-append recs more = simp map-append
+
+pub length-records_of : (recs : List (ℕ × Rec)) → length (records_of recs) ≡ length recs
+length-records_of recs = simp length-map
+
+-- the record at a place
+pub record_at : (recs : List (ℕ × Rec)) (i : ℕ) (x : ℕ × Rec) → i < length recs → x ≡ get_or recs i x → (i < length (records_of recs)) × (x.1 ≡ get_or (records_of recs) i x.1)
+record_at recs i x lt is = (omega (arith, lt, length-records_of recs), sym (get_or-map (λ (r : ℕ × Rec). r.1) recs i x x.1 lt ∙ ap (λ (r : ℕ × Rec). r.1) (sym is)))
+
+pub records_of-take : (recs : List (ℕ × Rec)) (i : ℕ) → records_of (take i recs) ≡ take i (records_of recs)
+records_of-take recs zero = refl
+records_of-take [] (suc i) = refl
+records_of-take (r ∷ recs) (suc i) = ap (λ rs. r.1 ∷ rs) (records_of-take recs i)
+
+pub records_of-filter : (keeps : Rec → Bool) (recs : List (ℕ × Rec)) → records_of (filter (λ (r : ℕ × Rec). keeps r.1) recs) ≡ filter keeps (records_of recs)
+records_of-filter keeps [] = refl
+records_of-filter keeps (r ∷ recs) = by (keeps r.1) (records_of-filter keeps recs)
+  where
+    by : (b : Bool) → records_of (filter (λ (r : ℕ × Rec). keeps r.1) recs) ≡ filter keeps (records_of recs) →
+        records_of (cond b (r ∷ filter (λ (r : ℕ × Rec). keeps r.1) recs) (filter (λ (r : ℕ × Rec). keeps r.1) recs)) ≡ cond b (r.1 ∷ filter keeps (records_of recs)) (filter keeps (records_of recs))
+    by true e = ap (λ rs. r.1 ∷ rs) e
+    by false e = e
 
 -- ---- one more record
 pub next_taken : (recs : List Rec) (i : ℕ) (x : Rec) → i < length recs → x ≡ get_or recs i x → take (i + 1) recs ≡ take i recs ++ x ∷ []
@@ -141,13 +168,21 @@ len_applied m (Some k) value = by (is_some value) (is_some (fin.get m k)) (fin.l
     by false true old new e = omega (arith, e)
     by false false old new e = omega (arith, e)
 
--- one more waits
-pub waits_more : (table old : Store) (rs new : List Rec) (r : Rec) → latest_from table rs ≡ old → new ≡ rs ++ r ∷ [] → latest_from table new ≡ applied old r.key r.value
-waits_more table old rs new r is longer = ap (latest_from table) longer ∙ (latest_from-append table rs (r ∷ []) ∙ ap (λ (s : Store). applied s r.key r.value) is)
+-- more of them wait
+len_latest : (m : Store) (rs : List Rec) → fin.len (latest_from m rs) ≤ fin.len m + length rs
+len_latest m [] = omega arith
+len_latest m (r ∷ rs) = omega (arith, len_latest (applied m r.key r.value) rs, len_applied m r.key r.value)
 
-pub bounded_more : (table : Store) (rs new : List Rec) (r : Rec) (most more : ℕ) → fin.len (latest_from table rs) ≤ most → new ≡ rs ++ r ∷ [] → more ≡ most + 1 → fin.len (latest_from table new) ≤ more
-bounded_more table rs new r most more le longer e =
-    subst (λ (s : Store). fin.len s ≤ more) (sym (waits_more table (latest_from table rs) rs new r refl longer)) (omega (arith, le, e, len_applied (latest_from table rs) r.key r.value))
+pub waits_more : (table old : Store) (recs new more : List (ℕ × Rec)) → latest_from table (records_of recs) ≡ old → new ≡ recs ++ more → latest_from table (records_of new) ≡ latest_from old (records_of more)
+waits_more table old recs new more is longer =
+    ap (λ l. latest_from table (records_of l)) longer
+    ∙ (ap (latest_from table) (records_of-append recs more)
+    ∙ (latest_from-append table (records_of recs) (records_of more) ∙ ap (λ (s : Store). latest_from s (records_of more)) is))
+
+pub bounded_more : (table : Store) (recs new more : List (ℕ × Rec)) (most bound : ℕ) → fin.len (latest_from table (records_of recs)) ≤ most → new ≡ recs ++ more → bound ≡ most + length more → fin.len (latest_from table (records_of new)) ≤ bound
+bounded_more table recs new more most bound le longer e =
+    subst (λ (s : Store). fin.len s ≤ bound) (sym (waits_more table (latest_from table (records_of recs)) recs new more refl longer))
+    (omega (arith, le, e, len_latest (latest_from table (records_of recs)) (records_of more), length-records_of more))
 
 -- one is taken away
 pub bounded_less : (m n : Store) (key : List ℕ) (most : ℕ) → fin.len m ≤ most → n ≡ fin.remove m key → fin.len n ≤ most
@@ -193,6 +228,10 @@ changed_by m key value k has there r is h t e =
     subst (λ (o : Option (List ℕ)). fin.len (applied m o value) + r.1 ≡ fin.len m + r.0) is
     (subst (λ (p : ℕ × ℕ). fin.len (applied m (Some k) value) + p.1 ≡ fin.len m + p.0)
     (sym (e ∙ ap₂ (λ (a b : Bool). (cond a (cond b 0 1) 0, cond a 0 (cond b 1 0))) h t)) (len_changed m k value))
+
+-- the same of a record by another name
+pub changed_at : (m : Store) (x y : Rec) (r : ℕ × ℕ) → y ≡ x → fin.len (applied m y.key y.value) + r.1 ≡ fin.len m + r.0 → fin.len (applied m x.key x.value) + r.1 ≡ fin.len m + r.0
+changed_at m x y r is e = subst (λ (z : Rec). fin.len (applied m z.key z.value) + r.1 ≡ fin.len m + r.0) is e
 
 pub counted_more : (m : Store) (recs before : List Rec) (i : ℕ) (x : Rec) (r : ℕ × ℕ) (more less : ℕ) → i < length recs → x ≡ get_or recs i x → before ≡ take i recs →
     fin.len (latest_from m (take i recs)) + less ≡ fin.len m + more → fin.len (applied (latest_from m before) x.key x.value) + r.1 ≡ fin.len (latest_from m before) + r.0 →

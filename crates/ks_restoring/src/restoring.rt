@@ -1,9 +1,9 @@
 //! A store that was restored.
-ghost use Rattle.std.specs.Prelude.{◌≡◌, OnOk};
+ghost use Rattle.std.specs.Prelude.{◌≡◌, OnOk, OnErr};
 ghost use Rattle.ks_def_runs.specs.Bytes.{empty_store};
 ghost use Rattle.ks_def_runs.specs.FinMap as map;
 ghost use Rattle.ks_def_runs.specs.Pairs.{ArePairs};
-ghost use Rattle.ks_history.specs.Machine.{applied, latest_from};
+ghost use Rattle.ks_history.specs.Machine.{latest_from};
 ghost use Rattle.ks_store.specs.Restored.{records_of};
 
 use crate::laying::lay_pairs;
@@ -21,8 +21,8 @@ use std::marker::Model;
 pub struct RestoringStore {
     alloc: Global,
     table: OrderedStore,
-    // in the order of the changelog
-    records: Vec<Rec>,
+    // with their offsets, in the order of the changelog
+    records: Vec<(u64, Rec)>,
     // No more keys than this are there once all records are written.
     most: usize,
 }
@@ -32,12 +32,13 @@ impl Model for RestoringStore {
     ghost use Rattle.ks_def_runs.specs.Bytes.{Store};
     ghost use Rattle.ks_def_runs.specs.FinMap as map;
     ghost use Rattle.ks_history.specs.Machine.{latest_from};
+    ghost use Rattle.ks_store.specs.Restored.{records_of};
 
     ghost Value = { Store };
 
-    ghost view = { λ s. latest_from s.table s.records.items };
+    ghost view = { λ s. latest_from s.table.store (records_of s.records.items) };
 
-    ghost invariant = { λ s. map.len (latest_from s.table s.records.items) ≤ s.most };
+    ghost invariant = { λ s. map.len (latest_from s.table.store (records_of s.records.items)) ≤ s.most };
 }
 
 impl RestoringStore {
@@ -53,25 +54,15 @@ impl RestoringStore {
         }
     }
 
-    // One more record of its changelog, which waits. After want of memory it is as before.
-    fn wait(&mut self, rec: &Rec) -> Result<(), AllocError>
-        ensures ok { OnOk result (self.new ≡ applied self.old rec.now.key rec.now.value) }
+    /// Takes records of its changelog, each with its offset, in order; they wait. After want of memory it is as before.
+    pub fn restore(&mut self, recs: Vec<(u64, Rec)>) -> Result<(), AllocError>
+        ensures ok { OnOk result (self.new ≡ latest_from self.old (records_of recs.items)) }
+        ensures err { OnErr result (self.new ≡ self.old) }
     {
-        let most = count_on(self.most)?;
-        let rec = rec.clone()?;
-        self.records.push(rec)?;
+        let most = count_on(self.most, recs.len())?;
+        let mut recs = recs;
+        self.records.append(&mut recs)?;
         self.most = most;
-        Ok(())
-    }
-
-    /// Takes records of its changelog, each with its offset, in order, by shared copies that wait. After want of memory the first of
-    /// them were taken, and the store is to be dropped.
-    pub fn restore(&mut self, recs: &[(u64, Rec)]) -> Result<(), AllocError>
-        ensures { OnOk result (self.new ≡ latest_from self.old (records_of recs.now)) }
-    {
-        for (_, rec) in recs {
-            self.wait(rec)?;
-        }
         Ok(())
     }
 

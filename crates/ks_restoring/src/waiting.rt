@@ -3,9 +3,11 @@ ghost use Rattle.std.specs.Prelude.{◌≡◌, ◌+◌, ◌≤◌, IfOk, OnOk, O
 ghost use Rattle.ks_def_runs.specs.FinMap as map;
 ghost use Rattle.ks_history.specs.Machine.{applied, latest_from};
 ghost use Rattle.ks_record.specs.Bytes.{IsBytes};
+ghost use Rattle.ks_record.specs.Records.{record_seen};
+ghost use Rattle.ks_store.specs.Restored.{records_of};
 ghost use Rattle.ks_restoring.specs.Waiting.{has_key, without, IsOfBytes, AreOfBytes};
 
-use ks_record::{Rec, equal_bytes};
+use ks_record::{Rec, RecordRef, equal_bytes};
 use ks_store::{KvStore, OrderedStore};
 use std::alloc::{AllocError, Global};
 
@@ -28,27 +30,27 @@ fn write_value<S: KvStore>(
     }
 }
 
-fn write_record<S: KvStore>(store: &mut S, rec: &Rec) -> Result<(), AllocError>
+fn write_record<S: KvStore>(store: &mut S, rec: RecordRef<'_>) -> Result<(), AllocError>
     ensures ok { OnOk result (S.contents store.new
-        ≡ applied (S.contents store.old) rec.now.key rec.now.value) }
+        ≡ applied (S.contents store.old) (record_seen rec.entry).key (record_seen rec.entry).value) }
     ensures err { OnErr result (S.contents store.new ≡ S.contents store.old) }
 {
-    match rec.key() {
-        Some(key) => write_value(store, key, rec.value()),
+    match rec.key {
+        Some(key) => write_value(store, key, rec.value),
         None => Ok(()),
     }
 }
 
 /// Writes records into a store, one after the other; after want of memory the first of them are written. Whatever came of it, writing
 /// all of them once more leaves what they leave.
-pub fn write_records<S: KvStore>(store: &mut S, records: &[Rec]) -> Result<(), AllocError>
+pub fn write_records<S: KvStore>(store: &mut S, records: &[(u64, Rec)]) -> Result<(), AllocError>
     ensures ok { OnOk result (S.contents store.new
-        ≡ latest_from (S.contents store.old) records.now) }
-    ensures same { latest_from (S.contents store.new) records.now
-        ≡ latest_from (S.contents store.old) records.now }
+        ≡ latest_from (S.contents store.old) (records_of records.now)) }
+    ensures same { latest_from (S.contents store.new) (records_of records.now)
+        ≡ latest_from (S.contents store.old) (records_of records.now) }
 {
-    for rec in records {
-        write_record(store, rec)?;
+    for (_, rec) in records {
+        write_record(store, rec.as_ref())?;
     }
     Ok(())
 }
@@ -58,11 +60,11 @@ pub fn write_records<S: KvStore>(store: &mut S, records: &[Rec]) -> Result<(), A
 pub fn write_waiting(
     alloc: Global,
     table: &mut OrderedStore,
-    records: &mut Vec<Rec>,
+    records: &mut Vec<(u64, Rec)>,
 ) -> Result<(), AllocError>
     ensures none { OnOk result (records.new.items ≡ []) }
-    ensures same { latest_from table.new records.new.items
-        ≡ latest_from table.old records.old.items }
+    ensures same { latest_from table.new.store (records_of records.new.items)
+        ≡ latest_from table.old.store (records_of records.old.items) }
 {
     if records.is_empty() {
         return Ok(());
@@ -94,11 +96,16 @@ fn value_with<'a>(rec: &'a Rec, key: &[u8], before: Option<&'a [u8]>) -> Option<
 }
 
 /// The value of a key after these records were written into the table; none where it has none then. Takes no memory.
-pub fn value_after<'a>(table: &'a OrderedStore, records: &'a [Rec], key: &[u8]) -> Option<&'a [u8]>
-    ensures { option_map (λ v. v.now) result ≡ map.get (latest_from table.now records.now) key.now }
+pub fn value_after<'a>(
+    table: &'a OrderedStore,
+    records: &'a [(u64, Rec)],
+    key: &[u8],
+) -> Option<&'a [u8]>
+    ensures { option_map (λ v. v.now) result
+        ≡ map.get (latest_from table.now.store (records_of records.now)) key.now }
 {
     let mut found = table.get(key);
-    for rec in records {
+    for (_, rec) in records {
         found = value_with(rec, key, found);
     }
     found
@@ -121,9 +128,10 @@ fn change_of(has_value: bool, is_there: bool) -> (usize, usize)
 }
 
 // How many keys more and how many less a record leaves, behind these other ones.
-fn change_by(table: &OrderedStore, before: &[Rec], rec: &Rec) -> (usize, usize)
-    ensures len { map.len (applied (latest_from table.now before.now) rec.now.key rec.now.value)
-        + result.1 ≡ map.len (latest_from table.now before.now) + result.0 }
+fn change_by(table: &OrderedStore, before: &[(u64, Rec)], rec: &Rec) -> (usize, usize)
+    ensures len { map.len (applied (latest_from table.now.store (records_of before.now))
+        rec.now.key rec.now.value) + result.1
+        ≡ map.len (latest_from table.now.store (records_of before.now)) + result.0 }
     ensures more { result.0 ≤ 1 }
     ensures less { result.1 ≤ 1 }
 {
@@ -150,13 +158,13 @@ fn moved_by(count: usize, more: usize, less: usize, most: usize) -> usize
 }
 
 /// How many keys there are after these records were written into the table, where there are at most so many. Takes no memory.
-pub fn count_after(table: &OrderedStore, records: &[Rec], most: usize) -> usize
-    requires { map.len (latest_from table.now records.now) ≤ most }
-    ensures { result ≡ map.len (latest_from table.now records.now) }
+pub fn count_after(table: &OrderedStore, records: &[(u64, Rec)], most: usize) -> usize
+    requires { map.len (latest_from table.now.store (records_of records.now)) ≤ most }
+    ensures { result ≡ map.len (latest_from table.now.store (records_of records.now)) }
 {
     let (mut more, mut less) = (0, 0);
     for i in 0..records.len() {
-        let (new, gone) = change_by(table, &records[..i], &records[i]);
+        let (new, gone) = change_by(table, &records[..i], &records[i].1);
         more += new;
         less += gone;
     }
@@ -164,23 +172,23 @@ pub fn count_after(table: &OrderedStore, records: &[Rec], most: usize) -> usize
 }
 
 /// Takes out the records of a key. Takes no memory.
-pub fn take_out(records: &mut Vec<Rec>, key: &[u8])
-    ensures { records.new.items ≡ without key.now records.old.items }
+pub fn take_out(records: &mut Vec<(u64, Rec)>, key: &[u8])
+    ensures { records_of records.new.items ≡ without key.now (records_of records.old.items) }
 {
     if !records.is_empty() {
         records.retain(
-            |rec: &Rec|
-                ensures { result ≡ not (has_key key.entry.now rec.now.key) }
-            { !is_for(rec, key) },
+            |waiting: &(u64, Rec)|
+                ensures { result ≡ not (has_key key.entry.now waiting.now.1.key) }
+            { !is_for(&waiting.1, key) },
         );
     }
 }
 
-/// With one more. A number of 2^64 is want of memory.
-pub fn count_on(count: usize) -> Result<usize, AllocError>
-    ensures { IfOk result (λ n. n ≡ count + 1) }
+/// With so many more. A number of 2^64 is want of memory.
+pub fn count_on(count: usize, more: usize) -> Result<usize, AllocError>
+    ensures { IfOk result (λ n. n ≡ count + more) }
 {
-    count.checked_add(1).ok_or(AllocError)
+    count.checked_add(more).ok_or(AllocError)
 }
 
 fn slice_is_bytes(bytes: &[u8])
@@ -200,10 +208,10 @@ fn record_is_bytes(rec: &Rec)
 }
 
 /// The keys and values of these records are bytes, as a fact for what follows; does nothing.
-pub fn records_are_bytes(records: &[Rec])
-    ensures { AreOfBytes records.now }
+pub fn records_are_bytes(records: &[(u64, Rec)])
+    ensures { AreOfBytes (records_of records.now) }
 {
-    for rec in records {
+    for (_, rec) in records {
         record_is_bytes(rec);
     }
 }

@@ -59,7 +59,7 @@ fn feed_on<W: Work>(
     if next == from {
         return Ok(false);
     }
-    replica.feed(changelog, recs.as_slice(), next)?;
+    replica.feed(changelog, recs, next)?;
     Ok(true)
 }
 

@@ -52,8 +52,8 @@ fn is_other(kept: Option<&[u8]>, row: &[u8]) -> bool
 
 // Whether another row is kept where this one stands; from now on it is kept there.
 fn meets_other(rows: &mut OrderedStore, entry: &Option<(Blob, Blob)>) -> Result<bool, AllocError>
-    ensures other { IfOk result (λ b. b ≡ meets rows.old entry.now) }
-    ensures kept { OnOk result (rows.new ≡ with_entry rows.old entry.now) }
+    ensures other { IfOk result (λ b. b ≡ meets rows.old.store entry.now) }
+    ensures kept { OnOk result (rows.new.store ≡ with_entry rows.old.store entry.now) }
 {
     let Some((at, row)) = entry else {
         return Ok(false);

@@ -1,5 +1,5 @@
 -- What feeding makes of the view that some changelogs are.
-use Rattle.std.proofs.Common.{◌≡◌, ℕ, zero, suc, ◌+◌, ◌<◌, ◌==◌, Bool, true, false, cond, ◌||◌, List, [], ◌∷◌, ◌++◌, map, length, take, drop, set, get_or, refl, sym, ap, ap₂, subst, ◌∙◌, arith, add-one}
+use Rattle.std.proofs.Common.{◌≡◌, ℕ, zero, suc, ◌+◌, ◌<◌, ◌≤◌, ◌==◌, Bool, true, false, cond, ◌||◌, List, [], ◌∷◌, map, length, set, get_or, refl, sym, ap, ap₂, subst, ◌∙◌, arith}
 use Rattle.std.specs.Prelude.{if◌then◌else◌}
 use Rattle.std.proofs.Math.Path.{fun_ext}
 use Rattle.std.proofs.lemmas.Bool.{eqb-true, true≢false}
@@ -17,19 +17,7 @@ use Rattle.ks_cache.specs.Kept.{empty_kept, kept_after}
 use Rattle.ks_cache.specs.declared.changelogs.Changelog.{Changelog}
 use Rattle.ks_standby.specs.declared.replica.Replica.{Replica}
 use Rattle.ks_cache.specs.Changelogs.{stores_in}
-use Rattle.ks_standby.specs.Replicas.{positions_in, numbers_of, fed, view_in, replica_view, IsReplicaIn, GivesFetched, FollowsOn}
-
--- ---- a loop that changes each element
-module _ {A : Type 0} (f : A → A) where
-  step_at : (xs : List A) (i : ℕ) (d : A) → i < length xs → set (map f (take i xs) ++ drop i xs) i (f (get_or (map f (take i xs) ++ drop i xs) i d)) ≡ map f (take (suc i) xs) ++ drop (suc i) xs
-  step_at [] i d lt = absurd (omega arith)
-  step_at (x ∷ xs) zero d lt = refl
-  step_at (x ∷ xs) (suc i) d lt = ap (λ l. f x ∷ l) (step_at xs i d (omega arith))
-
-  pub one_more : (xs items : List A) (i : ℕ) (x y : A) → items ≡ map f (take i xs) ++ drop i xs → i < length xs → x ≡ get_or items i x → y ≡ f x → set items i y ≡ map f (take (i + 1) xs) ++ drop (i + 1) xs
-  one_more xs items i x y e lt read made =
-      let all = map f (take i xs) ++ drop i xs in
-      rw (add-one i) (ap₂ (λ l v. set l i v) e (made ∙ ap f (read ∙ ap (λ l. get_or l i x) e)) ∙ step_at xs i x lt)
+use Rattle.ks_standby.specs.Replicas.{positions_in, numbers_of, changelog_place, fed, fed_in, view_in, replica_view, IsReplicaIn, GivesFetched, FollowsOn}
 
 both : {A : Type 0} (b : Bool) (x : A) → cond b x x ≡ x
 both true x = refl
@@ -53,61 +41,81 @@ new_view t numbers = ap₂ (λ (s : ℕ → Store) (p : ℕ → ℕ). record { t
 
 -- ---- feeding
 module _ (topic : ℕ) (recs : List (ℕ × Rec)) (next : ℕ) where
-  pub numbers_fed : (ls : List Changelog) → numbers_of (map (fed topic recs next) ls) ≡ numbers_of ls
-  numbers_fed [] = refl
-  numbers_fed (l ∷ ls) = ap₂ (λ n ns. n ∷ ns) (by (topic == l.topic)) (numbers_fed ls)
+  abbrev fed_ones : List Changelog → List Changelog
+  fed_ones ls = fed_in topic recs next ls
+
+  pub there_fed : (ls : List Changelog) (x y : Changelog) (i : ℕ) → i ≡ changelog_place ls topic → i < length ls → x ≡ get_or ls i x → y ≡ fed recs next x → set ls i y ≡ fed_ones ls
+  there_fed [] x y i e lt read made = absurd (omega (arith, lt))
+  there_fed (l ∷ ls) x y i e lt read made = by (topic == l.topic) i e lt read (λ j f h r. there_fed ls x y j f h r made)
     where
-      by : (b : Bool) → (cond b (record { topic = l.topic; position = next; store = kept_after l.store (records_of recs) }) l).topic ≡ l.topic
-      by true = refl
-      by false = refl
+      by : (b : Bool) (i : ℕ) → i ≡ cond b 0 (changelog_place ls topic + 1) → i < length (l ∷ ls) → x ≡ get_or (l ∷ ls) i x → ((j : ℕ) → j ≡ changelog_place ls topic → j < length ls → x ≡ get_or ls j x → set ls j y ≡ fed_ones ls)
+          → set (l ∷ ls) i y ≡ cond b (fed recs next l ∷ ls) (l ∷ fed_ones ls)
+      by true zero e lt read on = ap (λ (v : Changelog). v ∷ ls) (made ∙ ap (fed recs next) read)
+      by true (suc i) e lt read on = absurd (omega (arith, e))
+      by false zero e lt read on = absurd (omega (arith, e))
+      by false (suc i) e lt read on = ap (λ more. l ∷ more) (on i (omega (arith, e)) (omega (arith, lt)) read)
 
-  abbrev fed_one : Changelog → Changelog
-  fed_one l = record { topic = l.topic; position = next; store = kept_after l.store (records_of recs) }
+  pub none_fed : (ls : List Changelog) → length ls ≤ changelog_place ls topic → ls ≡ fed_ones ls
+  none_fed [] h = refl
+  none_fed (l ∷ ls) h = by (topic == l.topic) h (λ k. none_fed ls k)
+    where
+      by : (b : Bool) → length (l ∷ ls) ≤ cond b 0 (changelog_place ls topic + 1) → (length ls ≤ changelog_place ls topic → ls ≡ fed_ones ls) → l ∷ ls ≡ cond b (fed recs next l ∷ ls) (l ∷ fed_ones ls)
+      by true h on = absurd (omega (arith, h))
+      by false h on = ap (λ more. l ∷ more) (on (omega (arith, h)))
 
-  store_here : (ls : List Changelog) → has_topic topic (numbers_of ls) ≡ true → stores_in (map (fed topic recs next) ls) topic ≡ latest_from (stores_in ls topic) (records_of recs)
+  pub numbers_fed : (ls : List Changelog) → numbers_of (fed_ones ls) ≡ numbers_of ls
+  numbers_fed [] = refl
+  numbers_fed (l ∷ ls) = by (topic == l.topic) (numbers_fed ls)
+    where
+      by : (b : Bool) → numbers_of (fed_ones ls) ≡ numbers_of ls → numbers_of (cond b (fed recs next l ∷ ls) (l ∷ fed_ones ls)) ≡ l.topic ∷ numbers_of ls
+      by true e = refl
+      by false e = ap (λ ns. l.topic ∷ ns) e
+
+  store_here : (ls : List Changelog) → has_topic topic (numbers_of ls) ≡ true → stores_in (fed_ones ls) topic ≡ latest_from (stores_in ls topic) (records_of recs)
   store_here [] there = absurd (true≢false (sym there))
-  store_here (l ∷ ls) there = elim (topic == l.topic) as (λ b. (topic == l.topic) ≡ b → b || has_topic topic (numbers_of ls) ≡ true →
-      cond (topic == (cond b (fed_one l) l).topic) (cond b (fed_one l) l).store.whole (stores_in (map (fed topic recs next) ls) topic) ≡ latest_from (cond b l.store.whole (stores_in ls topic)) (records_of recs)) [
-        | true ↦ λ e h. ap (λ c. cond c (latest_from l.store.whole (records_of recs)) (stores_in (map (fed topic recs next) ls) topic)) e
-        | false ↦ λ e h. ap (λ c. cond c l.store.whole (stores_in (map (fed topic recs next) ls) topic)) e ∙ store_here ls h
-      ] refl there
+  store_here (l ∷ ls) there = by (topic == l.topic) refl there (λ h. store_here ls h)
+    where
+      by : (b : Bool) → (topic == l.topic) ≡ b → b || has_topic topic (numbers_of ls) ≡ true → (has_topic topic (numbers_of ls) ≡ true → stores_in (fed_ones ls) topic ≡ latest_from (stores_in ls topic) (records_of recs)) →
+          stores_in (cond b (fed recs next l ∷ ls) (l ∷ fed_ones ls)) topic ≡ latest_from (cond b l.store.whole (stores_in ls topic)) (records_of recs)
+      by true e h on = ap (λ c. cond c (latest_from l.store.whole (records_of recs)) (stores_in ls topic)) e
+      by false e h on = ap (λ c. cond c l.store.whole (stores_in (fed_ones ls) topic)) e ∙ on h
 
-  position_here : (ls : List Changelog) → has_topic topic (numbers_of ls) ≡ true → positions_in (map (fed topic recs next) ls) topic ≡ next
+  position_here : (ls : List Changelog) → has_topic topic (numbers_of ls) ≡ true → positions_in (fed_ones ls) topic ≡ next
   position_here [] there = absurd (true≢false (sym there))
-  position_here (l ∷ ls) there = elim (topic == l.topic) as (λ b. (topic == l.topic) ≡ b → b || has_topic topic (numbers_of ls) ≡ true →
-      cond (topic == (cond b (fed_one l) l).topic) (cond b (fed_one l) l).position (positions_in (map (fed topic recs next) ls) topic) ≡ next) [
-        | true ↦ λ e h. ap (λ c. cond c next (positions_in (map (fed topic recs next) ls) topic)) e
-        | false ↦ λ e h. ap (λ c. cond c l.position (positions_in (map (fed topic recs next) ls) topic)) e ∙ position_here ls h
-      ] refl there
+  position_here (l ∷ ls) there = by (topic == l.topic) refl there (λ h. position_here ls h)
+    where
+      by : (b : Bool) → (topic == l.topic) ≡ b → b || has_topic topic (numbers_of ls) ≡ true → (has_topic topic (numbers_of ls) ≡ true → positions_in (fed_ones ls) topic ≡ next) → positions_in (cond b (fed recs next l ∷ ls) (l ∷ fed_ones ls)) topic ≡ next
+      by true e h on = ap (λ c. cond c next (positions_in ls topic)) e
+      by false e h on = ap (λ c. cond c l.position (positions_in (fed_ones ls) topic)) e ∙ on h
 
-  store_other : (ls : List Changelog) (q : ℕ) → (q == topic) ≡ false → stores_in (map (fed topic recs next) ls) q ≡ stores_in ls q
+  store_other : (ls : List Changelog) (q : ℕ) → (q == topic) ≡ false → stores_in (fed_ones ls) q ≡ stores_in ls q
   store_other [] q ne = refl
-  store_other (l ∷ ls) q ne = elim (topic == l.topic) as (λ b. (topic == l.topic) ≡ b →
-      cond (q == (cond b (fed_one l) l).topic) (cond b (fed_one l) l).store.whole (stores_in (map (fed topic recs next) ls) q) ≡ cond (q == l.topic) l.store.whole (stores_in ls q)) [
-        | true ↦ λ e.
-            let no : (q == l.topic) ≡ false = subst (λ n. (q == n) ≡ false) (eqb-true topic l.topic e) ne in
-            ap (λ c. cond c (latest_from l.store.whole (records_of recs)) (stores_in (map (fed topic recs next) ls) q)) no ∙ store_other ls q ne ∙ sym (ap (λ c. cond c l.store.whole (stores_in ls q)) no)
-        | false ↦ λ e. ap (λ s. cond (q == l.topic) l.store.whole s) (store_other ls q ne)
-      ] refl
+  store_other (l ∷ ls) q ne = by (topic == l.topic) refl (store_other ls q ne)
+    where
+      by : (b : Bool) → (topic == l.topic) ≡ b → stores_in (fed_ones ls) q ≡ stores_in ls q → stores_in (cond b (fed recs next l ∷ ls) (l ∷ fed_ones ls)) q ≡ cond (q == l.topic) l.store.whole (stores_in ls q)
+      by true e on =
+          let no : (q == l.topic) ≡ false = subst (λ n. (q == n) ≡ false) (eqb-true topic l.topic e) ne in
+          ap (λ c. cond c (latest_from l.store.whole (records_of recs)) (stores_in ls q)) no ∙ sym (ap (λ c. cond c l.store.whole (stores_in ls q)) no)
+      by false e on = ap (λ s. cond (q == l.topic) l.store.whole s) on
 
-  position_other : (ls : List Changelog) (q : ℕ) → (q == topic) ≡ false → positions_in (map (fed topic recs next) ls) q ≡ positions_in ls q
+  position_other : (ls : List Changelog) (q : ℕ) → (q == topic) ≡ false → positions_in (fed_ones ls) q ≡ positions_in ls q
   position_other [] q ne = refl
-  position_other (l ∷ ls) q ne = elim (topic == l.topic) as (λ b. (topic == l.topic) ≡ b →
-      cond (q == (cond b (fed_one l) l).topic) (cond b (fed_one l) l).position (positions_in (map (fed topic recs next) ls) q) ≡ cond (q == l.topic) l.position (positions_in ls q)) [
-        | true ↦ λ e.
-            let no : (q == l.topic) ≡ false = subst (λ n. (q == n) ≡ false) (eqb-true topic l.topic e) ne in
-            ap (λ c. cond c next (positions_in (map (fed topic recs next) ls) q)) no ∙ position_other ls q ne ∙ sym (ap (λ c. cond c l.position (positions_in ls q)) no)
-        | false ↦ λ e. ap (λ s. cond (q == l.topic) l.position s) (position_other ls q ne)
-      ] refl
+  position_other (l ∷ ls) q ne = by (topic == l.topic) refl (position_other ls q ne)
+    where
+      by : (b : Bool) → (topic == l.topic) ≡ b → positions_in (fed_ones ls) q ≡ positions_in ls q → positions_in (cond b (fed recs next l ∷ ls) (l ∷ fed_ones ls)) q ≡ cond (q == l.topic) l.position (positions_in ls q)
+      by true e on =
+          let no : (q == l.topic) ≡ false = subst (λ n. (q == n) ≡ false) (eqb-true topic l.topic e) ne in
+          ap (λ c. cond c next (positions_in ls q)) no ∙ sym (ap (λ c. cond c l.position (positions_in ls q)) no)
+      by false e on = ap (λ s. cond (q == l.topic) l.position s) on
 
-  pub view_fed : (t : TaskId) (ls : List Changelog) → has_topic topic (numbers_of ls) ≡ true → view_in t (map (fed topic recs next) ls) ≡ fed_replica (view_in t ls) topic recs next
+  pub view_fed : (t : TaskId) (ls : List Changelog) → has_topic topic (numbers_of ls) ≡ true → view_in t (fed_ones ls) ≡ fed_replica (view_in t ls) topic recs next
   view_fed t ls there = ap₂ (λ (s : ℕ → Store) (p : ℕ → ℕ). record { task = t; stores = s; position = p })
-      (fun_ext (λ q. elim (q == topic) as (λ b. (q == topic) ≡ b → stores_in (map (fed topic recs next) ls) q ≡ cond b (latest_from (stores_in ls topic) (records_of recs)) (stores_in ls q)) [
-        | true ↦ λ e. ap (stores_in (map (fed topic recs next) ls)) (eqb-true q topic e) ∙ store_here ls there
+      (fun_ext (λ q. elim (q == topic) as (λ b. (q == topic) ≡ b → stores_in (fed_ones ls) q ≡ cond b (latest_from (stores_in ls topic) (records_of recs)) (stores_in ls q)) [
+        | true ↦ λ e. ap (stores_in (fed_ones ls)) (eqb-true q topic e) ∙ store_here ls there
         | false ↦ λ e. store_other ls q e
       ] refl))
-      (fun_ext (λ q. elim (q == topic) as (λ b. (q == topic) ≡ b → positions_in (map (fed topic recs next) ls) q ≡ cond b next (positions_in ls q)) [
-        | true ↦ λ e. ap (positions_in (map (fed topic recs next) ls)) (eqb-true q topic e) ∙ position_here ls there
+      (fun_ext (λ q. elim (q == topic) as (λ b. (q == topic) ≡ b → positions_in (fed_ones ls) q ≡ cond b next (positions_in ls q)) [
+        | true ↦ λ e. ap (positions_in (fed_ones ls)) (eqb-true q topic e) ∙ position_here ls there
         | false ↦ λ e. position_other ls q e
       ] refl))
 

@@ -21,10 +21,19 @@ positions_in (l ∷ ls) topic = if topic == l.topic then l.position else positio
 abbrev pub numbers_of : List Changelog → List ℕ
 numbers_of ls = map (λ (l : Changelog). l.topic) ls
 
--- after it was fed records of this changelog
-abbrev pub fed : ℕ → List (ℕ × Rec) → ℕ → Changelog → Changelog
-fed topic recs next l =
-    if topic == l.topic then record { topic = l.topic; position = next; store = kept_after l.store (records_of recs) } else l
+-- the place of the first changelog of a topic; past the last where there is none
+abbrev pub changelog_place : List Changelog → ℕ → ℕ
+changelog_place [] topic = 0
+changelog_place (l ∷ ls) topic = if topic == l.topic then 0 else changelog_place ls topic + 1
+
+-- a changelog after it was fed records
+abbrev pub fed : List (ℕ × Rec) → ℕ → Changelog → Changelog
+fed recs next l = record { topic = l.topic; position = next; store = kept_after l.store (records_of recs) }
+
+-- after the first changelog of a topic was fed records
+abbrev pub fed_in : ℕ → List (ℕ × Rec) → ℕ → List Changelog → List Changelog
+fed_in topic recs next [] = []
+fed_in topic recs next (l ∷ ls) = if topic == l.topic then fed recs next l ∷ ls else l ∷ fed_in topic recs next ls
 
 abbrev pub sum_of : List Changelog → ℕ
 sum_of [] = 0

@@ -1,7 +1,7 @@
 //! The changelogs of a task, and feeding them.
 ghost use Rattle.std.specs.Prelude.{◌≡◌, IfOk, OnOk, map};
 ghost use Rattle.ks_cache.specs.Kept.{empty_kept};
-ghost use Rattle.ks_standby.specs.Replicas.{positions_in, fed};
+ghost use Rattle.ks_standby.specs.Replicas.{positions_in, changelog_place, fed, fed_in};
 
 use ks_cache::{Changelog, TaskStore};
 use ks_record::Rec;
@@ -41,19 +41,31 @@ pub fn position_in_changelog(changelogs: &[Changelog], topic: u16) -> u64
     0
 }
 
+// The place of the first changelog of a topic; past the last where there is none.
+fn place_of(changelogs: &[Changelog], topic: u16) -> usize
+    ensures { result ≡ changelog_place changelogs.now topic }
+{
+    let mut at = 0;
+    let mut rest = changelogs;
+    while let [changelog, more @ ..] = rest {
+        if topic == changelog.topic {
+            return at;
+        }
+        rest = more;
+        at += 1;
+    }
+    at
+}
+
 fn feed_changelog(
     changelog: &mut Changelog,
-    topic: u16,
-    recs: &[(u64, Rec)],
+    recs: Vec<(u64, Rec)>,
     next: u64,
 ) -> Result<(), AllocError>
-    ensures ok { OnOk result (changelog.new ≡ fed topic recs.now next changelog.old) }
-    ensures topic { changelog.new.topic ≡ changelog.old.topic }
+    ensures { OnOk result (changelog.new ≡ fed recs.items next changelog.old) }
 {
-    if topic == changelog.topic {
-        changelog.store.restore(recs)?;
-        changelog.position = next;
-    }
+    changelog.store.restore(recs)?;
+    changelog.position = next;
     Ok(())
 }
 
@@ -62,14 +74,15 @@ fn feed_changelog(
 pub fn feed_changelogs(
     changelogs: &mut Vec<Changelog>,
     topic: u16,
-    recs: &[(u64, Rec)],
+    recs: Vec<(u64, Rec)>,
     next: u64,
 ) -> Result<(), AllocError>
     ensures { OnOk result (changelogs.new.items
-        ≡ map (fed topic recs.now next) changelogs.old.items) }
+        ≡ fed_in topic recs.items next changelogs.old.items) }
 {
-    for i in 0..changelogs.len() {
-        feed_changelog(&mut changelogs[i], topic, recs, next)?;
+    let at = place_of(changelogs.as_slice(), topic);
+    if at < changelogs.len() {
+        feed_changelog(&mut changelogs[at], recs, next)?;
     }
     Ok(())
 }

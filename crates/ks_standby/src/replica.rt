@@ -41,13 +41,13 @@ impl Replica {
     /// Feeds the records, with their offsets, that a fetch of a changelog's partition gave from the position on; the position is then
     /// `next`, where the next fetch goes on. It follows afterwards every journal that it followed before and in which a fetch gives
     /// these. After want of memory the replica is to be dropped.
-    pub fn feed(&mut self, topic: u16, recs: &[(u64, Rec)], next: u64) -> Result<(), AllocError>
+    pub fn feed(&mut self, topic: u16, recs: Vec<(u64, Rec)>, next: u64) -> Result<(), AllocError>
         requires { has_topic topic (changelogs_of self.old) ≡ true }
         ensures view { OnOk result (replica_view self.new
-            ≡ fed_replica (replica_view self.old) topic recs.now next) }
+            ≡ fed_replica (replica_view self.old) topic recs.items next) }
         ensures changelogs { OnOk result (changelogs_of self.new ≡ changelogs_of self.old) }
         ensures follows { OnOk result ((setup : Setup) (journal : List Entry)
-            → GivesFetched setup journal (replica_view self.old) topic recs.now next
+            → GivesFetched setup journal (replica_view self.old) topic recs.items next
             → FollowsOn setup journal (replica_view self.old) (replica_view self.new)) }
     {
         feed_changelogs(&mut self.changelogs, topic, recs, next)

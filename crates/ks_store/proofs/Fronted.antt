@@ -11,15 +11,15 @@ use Rattle.std.specs.Cmp.{eq_by_cmp_equiv}
 use Rattle.std.specs.Cmp.Lexicographic.{pointwise, texts_ties}
 use Rattle.std.specs.List.{starts_with, AllByRecursion}
 use Rattle.std.specs.Map.{lookup, KeepsOthers}
-use Rattle.std.specs.FinMap.Entries.{find, put, where_key, by_order, is_sorted-put, is_sorted-where_key}
+use Rattle.std.specs.FinMap.Entries.{find, put, where_key, by_order, find-where_key, is_sorted-put, is_sorted-where_key}
 use Rattle.std.proofs.lemmas.Bool.{true≢false}
 use Rattle.std.proofs.lemmas.Cmp.{nat_list_cmp_total}
 use Rattle.ks_def_runs.specs.Bytes.{by_bytes}
 use Rattle.ks_store.specs.declared.groups.Group.{Group}
 use Rattle.ks_store.specs.declared.groups.Group.TheVariants.{One, Many}
-use Rattle.ks_store.specs.Groups.{Keys, front_end, front_in, is_some_of, keys_in, with_key, keys_without, is_only_key, IsGroup, groups_of, keys_or_none, listed_under, AreGroups, IsListed, StayListed, OthersStay}
+use Rattle.ks_store.specs.Groups.{Keys, front_end, front_in, is_some_of, keys_in, with_key, keys_without, is_only_key, IsGroup, groups_of, keys_or_none, listed_under, AreGroups, is_among, is_listed, ListSame, ListSameBut}
 use Rattle.ks_store.proofs.Trees.{under}
-use Rattle.ks_store.proofs.Tables.{same_key, alike_test, apart_test, still_some, now_some, others_stay}
+use Rattle.ks_store.proofs.Tables.{same, same_key, alike_test, apart_test, some_put, found_put, as_before}
 
 abbrev Grouped : Type 0
 Grouped = List (List ℕ × Keys)
@@ -120,39 +120,42 @@ own_where front p (e ∷ es) h = by (p e.0) (own_where front p es h.1)
     by true g = (h.0, g)
     by false g = g
 
--- what a group has that one more key is put into, or that want of memory left
-pub record Grows (r : Result ⊤ AllocError) (front key : List ℕ) (old new : Keys) : Type 0 where
-  pub group : IsGroup front new
-  pub stays : (q : List ℕ) → is_some (find by_bytes q old) ≡ true → is_some (find by_bytes q new) ≡ true
-  pub has : OnOk r (is_some (find by_bytes key new) ≡ true)
-
-pub grows : (r : Result ⊤ AllocError) (front key : List ℕ) (old new : Keys) → front_in key ≡ Some front → IsGroup front old → OnOk r (new ≡ with_key key old) → OnErr r (new ≡ old) → Grows r front key old new
-grows (Ok u) front key old new f h ok err = record {
-  group = subst (IsGroup front) (sym ok) (is_sorted-put by_bytes nat_list_cmp_total key [] old h.0, own_put front key [] old f h.1);
-  stays = λ q has. subst (λ (x : Keys). is_some (find by_bytes q x) ≡ true) (sym ok) (still_some q key [] old has);
-  has = subst (λ (x : Keys). is_some (find by_bytes key x) ≡ true) (sym ok) (now_some key [] old);
-}
-grows (Err x) front key old new f h ok err = record {
-  group = subst (IsGroup front) (sym err) h;
-  stays = λ q has. subst (λ (x : Keys). is_some (find by_bytes q x) ≡ true) (sym err) has;
-  has = tt;
-}
+-- a group that one more key is put into
+pub with_group : (front key : List ℕ) (keys : Keys) → front_in key ≡ Some front → IsGroup front keys → IsGroup front (with_key key keys)
+with_group front key keys f h = (is_sorted-put by_bytes nat_list_cmp_total key [] keys h.0, own_put front key [] keys f h.1)
 
 -- the first key of a front
 pub one_key : (front key : List ℕ) → front_in key ≡ Some front → IsGroup front ((key, []) ∷ [])
 one_key front key f = (tt, (f, tt))
 
-pub one_found : (key : List ℕ) → is_some {T = List ℕ} (find by_bytes key ((key, []) ∷ [])) ≡ true
-one_found key = ap (λ (b : Bool). is_some {T = List ℕ} (cond {A = Option (List ℕ)} b (Some []) None)) (tied key)
+pub one_found : (key q : List ℕ) → is_some {T = List ℕ} (find by_bytes q ((key, []) ∷ [])) ≡ cond (eq_by_cmp by_bytes q key) true false
+one_found key q = some_put (eq_by_cmp by_bytes q key) [] None
 
 -- a key taken from its group
 pub without_group : (front key : List ℕ) (g : Group) → IsGroup front (keys_in g) → IsGroup front (keys_without key g)
 without_group front key (One own) h = h
 without_group front key (Many pairs) h = (is_sorted-where_key by_bytes (λ k. not (eq_by_cmp by_bytes key k)) (keys_in (Many pairs)) h.0, own_where front (λ k. not (eq_by_cmp by_bytes key k)) (keys_in (Many pairs)) h.1)
 
-pub without_others : (key : List ℕ) (g : Group) (q : List ℕ) → eq_by_cmp by_bytes q key ≡ false → find by_bytes q (keys_without key g) ≡ find by_bytes q (keys_in g)
-without_others key (One own) q apart = refl
-without_others key (Many pairs) q apart = others_stay key (keys_in (Many pairs)) (keys_without key (Many pairs)) refl q apart
+-- what is found of a group without a key, where this one isn't the only one
+pub without_found : (key : List ℕ) (g : Group) (q : List ℕ) → is_only_key (Some g) key ≡ false → is_some (find by_bytes q (keys_without key g)) ≡ cond (eq_by_cmp by_bytes q key) false (is_some (find by_bytes q (keys_in g)))
+without_found key (One own) q other = by (eq_by_cmp by_bytes q key) refl
+  where
+    symm : (x y : List ℕ) → eq_by_cmp by_bytes x y ≡ eq_by_cmp by_bytes y x
+    symm = (eq_by_cmp_equiv nat_list_cmp_total).symm
+
+    by : (b : Bool) → eq_by_cmp by_bytes q key ≡ b → is_some (cond {A = Option (List ℕ)} (eq_by_cmp by_bytes q own.items) (Some []) None) ≡ cond b false (is_some (cond {A = Option (List ℕ)} (eq_by_cmp by_bytes q own.items) (Some []) None))
+    by true e =
+        ap (λ (b : Bool). is_some (cond {A = Option (List ℕ)} b (Some []) None))
+        (ap (λ (x : List ℕ). eq_by_cmp by_bytes x own.items) (same_key q key e) ∙ (symm key own.items ∙ (sym (texts_ties own.items key) ∙ other)))
+    by false e = refl
+without_found key (Many pairs) q other =
+    ap is_some (find-where_key by_bytes (λ x. not (eq_by_cmp by_bytes key x)) q (λ x t. ap (λ (y : List ℕ). not (eq_by_cmp by_bytes key y)) (sym (same q x t))) (keys_in (Many pairs)))
+    ∙ (ap (λ (b : Bool). is_some (cond (not b) (find by_bytes q (keys_in (Many pairs))) None)) ((eq_by_cmp_equiv nat_list_cmp_total).symm key q)
+    ∙ kept (eq_by_cmp by_bytes q key) (find by_bytes q (keys_in (Many pairs))))
+  where
+    kept : (b : Bool) (o : Option (List ℕ)) → is_some (cond (not b) o None) ≡ cond b false (is_some o)
+    kept true o = refl
+    kept false o = refl
 
 -- of a key that is alone no other is found
 pub only_found : (key : List ℕ) (o : Option Group) (q : List ℕ) → is_only_key o key ≡ true → eq_by_cmp by_bytes q key ≡ false → is_some (find by_bytes q (keys_or_none (option_map keys_in o))) ≡ false
@@ -203,23 +206,52 @@ groups_changed f keys old new is h own q = subst (IsGroup q) (sym (is q)) (by (e
     by true e = subst (λ (x : List ℕ). IsGroup x keys) (sym (same_key q f e)) own
     by false e = h q
 
--- a key stays listed where it does at that front
-pub listed_changed : (f : List ℕ) (keys : Keys) (old new : Grouped) → ChangesAt f keys old new → (q : List ℕ) → (is_some (find by_bytes q (listed_under f old)) ≡ true → is_some (find by_bytes q keys) ≡ true) → IsListed q old → IsListed q new
-listed_changed f keys old new is q stays h front e = ap (λ (x : Keys). is_some (find by_bytes q x)) (is front) ∙ by (eq_by_cmp by_bytes front f) refl
+-- where the keys of that front are the same, the same are listed
+pub listed_same : (f : List ℕ) (keys : Keys) (old new : Grouped) → ChangesAt f keys old new → keys ≡ listed_under f old → ListSame old new
+listed_same f keys old new is same_keys q = by (front_in q)
   where
-    by : (b : Bool) → eq_by_cmp by_bytes front f ≡ b → is_some (find by_bytes q (cond b keys (listed_under front old))) ≡ true
-    by true t = stays (subst (λ (x : List ℕ). is_some (find by_bytes q (listed_under x old)) ≡ true) (same_key front f t) (h front e))
-    by false t = h front e
+    here : (front : List ℕ) (b : Bool) → eq_by_cmp by_bytes front f ≡ b → cond b keys (listed_under front old) ≡ listed_under front old
+    here front true e = same_keys ∙ ap (λ (x : List ℕ). listed_under x old) (sym (same_key front f e))
+    here front false e = refl
 
-pub listed_now : (f : List ℕ) (keys : Keys) (old new : Grouped) → ChangesAt f keys old new → (q : List ℕ) → front_in q ≡ Some f → is_some (find by_bytes q keys) ≡ true → IsListed q new
-listed_now f keys old new is q own has front e =
-    let front-is : f ≡ front = same_some f front (sym own ∙ e) in
-    subst (λ (x : List ℕ). is_some (find by_bytes q (listed_under x new)) ≡ true) front-is
-    (ap (λ (x : Keys). is_some (find by_bytes q x)) (is f) ∙ (ap (λ (b : Bool). is_some (find by_bytes q (cond b keys (listed_under f old)))) (tied f) ∙ has))
+    by : (o : Option (List ℕ)) → is_among o q new ≡ is_among o q old
+    by None = refl
+    by (Some front) = ap (λ (x : Keys). is_some (find by_bytes q x)) (is front ∙ here front (eq_by_cmp by_bytes front f) refl)
 
--- a key without a front is listed
-pub listed_alone : (q : List ℕ) (groups : Grouped) → None ≡ front_in q → IsListed q groups
-listed_alone q groups none front e = absurd (true≢false (sym (ap is_some (none ∙ e))))
+-- where the keys of that front are the same but for one, so are those that are listed
+pub listed_but : (f key : List ℕ) (w : Bool) (keys : Keys) (old new : Grouped) → ChangesAt f keys old new → front_in key ≡ Some f →
+    ((q : List ℕ) → is_some (find by_bytes q keys) ≡ cond (eq_by_cmp by_bytes q key) w (is_some (find by_bytes q (listed_under f old)))) → ListSameBut key w old new
+listed_but f key w keys old new is own inner q = by (front_in q) refl
+  where
+    no_front : (b : Bool) → eq_by_cmp by_bytes q key ≡ b → front_in q ≡ None → false ≡ cond b w false
+    no_front true t e = absurd (true≢false (sym (ap is_some (sym e ∙ (ap front_in (same_key q key t) ∙ own)))))
+    no_front false t e = refl
+
+    apart : (front : List ℕ) (b : Bool) → eq_by_cmp by_bytes q key ≡ b → front_in q ≡ Some front → eq_by_cmp by_bytes front f ≡ false → b ≡ false
+    apart front true t e other =
+        absurd (true≢false (sym (ap (λ (x : List ℕ). eq_by_cmp by_bytes x f) (same_some front f (sym e ∙ (ap front_in (same_key q key t) ∙ own))) ∙ tied f) ∙ other))
+    apart front false t e other = refl
+
+    at : (front : List ℕ) (b : Bool) → eq_by_cmp by_bytes front f ≡ b → front_in q ≡ Some front →
+        is_some (find by_bytes q (cond b keys (listed_under front old))) ≡ cond (eq_by_cmp by_bytes q key) w (is_some (find by_bytes q (listed_under front old)))
+    at front true t e = inner q ∙ ap (λ (x : List ℕ). cond (eq_by_cmp by_bytes q key) w (is_some (find by_bytes q (listed_under x old)))) (sym (same_key front f t))
+    at front false t e = sym (ap (λ (b : Bool). cond b w (is_some (find by_bytes q (listed_under front old)))) (apart front (eq_by_cmp by_bytes q key) refl e t))
+
+    by : (o : Option (List ℕ)) → front_in q ≡ o → is_among o q new ≡ cond (eq_by_cmp by_bytes q key) w (is_among o q old)
+    by None e = no_front (eq_by_cmp by_bytes q key) refl e
+    by (Some front) e = ap (λ (x : Keys). is_some (find by_bytes q x)) (is front) ∙ at front (eq_by_cmp by_bytes front f) refl e
+
+-- whether a key with a front is listed, after it was
+pub key_listed : (r : Result ⊤ AllocError) (key front : List ℕ) (old new : Grouped) → Some front ≡ front_in key → OnOk r (ListSameBut key true old new) → OnOk r (ListSameBut key (is_some (front_in key)) old new)
+key_listed r key front old new own = subst (λ (o : Option (List ℕ)). OnOk r (ListSameBut key true old new) → OnOk r (ListSameBut key (is_some o) old new)) own (λ h. h)
+
+-- a key without a front is listed nowhere
+pub listed_nowhere : (key : List ℕ) (groups : Grouped) → None ≡ front_in key → is_listed key groups ≡ false
+listed_nowhere key groups none = ap (λ (o : Option (List ℕ)). is_among o key groups) (sym none)
+
+-- where it is neither listed nor taken away nothing changes
+pub nowhere_still : (key : List ℕ) (b : Bool) (groups : Grouped) → None ≡ front_in key → b ≡ false → ListSameBut key b groups groups
+nowhere_still key b groups none is = as_before key b groups (listed_nowhere key groups none ∙ sym is)
 
 -- ---- what the calls on groups leave
 abbrev Groups : Type 0
@@ -242,67 +274,90 @@ none_here groups front absent = ap (λ (o : Option Group). keys_or_none (option_
 pub group_is : (groups : Groups) (front : List ℕ) (g : Group) → Some g ≡ lookup (At front) groups → AreGroups (groups_of groups) → IsGroup front (keys_in g)
 group_is groups front g there are = subst (IsGroup front) (sym (group_here groups front g there)) (are front)
 
--- what was listed still is, and this key
+-- this key is listed too, or after want of memory the same ones
 abbrev pub ListsWith : Result ⊤ AllocError → List ℕ → Grouped → Grouped → Type 0
-ListsWith r key old new = AreGroups new × StayListed old new × OnOk r (IsListed key new)
+ListsWith r key old new = AreGroups new × OnOk r (ListSameBut key true old new) × OnErr r (ListSame old new)
 
 pub group_found : {o : Option Group} {g : Group} → Some g ≡ o → IsSome o
 group_found {o} e = subst IsSome e refl
 
-on_ok_listed : (r : Result ⊤ AllocError) (f key : List ℕ) (keys : Keys) (old new : Grouped) → ChangesAt f keys old new → front_in key ≡ Some f → OnOk r (is_some (find by_bytes key keys) ≡ true) → OnOk r (IsListed key new)
-on_ok_listed (Ok u) f key keys old new is own has = listed_now f keys old new is key own has
-on_ok_listed (Err x) f key keys old new is own has = tt
+-- what is so in any case is so after want of memory
+pub on_err : (r : Result ⊤ AllocError) (old new : Grouped) → ListSame old new → OnErr r (ListSame old new)
+on_err (Ok u) old new h = tt
+on_err (Err e) old new h = h
 
 -- a key is put into the group of its front, or want of memory left it
 pub added : (r : Result ⊤ AllocError) (old new : Groups) (front key copy : List ℕ) (g h : Group) → copy ≡ key → Some front ≡ front_in key → Some g ≡ lookup (At front) old → lookup (At front) new ≡ Some h → Keeps front old new →
     OnOk r (keys_in h ≡ with_key copy (keys_in g)) → OnErr r (keys_in h ≡ keys_in g) → AreGroups (groups_of old) → ListsWith r key (groups_of old) (groups_of new)
-added r old new front key copy g h same own there at others ok err are =
+added (Ok u) old new front key copy g h same_own own there at others ok err are =
     let here : keys_in g ≡ listed_under front (groups_of old) = group_here old front g there in
     let is : ChangesAt front (keys_in h) (groups_of old) (groups_of new) = regrouped old new front (Some h) at others in
-    let grown : Grows r front key (keys_in g) (keys_in h) =
-    grows r front key (keys_in g) (keys_in h) (sym own) (subst (IsGroup front) (sym here) (are front))
-    (subst (λ (k : List ℕ). OnOk r (keys_in h ≡ with_key k (keys_in g))) same ok) err in (
-      groups_changed front (keys_in h) (groups_of old) (groups_of new) is are grown.group,
-      λ q. listed_changed front (keys_in h) (groups_of old) (groups_of new) is q (λ t. grown.stays q (subst (λ (x : Keys). is_some (find by_bytes q x) ≡ true) (sym here) t)),
-      on_ok_listed r front key (keys_in h) (groups_of old) (groups_of new) is (sym own) grown.has,
+    let more : keys_in h ≡ with_key key (listed_under front (groups_of old)) = ok ∙ (ap (λ (k : List ℕ). with_key k (keys_in g)) same_own ∙ ap (with_key key) here) in (
+      groups_changed front (keys_in h) (groups_of old) (groups_of new) is are (subst (IsGroup front) (sym more) (with_group front key (listed_under front (groups_of old)) (sym own) (are front))),
+      listed_but front key true (keys_in h) (groups_of old) (groups_of new) is (sym own) (λ q. ap (λ (x : Keys). is_some (find by_bytes q x)) more ∙ found_put q key [] (listed_under front (groups_of old))),
+      tt,
+    )
+added (Err x) old new front key copy g h same_own own there at others ok err are =
+    let here : keys_in g ≡ listed_under front (groups_of old) = group_here old front g there in
+    let is : ChangesAt front (keys_in h) (groups_of old) (groups_of new) = regrouped old new front (Some h) at others in (
+      groups_changed front (keys_in h) (groups_of old) (groups_of new) is are (subst (IsGroup front) (sym (err ∙ here)) (are front)),
+      tt,
+      listed_same front (keys_in h) (groups_of old) (groups_of new) is (err ∙ here),
     )
 
 -- the first key of a front
 pub begun : (old met new : Groups) (front f key : List ℕ) (own : Vec ℕ) → met ≡ old → f ≡ front → own.items ≡ key → Some front ≡ front_in key → None ≡ lookup (At front) old → lookup (At f) new ≡ Some (One own) → Keeps f met new →
-    AreGroups (groups_of old) → AreGroups (groups_of new) × StayListed (groups_of old) (groups_of new) × IsListed key (groups_of new)
-begun old met new front f key own as_met same same_own has_front_ absent at others_met are =
+    AreGroups (groups_of old) → AreGroups (groups_of new) × ListSameBut key true (groups_of old) (groups_of new)
+begun old met new front f key own as_met same_front same_own has_front_ absent at others_met are =
     let others : Keeps f old new = subst (λ (x : Groups). Keeps f x new) as_met others_met in
-    let empty : [] ≡ listed_under front (groups_of old) = ap (λ (o : Option Group). keys_or_none (option_map keys_in o)) absent ∙ listed_is old front in
+    let empty : [] ≡ listed_under front (groups_of old) = none_here old front absent in
     let keys = (own.items, []) ∷ [] in
     let is : ChangesAt front keys (groups_of old) (groups_of new) =
-    subst (λ (x : List ℕ). ChangesAt x keys (groups_of old) (groups_of new)) same (regrouped old new f (Some (One own)) at others) in (
+    subst (λ (x : List ℕ). ChangesAt x keys (groups_of old) (groups_of new)) same_front (regrouped old new f (Some (One own)) at others) in (
       groups_changed front keys (groups_of old) (groups_of new) is are (subst (λ (x : List ℕ). IsGroup front ((x, []) ∷ [])) (sym same_own) (one_key front key (sym has_front_))),
-      λ q. listed_changed front keys (groups_of old) (groups_of new) is q (λ t. absurd (true≢false (sym t ∙ ap (λ (x : Keys). is_some (find by_bytes q x)) (sym empty)))),
-      listed_now front keys (groups_of old) (groups_of new) is key (sym has_front_)
-          (subst (λ (x : List ℕ). is_some {T = List ℕ} (find by_bytes key ((x, []) ∷ [])) ≡ true) (sym same_own) (one_found key)),
+      listed_but front key true keys (groups_of old) (groups_of new) is (sym has_front_)
+          (λ q. ap (λ (x : List ℕ). is_some {T = List ℕ} (find by_bytes q ((x, []) ∷ []))) same_own
+          ∙ (one_found key q ∙ ap (λ (x : Keys). cond (eq_by_cmp by_bytes q key) true (is_some (find by_bytes q x))) empty)),
     )
 
 -- the group of a key that is alone goes
-pub gone : (old new : Groups) (front key : List ℕ) (o : Option Group) → o ≡ lookup (At front) old → is_only_key o key ≡ true → lookup (At front) new ≡ None → Keeps front old new →
-    AreGroups (groups_of old) → AreGroups (groups_of new) × OthersStay key (groups_of old) (groups_of new)
-gone old new front key o there only at others are =
+pub gone : (old new : Groups) (front key : List ℕ) (o : Option Group) → Some front ≡ front_in key → o ≡ lookup (At front) old → is_only_key o key ≡ true → lookup (At front) new ≡ None → Keeps front old new →
+    AreGroups (groups_of old) → AreGroups (groups_of new) × ListSameBut key false (groups_of old) (groups_of new)
+gone old new front key o own there only at others are =
     let here : keys_or_none (option_map keys_in o) ≡ listed_under front (groups_of old) = ap (λ (x : Option Group). keys_or_none (option_map keys_in x)) there ∙ listed_is old front in
     let is : ChangesAt front [] (groups_of old) (groups_of new) = regrouped old new front None at others in (
       groups_changed front [] (groups_of old) (groups_of new) is are (tt, tt),
-      λ q apart. listed_changed front [] (groups_of old) (groups_of new) is q
-          (λ t. absurd (true≢false (sym t ∙ (ap (λ (x : Keys). is_some (find by_bytes q x)) (sym here) ∙ only_found key o q only apart)))),
+      listed_but front key false [] (groups_of old) (groups_of new) is (sym own)
+          (λ q. none_left key o q only ∙ ap (λ (x : Keys). cond (eq_by_cmp by_bytes q key) false (is_some (find by_bytes q x))) here),
     )
+  where
+    none_left : (key : List ℕ) (o : Option Group) (q : List ℕ) → is_only_key o key ≡ true → false ≡ cond (eq_by_cmp by_bytes q key) false (is_some (find by_bytes q (keys_or_none (option_map keys_in o))))
+    none_left key o q only = by (eq_by_cmp by_bytes q key) refl
+      where
+        by : (b : Bool) → eq_by_cmp by_bytes q key ≡ b → false ≡ cond b false (is_some (find by_bytes q (keys_or_none (option_map keys_in o))))
+        by true e = refl
+        by false e = sym (only_found key o q only e)
 
--- a key goes from its group
-pub taken : (old new : Groups) (front key : List ℕ) (g h : Group) → Some g ≡ lookup (At front) old → lookup (At front) new ≡ Some h → Keeps front old new → keys_in h ≡ keys_without key g →
-    AreGroups (groups_of old) → AreGroups (groups_of new) × OthersStay key (groups_of old) (groups_of new)
-taken old new front key g h there at others left are =
+pub not_only : {l : Option Group} {g : Group} {o : Option Group} (key : List ℕ) → Some g ≡ l → o ≡ l → is_only_key o key ≡ false → is_only_key (Some g) key ≡ false
+not_only key there found other = ap (λ (x : Option Group). is_only_key x key) (there ∙ sym found) ∙ other
+
+-- a key goes from its group, in which it isn't alone
+pub taken : (old new : Groups) (front key : List ℕ) (g h : Group) → Some front ≡ front_in key → Some g ≡ lookup (At front) old → is_only_key (Some g) key ≡ false → lookup (At front) new ≡ Some h → Keeps front old new →
+    keys_in h ≡ keys_without key g → AreGroups (groups_of old) → AreGroups (groups_of new) × ListSameBut key false (groups_of old) (groups_of new)
+taken old new front key g h own there other at others left are =
     let here : keys_in g ≡ listed_under front (groups_of old) = group_here old front g there in
     let is : ChangesAt front (keys_in h) (groups_of old) (groups_of new) = regrouped old new front (Some h) at others in (
       groups_changed front (keys_in h) (groups_of old) (groups_of new) is are (subst (IsGroup front) (sym left) (without_group front key g (subst (IsGroup front) (sym here) (are front)))),
-      λ q apart. listed_changed front (keys_in h) (groups_of old) (groups_of new) is q
-          (λ t. ap is_some (ap (find by_bytes q) left ∙ without_others key g q apart) ∙ subst (λ (x : Keys). is_some (find by_bytes q x) ≡ true) (sym here) t),
+      listed_but front key false (keys_in h) (groups_of old) (groups_of new) is (sym own)
+          (λ q. ap (λ (x : Keys). is_some (find by_bytes q x)) left
+          ∙ (without_found key g q other ∙ ap (λ (x : Keys). cond (eq_by_cmp by_bytes q key) false (is_some (find by_bytes q x))) here)),
     )
+
+-- a front without a group
+pub absent : (groups : Groups) (front key : List ℕ) → Some front ≡ front_in key → None ≡ lookup (At front) groups → ListSameBut key false (groups_of groups) (groups_of groups)
+absent groups front key own none =
+    as_before key false (groups_of groups)
+    (ap (λ (o : Option (List ℕ)). is_among o key (groups_of groups)) (sym own) ∙ ap (λ (x : Keys). is_some (find by_bytes key x)) (sym (none_here groups front none)))
 
 -- ---- what two keys of a front leave
 pub both_put : (one other a v w : List ℕ) (none first second : Keys) → none ≡ [] → first ≡ put by_bytes a v none → second ≡ put by_bytes other w first → a ≡ one → v ≡ [] → w ≡ [] → second ≡ with_key other (with_key one [])

@@ -24,16 +24,30 @@ use Rattle.ks_store.specs.Pairs.{Rises}
 use Rattle.ks_def_runs.specs.Pairs.{ArePairs}
 use Rattle.ks_def_runs.specs.Prefixes.{pairs_under}
 use Rattle.ks_store.specs.declared.groups.Group.{Group}
-use Rattle.ks_store.specs.Groups.{groups_of, AreGroups, IsListed, StayListed, Lists}
-use Rattle.ks_store.specs.Rows.{rows_by, short_rows, long_rows, AreApart, row_store, with_found, rows_for, IsTable}
+use Rattle.ks_store.specs.Groups.{front_in, groups_of, listed_under, AreGroups, is_among, is_listed, ListSame, ListSameBut, ListsRows}
+use Rattle.ks_store.specs.Rows.{HashedRows, HashedStore, rows_by, short_rows, long_rows, AreApart, row_store, with_found, rows_for, IsTable}
 use Rattle.ks_store.proofs.Trees.{first, second, under, bytes_where, bytes_put}
 
 abbrev Pairs : Type 0
 Pairs = List (List ℕ × List ℕ)
 
+-- ---- what is seen
+
+abbrev pub rows_in : HashedRows → Pairs
+rows_in r = r.rows
+
+abbrev pub start_in : HashedRows → ℕ
+start_in r = r.start
+
+abbrev pub store_in : HashedStore → Store
+store_in s = s.store
+
+abbrev pub start_of_store : HashedStore → ℕ
+start_of_store s = s.start
+
 -- ---- tests of keys
 
-same : (x y : List ℕ) → by_bytes x y ≡ Equal → x ≡ y
+pub same : (x y : List ℕ) → by_bytes x y ≡ Equal → x ≡ y
 same = slice_cmp-IsAntisymmetric nat_cmp-IsAntisymmetric
 
 is_equal : (o : Ordering) → is_eq o ≡ true → o ≡ Equal
@@ -317,38 +331,62 @@ bytes_after_take old new k is h = subst ArePairs (sym (ap (λ (m : Store). fin.e
 
 -- ---- the list of keys
 
-some_put : (b : Bool) (v : List ℕ) (o : Option (List ℕ)) → is_some o ≡ true → is_some (cond b (Some v) o) ≡ true
-some_put true v o h = refl
-some_put false v o h = h
+-- what is found in one more, by whether the key is the new one
+pub some_put : (b : Bool) (v : List ℕ) (o : Option (List ℕ)) → is_some (cond b (Some v) o) ≡ cond b true (is_some o)
+some_put true v o = refl
+some_put false v o = refl
 
-pub still_some : (q k v : List ℕ) (es : Pairs) → is_some (find by_bytes q es) ≡ true → is_some (find by_bytes q (put by_bytes k v es)) ≡ true
-still_some q k v es h = ap is_some (find-put by_bytes nat_list_cmp_total q k v es) ∙ some_put (eq_by_cmp by_bytes q k) v (find by_bytes q es) h
+pub some_take : (b : Bool) (o : Option (List ℕ)) → is_some (cond b None o) ≡ cond b false (is_some o)
+some_take true o = refl
+some_take false o = refl
 
-pub now_some : (k v : List ℕ) (es : Pairs) → is_some (find by_bytes k (put by_bytes k v es)) ≡ true
-now_some k v es = ap is_some (find-put by_bytes nat_list_cmp_total k k v es) ∙ ap (λ b. is_some (cond b (Some v) (find by_bytes k es))) ((eq_by_cmp_equiv nat_list_cmp_total).refl k)
+pub found_put : (q k v : List ℕ) (es : Pairs) → is_some (find by_bytes q (put by_bytes k v es)) ≡ cond (eq_by_cmp by_bytes q k) true (is_some (find by_bytes q es))
+found_put q k v es = ap is_some (find-put by_bytes nat_list_cmp_total q k v es) ∙ some_put (eq_by_cmp by_bytes q k) v (find by_bytes q es)
+
+-- of the key itself nothing new is known
+pub as_before : (k : List ℕ) (b : Bool) (groups : List (List ℕ × Pairs)) → is_listed k groups ≡ b → ListSameBut k b groups groups
+as_before k b groups is q = by (eq_by_cmp by_bytes q k) refl
+  where
+    by : (c : Bool) → eq_by_cmp by_bytes q k ≡ c → is_listed q groups ≡ cond c b (is_listed q groups)
+    by true e = ap (λ (x : List ℕ). is_listed x groups) (same_key q k e) ∙ is
+    by false e = refl
+
+-- a key with a row is listed, where it has a front
+pub had_listed : (rows : Pairs) (groups : List (List ℕ × Pairs)) (k : List ℕ) → ListsRows rows groups → is_some (find by_bytes k rows) ≡ true → is_listed k groups ≡ is_some (front_in k)
+had_listed rows groups k lists had = by (front_in k) refl
+  where
+    by : (o : Option (List ℕ)) → front_in k ≡ o → is_among o k groups ≡ is_some o
+    by None e = refl
+    by (Some f) e = ap (λ (o : Option (List ℕ)). is_among o k groups) (sym e) ∙ (lists k (ap is_some e) ∙ had)
+
+-- a key with a row stands in the group of its front
+pub under_front : (rows : Pairs) (groups : List (List ℕ × Pairs)) (front q : List ℕ) → ListsRows rows groups → front_in q ≡ Some front → is_some (find by_bytes q rows) ≡ true →
+    is_some (find by_bytes q (listed_under front groups)) ≡ true
+under_front rows groups front q lists own has = ap (λ (o : Option (List ℕ)). is_among o q groups) (sym own) ∙ (lists q (ap is_some own) ∙ has)
+
+-- no key is listed in no groups
+pub none_listed : (q : List ℕ) → is_listed q [] ≡ false
+none_listed q = by (front_in q)
+  where
+    by : (o : Option (List ℕ)) → is_among o q [] ≡ false
+    by None = refl
+    by (Some f) = refl
 
 -- after a row is put
-pub lists_put : (old new : Pairs) (groups : List (List ℕ × Pairs)) (k v : List ℕ) → ((q : List ℕ) → find by_bytes q new ≡ cond (eq_by_cmp by_bytes q k) (Some v) (find by_bytes q old)) → Lists old groups → IsListed k groups → Lists new groups
-lists_put old new groups k v is lists has q some = by (eq_by_cmp by_bytes q k) refl (ap is_some (sym (is q)) ∙ some)
+pub lists_put : (old new : Pairs) (groups more : List (List ℕ × Pairs)) (k v : List ℕ) → ((q : List ℕ) → find by_bytes q new ≡ cond (eq_by_cmp by_bytes q k) (Some v) (find by_bytes q old)) → ListsRows old groups →
+    ListSameBut k (is_some (front_in k)) groups more → ListsRows new more
+lists_put old new groups more k v is lists same_but q fronted =
+    same_but q ∙ (by (eq_by_cmp by_bytes q k) refl ∙ sym (ap is_some (is q) ∙ some_put (eq_by_cmp by_bytes q k) v (find by_bytes q old)))
   where
-    by : (b : Bool) → eq_by_cmp by_bytes q k ≡ b → is_some (cond b (Some v) (find by_bytes q old)) ≡ true → IsListed q groups
-    by true e h = subst (λ (x : List ℕ). IsListed x groups) (sym (same_key q k e)) has
-    by false e h = lists q h
+    by : (b : Bool) → eq_by_cmp by_bytes q k ≡ b → cond b (is_some (front_in k)) (is_listed q groups) ≡ cond b true (is_some (find by_bytes q old))
+    by true e = ap (λ (x : List ℕ). is_some (front_in x)) (sym (same_key q k e)) ∙ fronted
+    by false e = lists q fronted
 
 -- after a row is taken, and its key from the groups
-pub lists_take : (old new : Pairs) (groups fewer : List (List ℕ × Pairs)) (k : List ℕ) → ((q : List ℕ) → find by_bytes q new ≡ cond (eq_by_cmp by_bytes q k) None (find by_bytes q old)) → Lists old groups →
-    ((q : List ℕ) → eq_by_cmp by_bytes q k ≡ false → IsListed q groups → IsListed q fewer) → Lists new fewer
-lists_take old new groups fewer k is lists others q some = by (eq_by_cmp by_bytes q k) refl (ap is_some (sym (is q)) ∙ some)
-  where
-    by : (b : Bool) → eq_by_cmp by_bytes q k ≡ b → is_some (cond b None (find by_bytes q old)) ≡ true → IsListed q fewer
-    by true e h = absurd (true≢false (sym h))
-    by false e h = others q e (lists q h)
-
--- what is found elsewhere where the key k is taken from a list
-pub others_stay : (k : List ℕ) (es fs : Pairs) → fs ≡ where_key by_bytes (λ x. not (eq_by_cmp by_bytes k x)) es → (q : List ℕ) → eq_by_cmp by_bytes q k ≡ false → find by_bytes q fs ≡ find by_bytes q es
-others_stay k es fs is q apart =
-    ap (find by_bytes q) is ∙ (find-where_key by_bytes (λ x. not (eq_by_cmp by_bytes k x)) q (λ x t. ap (λ (y : List ℕ). not (eq_by_cmp by_bytes k y)) (sym (same q x t))) es
-    ∙ ap (λ b. cond (not b) (find by_bytes q es) None) ((eq_by_cmp_equiv nat_list_cmp_total).symm k q ∙ apart))
+pub lists_take : (old new : Pairs) (groups fewer : List (List ℕ × Pairs)) (k : List ℕ) → ((q : List ℕ) → find by_bytes q new ≡ cond (eq_by_cmp by_bytes q k) None (find by_bytes q old)) → ListsRows old groups →
+    ListSameBut k false groups fewer → ListsRows new fewer
+lists_take old new groups fewer k is lists same_but q fronted =
+    same_but q ∙ (ap (cond (eq_by_cmp by_bytes q k) false) (lists q fronted) ∙ sym (ap is_some (is q) ∙ some_take (eq_by_cmp by_bytes q k) (find by_bytes q old)))
 
 -- ---- the rows of a list of keys
 
@@ -448,16 +486,15 @@ empty_bytes = tt
 
 pub new_table : (rows : Pairs) (gs : List (Vec ℕ × Group)) → rows ≡ [] → gs ≡ [] → IsTable rows (groups_of gs)
 new_table rows gs e f =
-    let none : IsTable [] [] = ((λ q. (tt, tt), λ q h. absurd (true≢false (sym h))), sym (fin.len-empty by_bytes (List ℕ)), empty_bytes) in
+    let none : IsTable [] [] = ((λ q. (tt, tt), λ q h. none_listed q), sym (fin.len-empty by_bytes (List ℕ)), empty_bytes) in
     subst (λ (x : Pairs). IsTable x (groups_of gs)) (sym e) (subst (λ (y : List (Vec ℕ × Group)). IsTable [] (groups_of y)) (sym f) none)
 
 pub put_table : (old new : Pairs) (groups more : List (List ℕ × Pairs)) (k v : List ℕ) → Changes k (Some v) old new → length new ≡ length old + cond (is_some (find by_bytes k old)) 0 1 →
-    AreGroups more → StayListed groups more → IsListed k more → IsBytes k × IsBytes v → IsTable old groups → IsTable new more
-put_table old new groups more k v is len are stay has b h =
+    AreGroups more → ListSameBut k (is_some (front_in k)) groups more → IsBytes k × IsBytes v → IsTable old groups → IsTable new more
+put_table old new groups more k v is len are same_but b h =
     let m : row_store new ≡ fin.insert (row_store old) k v = put_row old new k v is in
     let longer : length new ≡ cond (is_some (find by_bytes k old)) (length old) (length old + 1) = grown_by (is_some (find by_bytes k old)) (length old) (length new) len in
-    let lists : Lists old more = λ q some. stay q (h.0.1 q some) in
-    ((are, lists_put old new more k v is lists has), len_put old new k v h.1 m longer, bytes_after_put _ _ k v m b h.2)
+    ((are, lists_put old new groups more k v is h.0.1 same_but), len_put old new k v h.1 m longer, bytes_after_put _ _ k v m b h.2)
 
 -- a row that was put for a key without one, and then taken out again
 module _ (old put back : Pairs) (k v : List ℕ) (new_key : is_some (find by_bytes k old) ≡ false) (is : Changes k (Some v) old put) (gone : Changes k None put back) where
@@ -485,20 +522,20 @@ module _ (old put back : Pairs) (k v : List ℕ) (new_key : is_some (find by_byt
       counted m n l p q = omega (arith, p, q)
 
   pub undone_table : (groups more : List (List ℕ × Pairs)) → length put ≡ length old + cond (is_some (find by_bytes k old)) 0 1 → length back + cond (is_some (find by_bytes k put)) 1 0 ≡ length put →
-      AreGroups more → StayListed groups more → IsTable old groups → IsTable back more
-  undone_table groups more longer fewer are stay h = (
-    (are, λ q some. stay q (h.0.1 q (ap is_some (sym (found_as_before q)) ∙ some))),
+      AreGroups more → ListSame groups more → IsTable old groups → IsTable back more
+  undone_table groups more longer fewer are same_keys h = (
+    (are, λ q fronted. same_keys q ∙ (h.0.1 q fronted ∙ ap is_some (sym (found_as_before q)))),
     len_as_before longer fewer ∙ (h.1 ∙ ap (λ (m : Store). fin.len m) (sym map_as_before)),
     subst (λ (m : Store). ArePairs (fin.entries m)) (sym map_as_before) h.2,
   )
 
 pub take_table : (old new : Pairs) (groups fewer : List (List ℕ × Pairs)) (k : List ℕ) → Changes k None old new →
     length new + cond (is_some (find by_bytes k old)) 1 0 ≡ length old → AreGroups fewer →
-    ((q : List ℕ) → eq_by_cmp by_bytes q k ≡ false → IsListed q groups → IsListed q fewer) → IsTable old groups → IsTable new fewer
-take_table old new groups fewer k is len are others h =
+    ListSameBut k false groups fewer → IsTable old groups → IsTable new fewer
+take_table old new groups fewer k is len are same_but h =
     let m : row_store new ≡ fin.remove (row_store old) k = take_row old new k is in
     let shorter : length new ≡ cond (is_some (find by_bytes k old)) (length old - 1) (length old) = shrunk_by (is_some (find by_bytes k old)) (length old) (length new) len in
-    ((are, lists_take old new groups fewer k is h.0.1 others), len_take old new k h.1 m shorter, bytes_after_take _ _ k m h.2)
+    ((are, lists_take old new groups fewer k is h.0.1 same_but), len_take old new k h.1 m shorter, bytes_after_take _ _ k m h.2)
 
 -- ---- the rows of the first keys of a list, and one more
 

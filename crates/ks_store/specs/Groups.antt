@@ -1,5 +1,5 @@
 -- Keys that begin with a length, by what they so begin with.
-use Rattle.std.specs.Prelude.{◌≡◌, ℕ, ◌+◌, ◌==◌, nat_lt, nat_le, nat_eq, List, [], ◌∷◌, map, take, drop, length, Bool, true, false, not, Option, Some, None, option_map, is_some, if◌then◌else◌}
+use Rattle.std.specs.Prelude.{◌≡◌, ℕ, ◌+◌, ◌==◌, nat_lt, nat_le, nat_eq, List, [], ◌∷◌, map, take, drop, length, Bool, true, false, not, Option, Some, None, option_map, is_some, cond, if◌then◌else◌}
 use Rattle.std.specs.Global.{Vec}
 use Rattle.std.specs.List.{AllByRecursion}
 use Rattle.std.specs.Int.{w32, from_be_bytes}
@@ -68,18 +68,22 @@ listed_under front groups = keys_or_none (find by_bytes front groups)
 abbrev pub AreGroups : List (List ℕ × Keys) → Type 0
 AreGroups groups = (front : List ℕ) → IsGroup front (listed_under front groups)
 
--- a key stands with its front, where it has one
-abbrev pub IsListed : List ℕ → List (List ℕ × Keys) → Type 0
-IsListed key groups = (front : List ℕ) → front_in key ≡ Some front → is_some (find by_bytes key (listed_under front groups)) ≡ true
+abbrev pub is_among : Option (List ℕ) → List ℕ → List (List ℕ × Keys) → Bool
+is_among None key groups = false
+is_among (Some front) key groups = is_some (find by_bytes key (listed_under front groups))
 
--- what is listed stays so
-abbrev pub StayListed : List (List ℕ × Keys) → List (List ℕ × Keys) → Type 0
-StayListed old new = (q : List ℕ) → IsListed q old → IsListed q new
+-- whether a key stands in the group of its front; one without a front stands in none
+abbrev pub is_listed : List ℕ → List (List ℕ × Keys) → Bool
+is_listed key groups = is_among (front_in key) key groups
 
--- but for this key
-abbrev pub OthersStay : List ℕ → List (List ℕ × Keys) → List (List ℕ × Keys) → Type 0
-OthersStay key old new = (q : List ℕ) → eq_by_cmp by_bytes q key ≡ false → IsListed q old → IsListed q new
+-- the same keys are listed
+abbrev pub ListSame : List (List ℕ × Keys) → List (List ℕ × Keys) → Type 0
+ListSame old new = (q : List ℕ) → is_listed q new ≡ is_listed q old
 
--- each key that has a row is listed
-abbrev pub Lists : List (List ℕ × List ℕ) → List (List ℕ × Keys) → Type 0
-Lists rows groups = (q : List ℕ) → is_some (find by_bytes q rows) ≡ true → IsListed q groups
+-- but for this key, of which b says whether it is
+abbrev pub ListSameBut : List ℕ → Bool → List (List ℕ × Keys) → List (List ℕ × Keys) → Type 0
+ListSameBut key b old new = (q : List ℕ) → is_listed q new ≡ cond (eq_by_cmp by_bytes q key) b (is_listed q old)
+
+-- a key with a front is listed exactly where it has a row
+abbrev pub ListsRows : List (List ℕ × List ℕ) → List (List ℕ × Keys) → Type 0
+ListsRows rows groups = (q : List ℕ) → is_some (front_in q) ≡ true → is_listed q groups ≡ is_some (find by_bytes q rows)

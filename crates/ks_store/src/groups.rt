@@ -1,7 +1,8 @@
 //! The keys that begin with a length, by what they so begin with: a small tree for each such front, and none for a key that is alone.
-ghost use Rattle.std.specs.Prelude.{◌≡◌, ◌≤◌, [], IfOk, IfSome, OnOk, OnErr, Some, length, option_copied, option_map};
+ghost use Rattle.std.specs.Prelude.{◌≡◌, ◌≤◌, [], IfOk, IfSome, OnOk, OnErr, Some, true, false, is_some, length, option_copied, option_map};
 ghost use Rattle.ks_store.specs.Pairs.{pairs_of, Rises};
-ghost use Rattle.ks_store.specs.Groups.{front_end, front_in, is_some_of, keys_in, with_key, keys_without, groups_of, listed_under, is_only_key, IsGroup, AreGroups, IsListed, StayListed, OthersStay};
+ghost use Rattle.ks_store.specs.Groups.{front_end, front_in, is_some_of, keys_in, with_key, keys_without, groups_of, listed_under, is_only_key, IsGroup, AreGroups, ListSame, ListSameBut};
+ghost use Rattle.ks_store.specs.Hashing.{start_of};
 
 use crate::hashing::KeyHashing;
 use crate::pairs::{Pairs, pairs_from, set_at, take_away};
@@ -78,7 +79,7 @@ fn add_key(alloc: Global, group: &mut Group, key: Vec<u8>) -> Result<(), AllocEr
     Ok(())
 }
 
-// Lists a key by its front. After want of memory what was listed still is.
+// Lists a key by its front. After want of memory the same keys are listed as before.
 fn list_under(
     alloc: Global,
     groups: &mut Groups,
@@ -88,8 +89,11 @@ fn list_under(
     requires front { Some front.now ≡ front_in key.now }
     requires groups { AreGroups (groups_of groups.old.entries) }
     ensures groups { AreGroups (groups_of groups.new.entries) }
-    ensures stay { StayListed (groups_of groups.old.entries) (groups_of groups.new.entries) }
-    ensures has { OnOk result (IsListed key.now (groups_of groups.new.entries)) }
+    ensures ok { OnOk result (ListSameBut key.now true (groups_of groups.old.entries)
+        (groups_of groups.new.entries)) }
+    ensures err { OnErr result (ListSame (groups_of groups.old.entries)
+        (groups_of groups.new.entries)) }
+    ensures start { start_of groups.new ≡ start_of groups.old }
 {
     let copy = Vec::from_slice(alloc, key)?;
     if let Some(group) = groups.get_mut(front) {
@@ -100,12 +104,15 @@ fn list_under(
     Ok(())
 }
 
-/// Lists a key, where it has a front. After want of memory what was listed still is.
+/// Lists a key, where it has a front. After want of memory the same keys are listed as before.
 pub fn list_key(alloc: Global, groups: &mut Groups, key: &[u8]) -> Result<(), AllocError>
     requires { AreGroups (groups_of groups.old.entries) }
     ensures groups { AreGroups (groups_of groups.new.entries) }
-    ensures stay { StayListed (groups_of groups.old.entries) (groups_of groups.new.entries) }
-    ensures has { OnOk result (IsListed key.now (groups_of groups.new.entries)) }
+    ensures ok { OnOk result (ListSameBut key.now (is_some (front_in key.now))
+        (groups_of groups.old.entries) (groups_of groups.new.entries)) }
+    ensures err { OnErr result (ListSame (groups_of groups.old.entries)
+        (groups_of groups.new.entries)) }
+    ensures start { start_of groups.new ≡ start_of groups.old }
 {
     match front_in(key) {
         Some(front) => list_under(alloc, groups, front, key),
@@ -135,11 +142,14 @@ fn take_key(group: &mut Group, key: &[u8])
     }
 }
 
+// Lists a key with this front no longer.
 fn unlist_under(groups: &mut Groups, front: &[u8], key: &[u8])
-    requires { AreGroups (groups_of groups.old.entries) }
+    requires front { Some front.now ≡ front_in key.now }
+    requires groups { AreGroups (groups_of groups.old.entries) }
     ensures groups { AreGroups (groups_of groups.new.entries) }
-    ensures others { OthersStay key.now (groups_of groups.old.entries)
+    ensures gone { ListSameBut key.now false (groups_of groups.old.entries)
         (groups_of groups.new.entries) }
+    ensures start { start_of groups.new ≡ start_of groups.old }
 {
     if is_only(groups.get(front), key) {
         groups.remove(front);
@@ -151,12 +161,13 @@ fn unlist_under(groups: &mut Groups, front: &[u8], key: &[u8])
     }
 }
 
-/// Lists a key no longer; any other that was listed still is.
+/// Lists a key no longer; the others are listed as before.
 pub fn unlist_key(groups: &mut Groups, key: &[u8])
     requires { AreGroups (groups_of groups.old.entries) }
     ensures groups { AreGroups (groups_of groups.new.entries) }
-    ensures others { OthersStay key.now (groups_of groups.old.entries)
+    ensures gone { ListSameBut key.now false (groups_of groups.old.entries)
         (groups_of groups.new.entries) }
+    ensures start { start_of groups.new ≡ start_of groups.old }
 {
     if let Some(front) = front_in(key) {
         unlist_under(groups, front, key);

@@ -1,7 +1,7 @@
 //! How keys are hashed.
 ghost use Rattle.std.specs.Prelude.{◌≡◌, ◌<◌, length};
 ghost use Rattle.std.specs.Hash.FoldHasher.{folded_multiply};
-ghost use Rattle.ks_store.specs.Hashing.{mixed, after_tail, after_write, padded};
+ghost use Rattle.ks_store.specs.Hashing.{mixed, start_by, after_tail, after_write, padded};
 
 use std::hash::{BuildHasher, Hasher};
 
@@ -85,7 +85,7 @@ impl Hasher for KeyHasher {
     }
 }
 
-/// Begins each hash of a key with a seed, so that keys can't be searched for that have one hash, unless the seed is known.
+/// Begins each hash of a key with a seed.
 #[derive(Clone, Copy)]
 pub struct KeyHashing {
     begun: KeyHasher,
@@ -94,7 +94,7 @@ pub struct KeyHashing {
 impl KeyHashing {
     /// Hashes that begin with this seed. Takes no memory.
     pub fn new(seed: u64) -> KeyHashing
-        ensures { result.begun.state ≡ mixed 0x243f_6a88_85a3_08d3 seed }
+        ensures { result.begun.state ≡ start_by seed }
     {
         KeyHashing {
             begun: KeyHasher {

@@ -6,6 +6,7 @@ ghost use Rattle.std.specs.FinMap.Entries.{find};
 ghost use Rattle.ks_def_runs.specs.Bytes.{by_bytes};
 ghost use Rattle.ks_def_runs.specs.FinMap as map;
 ghost use Rattle.ks_def_runs.specs.Prefixes.{pairs_under};
+ghost use Rattle.ks_store.specs.Hashing.{start_of};
 ghost use Rattle.ks_store.specs.Rows.{short_rows, long_rows, row_store, with_found, rows_for};
 
 use crate::hashing::KeyHashing;
@@ -27,20 +28,26 @@ pub struct Rows {
 }
 
 impl Model for Rows {
-    ghost use Rattle.std.specs.Prelude.{ℕ, List, ◌++◌};
-    ghost use Rattle.ks_store.specs.Rows.{short_rows, long_rows, AreApart};
+    ghost use Rattle.std.specs.Prelude.{◌≡◌, ◌++◌};
+    ghost use Rattle.ks_store.specs.Hashing.{start_of};
+    ghost use Rattle.ks_store.specs.Rows.{HashedRows, short_rows, long_rows, AreApart};
 
-    ghost Value = { List (List ℕ × List ℕ) };
+    ghost Value = { HashedRows };
 
-    ghost view = { λ r. short_rows r.short.entries ++ long_rows r.long.entries };
+    ghost view = { λ r. record {
+      rows = short_rows r.short.entries ++ long_rows r.long.entries;
+      start = start_of r.short;
+    } };
 
-    ghost invariant = { λ r. AreApart (short_rows r.short.entries) (long_rows r.long.entries) };
+    ghost invariant = { λ r. AreApart (short_rows r.short.entries) (long_rows r.long.entries)
+        × (start_of r.long ≡ start_of r.short) };
 }
 
 impl Rows {
     /// No rows, whose keys are hashed so; takes no memory.
     pub fn new(alloc: Global, hashing: KeyHashing) -> Rows
-        ensures { result ≡ [] }
+        ensures rows { result.rows ≡ [] }
+        ensures start { result.start ≡ hashing.begun.state }
     {
         Rows {
             short: HashMap::with_hasher(alloc, hashing),
@@ -50,7 +57,7 @@ impl Rows {
 
     /// How many rows there are.
     pub fn len(&self) -> usize
-        ensures { result ≡ length self.now }
+        ensures { result ≡ length self.now.rows }
     {
         self.short.len() + self.long.len()
     }
@@ -73,7 +80,7 @@ fn at_long<'a>(rows: &'a Long, key: &[u8]) -> Option<&'a Blob>
 }
 
 fn blob_at<'a>(rows: &'a Rows, key: &[u8]) -> Option<&'a Blob>
-    ensures { option_map (λ v. v.now) result ≡ find by_bytes key.now rows.now }
+    ensures { option_map (λ v. v.now) result ≡ find by_bytes key.now rows.now.rows }
 {
     if key.len() <= MAX_SHORT {
         at_short(&rows.short, key)
@@ -84,7 +91,7 @@ fn blob_at<'a>(rows: &'a Rows, key: &[u8]) -> Option<&'a Blob>
 
 /// The row of a key; none where it has none.
 pub fn row_at<'a>(rows: &'a Rows, key: &[u8]) -> Option<&'a [u8]>
-    ensures { option_map (λ v. v.now) result ≡ find by_bytes key.now rows.now }
+    ensures { option_map (λ v. v.now) result ≡ find by_bytes key.now rows.now.rows }
 {
     match blob_at(rows, key) {
         Some(value) => Some(value.as_slice()),
@@ -104,6 +111,7 @@ fn put_short(rows: &mut Short, key: &[u8], value: Blob) -> Result<bool, AllocErr
         ≡ length rows.old.entries
         + cond (is_some (find by_bytes key.now (short_rows rows.old.entries))) 0 1) }
     ensures err { OnErr result (rows.new.entries ≡ rows.old.entries) }
+    ensures start { start_of rows.new ≡ start_of rows.old }
 {
     let old = rows.insert(ShortKey::of(key), value)?;
     Ok(old.is_some())
@@ -120,6 +128,7 @@ fn set_long(rows: &mut Long, key: Vec<u8>, value: Blob) -> Result<bool, AllocErr
         ≡ length rows.old.entries
         + cond (is_some (find by_bytes key.items (long_rows rows.old.entries))) 0 1) }
     ensures err { OnErr result (rows.new.entries ≡ rows.old.entries) }
+    ensures start { start_of rows.new ≡ start_of rows.old }
 {
     let old = rows.insert(key, value)?;
     Ok(old.is_some())
@@ -136,6 +145,7 @@ fn put_long(alloc: Global, rows: &mut Long, key: &[u8], value: Blob) -> Result<b
         ≡ length rows.old.entries
         + cond (is_some (find by_bytes key.now (long_rows rows.old.entries))) 0 1) }
     ensures err { OnErr result (rows.new.entries ≡ rows.old.entries) }
+    ensures start { start_of rows.new ≡ start_of rows.old }
 {
     if let Some(place) = rows.get_mut(key) {
         *place = value;
@@ -147,12 +157,13 @@ fn put_long(alloc: Global, rows: &mut Long, key: &[u8], value: Blob) -> Result<b
 
 /// Puts a row, and tells whether the key had one. A long key is copied where it had none; after want of memory the table is as before.
 pub fn put_row(alloc: Global, rows: &mut Rows, key: &[u8], value: Blob) -> Result<bool, AllocError>
-    ensures had { IfOk result (λ had. had ≡ is_some (find by_bytes key.now rows.old)) }
-    ensures ok { OnOk result ((q : List ℕ) → find by_bytes q rows.new
-        ≡ cond (eq_by_cmp by_bytes q key.now) (Some value) (find by_bytes q rows.old)) }
-    ensures len { OnOk result (length rows.new
-        ≡ length rows.old + cond (is_some (find by_bytes key.now rows.old)) 0 1) }
-    ensures err { OnErr result (rows.new ≡ rows.old) }
+    ensures had { IfOk result (λ had. had ≡ is_some (find by_bytes key.now rows.old.rows)) }
+    ensures ok { OnOk result ((q : List ℕ) → find by_bytes q rows.new.rows
+        ≡ cond (eq_by_cmp by_bytes q key.now) (Some value) (find by_bytes q rows.old.rows)) }
+    ensures len { OnOk result (length rows.new.rows
+        ≡ length rows.old.rows + cond (is_some (find by_bytes key.now rows.old.rows)) 0 1) }
+    ensures err { OnErr result (rows.new.rows ≡ rows.old.rows) }
+    ensures start { rows.new.start ≡ rows.old.start }
 {
     if key.len() <= MAX_SHORT {
         put_short(&mut rows.short, key, value)
@@ -169,6 +180,7 @@ fn take_short(rows: &mut Short, key: &[u8])
     ensures len { length rows.new.entries
         + cond (is_some (find by_bytes key.now (short_rows rows.old.entries))) 1 0
         ≡ length rows.old.entries }
+    ensures start { start_of rows.new ≡ start_of rows.old }
 {
     let key = ShortKey::of(key);
     rows.remove(&key);
@@ -181,16 +193,18 @@ fn take_long(rows: &mut Long, key: &[u8])
     ensures len { length rows.new.entries
         + cond (is_some (find by_bytes key.now (long_rows rows.old.entries))) 1 0
         ≡ length rows.old.entries }
+    ensures start { start_of rows.new ≡ start_of rows.old }
 {
     rows.remove(key);
 }
 
 /// Takes a key's row out, where there is one.
 pub fn take_row(rows: &mut Rows, key: &[u8])
-    ensures gone { (q : List ℕ) → find by_bytes q rows.new
-        ≡ cond (eq_by_cmp by_bytes q key.now) None (find by_bytes q rows.old) }
-    ensures len { length rows.new + cond (is_some (find by_bytes key.now rows.old)) 1 0
-        ≡ length rows.old }
+    ensures gone { (q : List ℕ) → find by_bytes q rows.new.rows
+        ≡ cond (eq_by_cmp by_bytes q key.now) None (find by_bytes q rows.old.rows) }
+    ensures len { length rows.new.rows + cond (is_some (find by_bytes key.now rows.old.rows)) 1 0
+        ≡ length rows.old.rows }
+    ensures start { rows.new.start ≡ rows.old.start }
 {
     if key.len() <= MAX_SHORT {
         take_short(&mut rows.short, key);
@@ -236,8 +250,8 @@ fn long_under(
 
 /// The rows whose key begins so, in order of keys; looks at every row.
 pub fn rows_under(alloc: Global, rows: &Rows, front: &[u8]) -> Result<Vec<(Blob, Blob)>, AllocError>
-    requires { length rows.now ≡ map.len (row_store rows.now) }
-    ensures { IfOk result (λ v. v.items ≡ pairs_under front.now (row_store rows.now)) }
+    requires { length rows.now.rows ≡ map.len (row_store rows.now.rows) }
+    ensures { IfOk result (λ v. v.items ≡ pairs_under front.now (row_store rows.now.rows)) }
 {
     let short = short_under(alloc, &rows.short, front)?;
     let mut found = long_under(alloc, &rows.long, front, short)?;
@@ -247,7 +261,7 @@ pub fn rows_under(alloc: Global, rows: &Rows, front: &[u8]) -> Result<Vec<(Blob,
 
 fn push_row(rows: &Rows, key: &Blob, found: &mut Vec<(Blob, Blob)>) -> Result<(), AllocError>
     ensures { OnOk result (found.new.items
-        ≡ found.old.items ++ with_found (find by_bytes key.now rows.now) key.now []) }
+        ≡ found.old.items ++ with_found (find by_bytes key.now rows.now.rows) key.now []) }
 {
     match blob_at(rows, key.as_slice()) {
         Some(value) => {
@@ -266,7 +280,7 @@ pub fn rows_at(
     rows: &Rows,
     keys: Vec<(Blob, Blob)>,
 ) -> Result<Vec<(Blob, Blob)>, AllocError>
-    ensures { IfOk result (λ v. v.items ≡ rows_for rows.now keys.items) }
+    ensures { IfOk result (λ v. v.items ≡ rows_for rows.now.rows keys.items) }
 {
     let mut found = Vec::new(alloc);
     for (key, _) in &keys {

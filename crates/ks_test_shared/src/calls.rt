@@ -149,7 +149,7 @@ pub fn feed<R: Wait>(
 {
     let (recs, next) = fetch(rt, alloc, shared, 1, pass)?;
     let mut replica = Replica::new(alloc, TASK, &[1], 1)?;
-    replica.feed(1, recs.as_slice(), next)?;
+    replica.feed(1, recs, next)?;
     Ok(replica)
 }
 

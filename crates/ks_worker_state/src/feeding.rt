@@ -46,7 +46,7 @@ pub fn feed_from<R: Wait, W: Work, G: Gate>(
         part: replica.id().part,
     };
     let (recs, next) = client.fetch(rt, alloc, shared, part, from, MOST_FED)?;
-    or_halt(replica.feed(topic, recs.as_slice(), next))?;
+    or_halt(replica.feed(topic, recs, next))?;
     Ok(from < next)
 }
 

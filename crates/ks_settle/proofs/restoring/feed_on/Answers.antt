@@ -1,4 +1,4 @@
-use Rattle.std.proofs.Common.{◌≡◌, true, ◌∙◌, subst, sym}
+use Rattle.std.proofs.Common.{◌≡◌, true, subst, sym}
 use Rattle.ks_history.specs.Machine.{has_topic}
 use Rattle.ks_settle.proofs.Feeding.{may_feed, stays, goes_on}
 use Rattle.ks_settle.proofs.restoring.feed_on.Goals as goal
@@ -16,5 +16,5 @@ returns-then-next-from g c =
 
 pub returns : goal.returns
 returns g c =
-    goes_on g.W.Work.plan c.args.cluster.now c.requires.quiet c.is_history.ensures.history c.args.changelog c.args.replica.now c.requires.own c.requires.of c.id.result c.position-from.result c.in_ok-recs.next c.as_slice.result.now c.feed.new.self c.id.ensures c.position-from.ensures
-    (c.as_slice.ensures.value ∙ c.in_ok-recs.ensures.records) c.in_ok-recs.ensures.next c.if-next-from.false c.in_ok-feed.ensures.view c.in_ok-feed.ensures.changelogs (c.in_ok-feed.ensures.follows _ _)
+    goes_on g.W.Work.plan c.args.cluster.now c.requires.quiet c.is_history.ensures.history c.args.changelog c.args.replica.now c.requires.own c.requires.of c.id.result c.position-from.result c.in_ok-recs.next c.in_ok-recs.recs.items c.feed.new.self c.id.ensures c.position-from.ensures
+    c.in_ok-recs.ensures.records c.in_ok-recs.ensures.next c.if-next-from.false c.in_ok-feed.ensures.view c.in_ok-feed.ensures.changelogs (c.in_ok-feed.ensures.follows _ _)

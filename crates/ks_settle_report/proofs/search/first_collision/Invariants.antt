@@ -4,4 +4,4 @@ use Rattle.ks_settle_report.proofs.search.first_collision.Given as goal
 
 -- none of the records so far has met another row
 abbrev pub invariant-loop-i : goal.invariant-loop-i
-invariant-loop-i g l = IsSearching (row_hash g.H.Hash128.hash_of) (kind_as l.shown) l.rows l.recs l.i
+invariant-loop-i g l = IsSearching (row_hash g.H.Hash128.hash_of) (kind_as l.shown) l.rows.store l.recs l.i

@@ -1,6 +1,6 @@
 use Rattle.std.proofs.Common.{arith}
 use Rattle.ks_task.specs.Views.{holding}
-use Rattle.ks_standby.proofs.Feeding.{one_more}
+use Rattle.ks_task.proofs.Changing.{one_more}
 use Rattle.ks_task.proofs.PlainLogs.{plain_stays}
 use Rattle.ks_task.proofs.changelogs.hold_changelogs.Goals as goal
 

@@ -1,7 +1,7 @@
 use Rattle.std.proofs.Common.{arith, ap, ◌∙◌, drop}
 use Rattle.ks_standby.specs.Replicas.{numbers_of}
 use Rattle.ks_task.specs.Views.{log_after}
-use Rattle.ks_standby.proofs.Feeding.{one_more}
+use Rattle.ks_task.proofs.Changing.{one_more}
 use Rattle.ks_task.proofs.Orders.{numbers_stay_in, numbers_kept}
 use Rattle.ks_task.proofs.changelogs.keep_records.Goals as goal
 

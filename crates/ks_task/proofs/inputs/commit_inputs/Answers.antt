@@ -1,6 +1,6 @@
 use Rattle.std.proofs.Common.{arith}
 use Rattle.ks_task.specs.Views.{with_committed}
-use Rattle.ks_standby.proofs.Feeding.{one_more}
+use Rattle.ks_task.proofs.Changing.{one_more}
 use Rattle.ks_task.proofs.inputs.commit_inputs.Goals as goal
 
 pub loop-i-preserved : goal.loop-i-preserved

@@ -9,6 +9,6 @@ use Rattle.ks_cache.proofs.task_store.KeptStore.restore.Goals as goal
 pub returns-in-Plain : goal.returns-in-Plain
 returns-in-Plain c =
     on_ok c.restore.result
-    (λ e. restored_plain c.in-Plain.store c.restore.new.self (records_of c.args.recs.now) e
-    ∙ ap (λ (s : Kept). kept_after s (records_of c.args.recs.now)) (ap kept_of (sym c.in-Plain.is) ∙ c.self.view_is))
-    c.restore.ensures
+    (λ e. restored_plain c.in-Plain.store c.restore.new.self (records_of c.args.recs.items) e
+    ∙ ap (λ (s : Kept). kept_after s (records_of c.args.recs.items)) (ap kept_of (sym c.in-Plain.is) ∙ c.self.view_is))
+    c.restore.ensures.ok

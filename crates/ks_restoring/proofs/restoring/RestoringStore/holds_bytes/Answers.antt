@@ -1,4 +1,6 @@
-use Rattle.std.proofs.Common.{subst}
+use Rattle.std.proofs.Common.{ℕ, List, subst}
+use Rattle.ks_record.specs.Records.{Record as Rec}
+use Rattle.ks_store.specs.Restored.{records_of}
 use Rattle.ks_def_runs.specs.Bytes.{Store}
 use Rattle.ks_def_runs.specs.FinMap as fin
 use Rattle.ks_def_runs.specs.Pairs.{ArePairs}
@@ -9,4 +11,4 @@ use Rattle.ks_restoring.proofs.restoring.RestoringStore.holds_bytes.Goals as goa
 pub returns : goal.returns
 returns c =
     subst (λ (m : Store). ArePairs (fin.entries m)) c.self.view_is
-    (bytes_latest c.self.inside.table c.self.inside.records.items (subst AreOfBytes c.deref.ensures.value c.records_are_bytes.ensures) c.holds_bytes.ensures)
+    (bytes_latest c.self.inside.table.store (records_of c.self.inside.records.items) (subst (λ (l : List (ℕ × Rec)). AreOfBytes (records_of l)) c.deref.ensures.value c.records_are_bytes.ensures) c.holds_bytes.ensures)

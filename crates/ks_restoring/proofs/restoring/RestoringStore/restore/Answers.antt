@@ -1,6 +1,11 @@
-use Rattle.ks_store.proofs.Applied.{one_more}
+use Rattle.std.proofs.Common.{arith}
+use Rattle.ks_restoring.proofs.Latest.{waits_more, bounded_more}
 use Rattle.ks_restoring.proofs.restoring.RestoringStore.restore.Goals as goal
 
-pub loop-rec-preserved : goal.loop-rec-preserved
-loop-rec-preserved c =
-    one_more c.args.self.now c.loop-rec.self c.wait.new.self c.args.recs.now c.loop-rec.rec-index c.loop-rec-item.result c.loop-rec-test.true c.loop-rec-item.is c.loop-rec.invariant c.in_ok-wait.ensures.ok
+pub invariant_of-self-2 : goal.invariant_of-self-2
+invariant_of-self-2 c =
+    bounded_more c.self.inside.table.store c.self.inside.records.items c.append.new.self.items c.args.recs.items c.self.inside.most c.in_ok-most.most c.self.invariant c.in_ok-append.ensures.items
+    (omega (arith, c.in_ok-most.ensures, c.len.ensures, c.args.recs.ok))
+
+pub returns-clause-ok : goal.returns-clause-ok
+returns-clause-ok c = waits_more c.self.inside.table.store c.args.self.now c.self.inside.records.items c.append.new.self.items c.args.recs.items c.self.view_is c.in_ok-append.ensures.items
