@@ -8,7 +8,8 @@ ghost use Rattle.ks_store.specs.Restored.{records_of};
 
 use crate::laying::lay_pairs;
 use crate::waiting::{
-    count_after, count_on, records_are_bytes, take_out, value_after, write_records, write_waiting,
+    count_after, count_on, records_are_bytes, take_out, value_after, wait_behind, write_records,
+    write_waiting,
 };
 use ks_record::{Blob, Rec};
 use ks_store::{KvStore, OrderedStore, PlainStore};
@@ -60,8 +61,7 @@ impl RestoringStore {
         ensures err { OnErr result (self.new ≡ self.old) }
     {
         let most = count_on(self.most, recs.len())?;
-        let mut recs = recs;
-        self.records.append(&mut recs)?;
+        wait_behind(&mut self.records, recs)?;
         self.most = most;
         Ok(())
     }

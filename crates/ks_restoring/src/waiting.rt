@@ -1,5 +1,5 @@
 //! Records of a changelog that wait beside a table, and what both are together.
-ghost use Rattle.std.specs.Prelude.{◌≡◌, ◌+◌, ◌≤◌, IfOk, OnOk, OnErr, Some, [], not, option_map, option_copied, cond};
+ghost use Rattle.std.specs.Prelude.{◌≡◌, ◌+◌, ◌++◌, ◌≤◌, IfOk, OnOk, OnErr, Some, [], not, option_map, option_copied, cond};
 ghost use Rattle.ks_def_runs.specs.FinMap as map;
 ghost use Rattle.ks_history.specs.Machine.{applied, latest_from};
 ghost use Rattle.ks_record.specs.Bytes.{IsBytes};
@@ -182,6 +182,19 @@ pub fn take_out(records: &mut Vec<(u64, Rec)>, key: &[u8])
             { !is_for(&waiting.1, key) },
         );
     }
+}
+
+/// Records behind those that wait; where none wait the list itself is taken. After want of memory those that waited wait as before.
+pub fn wait_behind(records: &mut Vec<(u64, Rec)>, more: Vec<(u64, Rec)>) -> Result<(), AllocError>
+    ensures ok { OnOk result (records.new.items ≡ records.old.items ++ more.items) }
+    ensures err { OnErr result (records.new.items ≡ records.old.items) }
+{
+    let mut more = more;
+    if records.is_empty() {
+        *records = more;
+        return Ok(());
+    }
+    records.append(&mut more)
 }
 
 /// With so many more. A number of 2^64 is want of memory.
