@@ -39,7 +39,8 @@ impl Model for RestoringStore {
 
     ghost view = { λ s. latest_from s.table.store (records_of s.records.items) };
 
-    ghost invariant = { λ s. map.len (latest_from s.table.store (records_of s.records.items)) ≤ s.most };
+    ghost invariant = { λ s. map.len (latest_from s.table.store (records_of s.records.items))
+        ≤ s.most };
 }
 
 impl RestoringStore {

@@ -32,7 +32,8 @@ fn write_value<S: KvStore>(
 
 fn write_record<S: KvStore>(store: &mut S, rec: RecordRef<'_>) -> Result<(), AllocError>
     ensures ok { OnOk result (S.contents store.new
-        ≡ applied (S.contents store.old) (record_seen rec.entry).key (record_seen rec.entry).value) }
+        ≡ applied (S.contents store.old) (record_seen rec.entry).key
+        (record_seen rec.entry).value) }
     ensures err { OnErr result (S.contents store.new ≡ S.contents store.old) }
 {
     match rec.key {

@@ -69,7 +69,7 @@ fn feed_changelog(
     Ok(())
 }
 
-/// Feeds the changelog of a topic records of its partition, from where it goes on at `next`. After want of memory the stores are to be
+/// Feeds the first changelog of a topic records of its partition, from where it goes on at `next`. After want of memory the stores are to be
 /// dropped.
 pub fn feed_changelogs(
     changelogs: &mut Vec<Changelog>,
