@@ -15,18 +15,9 @@ use Rattle.ks_audit_verdict.specs.Audited.{IsAudited, HoldsAudited}
 use Rattle.ks_audit_verdict.specs.Answers.{IsVerdict, IsAuditAnswer}
 use Rattle.ks_law_accepted.proofs.Inputs.{the_answer_is_yes}
 use Rattle.ks_run_verdict.specs.Audited.{IsPrintedRun, HoldsRun, AnswersYes}
-use Rattle.ks_run_verdict.specs.Answers.{IsStatus}
-use Rattle.ks_run_verdict.specs.Commands.{IsAuditStatus, HasValidJob, HasBadAsk, is_audit}
+use Rattle.ks_run_verdict.specs.Commands.{IsAuditStatus, IsRunStatus, IsAskStatus, IsStatusOf, HasValidJob, HasBadAsk, is_audit}
 
--- each is a status, and no other is one
-pub is_status : (s : ℕ) → IsAuditStatus s → IsStatus s
-is_status s (inl e) = inl e
-is_status s (inr (inl e)) = inr (inr (inl e))
-is_status s (inr (inr (inl e))) = inr (inr (inr (inr (inr (inl e)))))
-is_status s (inr (inr (inr (inl e)))) = inr (inr (inr (inr (inr (inr (inl e))))))
-is_status s (inr (inr (inr (inr (inl e))))) = inr (inr (inr (inr (inr (inr (inr (inl e)))))))
-is_status s (inr (inr (inr (inr (inr e))))) = inr (inr (inr (inr (inr (inr (inr (inr (inr e))))))))
-
+-- ---- no other status is one
 abbrev one_of_audit : ℕ → Bool
 one_of_audit s = (s == 0) || (s == 2) || (s == 6) || (s == 7) || (s == 8) || (s == 10)
 
@@ -40,6 +31,27 @@ is_one s (inr (inr (inr (inr (inr e))))) = ap one_of_audit e
 
 pub not_other : (s n : ℕ) → one_of_audit n ≡ false → IsAuditStatus s → s ≡ n → ⊥
 not_other s n other h e = true≢false (sym (is_one s h) ∙ (ap one_of_audit e ∙ other))
+
+-- ---- the statuses of commands
+-- without a question it is a run's
+pub not_asked : (s : ℕ) → IsAskStatus s → (s ≡ 9 → ⊥) → IsRunStatus s
+not_asked s (inl e) none = absurd (none e)
+not_asked s (inr h) none = h
+
+-- want of memory is one of each
+pub of_memory : (command : Option Command) → IsStatusOf command 8
+of_memory None = inr (inr refl)
+of_memory (Some (Run settings)) = inr (inr (inr (inr (inr (inr refl)))))
+of_memory (Some (Load orders settings)) = inr (inr (inr (inr (inr (inr refl)))))
+of_memory (Some (Ask node key start settings)) = inr (inr (inr (inr (inr (inr (inr refl))))))
+of_memory (Some Audit) = inr (inr (inr (inr (inl refl))))
+
+pub of_audit : (command : Option Command) (s : ℕ) → is_audit command ≡ true → IsAuditStatus s → IsStatusOf command s
+of_audit None s e h = absurd (true≢false (sym e))
+of_audit (Some (Run settings)) s e h = absurd (true≢false (sym e))
+of_audit (Some (Load orders settings)) s e h = absurd (true≢false (sym e))
+of_audit (Some (Ask node key start settings)) s e h = absurd (true≢false (sym e))
+of_audit (Some Audit) s e h = h
 
 -- no other command is one
 pub not_plain : (command told : Option Command) → command ≡ told → is_audit command ≡ true → is_audit told ≡ false → ⊥

@@ -14,8 +14,8 @@ ghost use Rattle.ks_audit_verdict.specs.Answers.{IsAuditAnswer};
 ghost use Rattle.ks_audit_verdict.specs.Texts.{yes_text};
 ghost use Rattle.ks_run_verdict.specs.Audited.{AnswersYes, HoldsRun};
 ghost use Rattle.ks_run_verdict.specs.Told.Wanted.{nothing};
-ghost use Rattle.ks_run_verdict.specs.Answers.{IsRefused, IsBadAsk, IsStatus};
-ghost use Rattle.ks_run_verdict.specs.Commands.{HasBadAsk, HasValidJob, IsRun, IsAuditStatus, IsJudgedBy, IsLoadJudged, is_audit, is_read_ahead, placing_by, job_bytes, wanted_of};
+ghost use Rattle.ks_run_verdict.specs.Answers.{IsRefused, IsBadAsk};
+ghost use Rattle.ks_run_verdict.specs.Commands.{HasBadAsk, HasValidJob, IsRun, IsAuditStatus, IsRunStatus, IsStatusOf, IsJudgedBy, IsLoadJudged, is_audit, is_read_ahead, placing_by, job_bytes, wanted_of};
 ghost use Rattle.ks_run_verdict.specs.Journals.{IsSettledRun, IsLateRun, IsCollidedRun, HasJournal, TookFront, IsUndrained, IsEmptyIf, IsWithoutCollision};
 
 use crate::loading::TextSource;
@@ -127,7 +127,7 @@ fn run_load<R: Threads + Wait + Sync + RandomSource, K: Sink>(
     ensures written { (result.status ≡ 7 → ⊥) → K.faults out.new ≡ K.faults out.old }
     ensures memory { result.status ≡ 8 → out.new ≡ out.old }
     ensures forgotten { result.status ≡ 8 → result.journal ≡ [] }
-    ensures only { IsStatus result.status }
+    ensures only { IsRunStatus result.status }
 {
     let Ok(text) = load_job(alloc, orders) else {
         return Ended {
@@ -270,7 +270,7 @@ fn run_command<R: Threads + Wait + Sync + RandomSource, S: Source + Send, K: Sin
     ensures written { (result.status ≡ 7 → ⊥) → K.faults out.new ≡ K.faults out.old }
     ensures memory { result.status ≡ 8 → out.new ≡ out.old }
     ensures forgotten { result.status ≡ 8 → result.journal ≡ [] }
-    ensures only { IsStatus result.status }
+    ensures only { IsStatusOf command result.status }
 {
     match command {
         Some(Command::Run(settings)) => {
@@ -383,7 +383,9 @@ pub fn top<R: Threads + Wait + Sync + RandomSource, S: Source + Send, K: Sink>(
     ensures written { (result.status ≡ 7 → ⊥) → K.faults out.new ≡ K.faults out.old }
     ensures memory { result.status ≡ 8 → out.new ≡ out.old }
     ensures forgotten { result.status ≡ 8 → result.journal ≡ [] }
-    ensures only { IsStatus result.status }
+
+    // Each command has statuses of its own, and comes to no other.
+    ensures only { IsStatusOf (command_of (words_of words.now)) result.status }
 
     // An audit keeps no journal, and answers `yes`, a fault of its input, or a status of devices and memory.
     ensures audit { is_audit (command_of (words_of words.now)) ≡ true

@@ -11,7 +11,8 @@ ghost use Rattle.ks_iq.specs.declared.ask.Ask.{Ask};
 ghost use Rattle.ks_run_verdict.specs.Journals.{IsSettledRun, IsLateRun, IsCollidedRun, HasJournal, TookFront, IsUndrained, IsEmptyIf, IsInTime, IsGoodAsk, IsRefusing, IsWithoutCollision};
 ghost use Rattle.ks_run_verdict.specs.Told.{lines_if, wanted_in};
 ghost use Rattle.ks_run_verdict.specs.Told.Wanted.{answers};
-ghost use Rattle.ks_run_verdict.specs.Answers.{IsRefused, IsBadAsk, IsJudged, IsStatus};
+ghost use Rattle.ks_run_verdict.specs.Answers.{IsRefused, IsBadAsk, IsJudged};
+ghost use Rattle.ks_run_verdict.specs.Commands.{IsRunStatus, IsAskStatus};
 
 use crate::outcome::judge_job;
 use ks_edge::{Gate, Sink, Source};
@@ -125,7 +126,7 @@ pub fn run_job<
     // On want of memory nothing was written, and no journal is handed back.
     ensures memory { result.status ≡ 8 → out.new ≡ out.old }
     ensures forgotten { result.status ≡ 8 → result.journal ≡ [] }
-    ensures only { IsStatus result.status }
+    ensures only { IsRunStatus result.status }
     ensures words { result.status ≡ 1 → ⊥ }
     ensures asked { result.status ≡ 9 → ⊥ }
 {
@@ -217,7 +218,7 @@ pub fn run_asked<
     // On want of memory nothing was written, and no journal is handed back.
     ensures memory { result.status ≡ 8 → out.new ≡ out.old }
     ensures forgotten { result.status ≡ 8 → result.journal ≡ [] }
-    ensures only { IsStatus result.status }
+    ensures only { IsAskStatus result.status }
     ensures words { result.status ≡ 1 → ⊥ }
 {
     let settings = Settings {
@@ -311,7 +312,7 @@ fn run_crew<
     // On want of memory nothing was written, and no journal is handed back.
     ensures memory { result.status ≡ 8 → out.new ≡ out.old }
     ensures forgotten { result.status ≡ 8 → result.journal ≡ [] }
-    ensures only { IsStatus result.status }
+    ensures only { IsAskStatus result.status }
     ensures words { result.status ≡ 1 → ⊥ }
 {
     let Ok(answer) = judge_job::<H, R, S>(rt, alloc, input, crew) else {

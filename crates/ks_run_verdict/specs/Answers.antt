@@ -57,7 +57,3 @@ pub record IsJudged (rules : Rules) (placing : Placing) (wanted : Wanted) (ahead
   pub bad_ask : status ≡ 9 → (now ≡ before) × IsAtEnd new × IsBadAsk wanted old text × IsUndrained journal
   pub kept : HasJournal rules placing old journal
   pub only : (status ≡ 0) ⊎ (status ≡ 2) ⊎ (status ≡ 3) ⊎ (status ≡ 5) ⊎ (status ≡ 6) ⊎ (status ≡ 9)
-
--- one of the statuses of a run
-abbrev pub IsStatus : ℕ → Type 0
-IsStatus s = (s ≡ 0) ⊎ (s ≡ 1) ⊎ (s ≡ 2) ⊎ (s ≡ 3) ⊎ (s ≡ 5) ⊎ (s ≡ 6) ⊎ (s ≡ 7) ⊎ (s ≡ 8) ⊎ (s ≡ 9) ⊎ (s ≡ 10)

@@ -30,6 +30,21 @@ is_audit _ = false
 abbrev pub IsAuditStatus : ℕ → Type 0
 IsAuditStatus s = (s ≡ 0) ⊎ (s ≡ 2) ⊎ (s ≡ 6) ⊎ (s ≡ 7) ⊎ (s ≡ 8) ⊎ (s ≡ 10)
 
+-- one of a job's run, without a question and with one
+abbrev pub IsRunStatus : ℕ → Type 0
+IsRunStatus s = (s ≡ 0) ⊎ (s ≡ 2) ⊎ (s ≡ 3) ⊎ (s ≡ 5) ⊎ (s ≡ 6) ⊎ (s ≡ 7) ⊎ (s ≡ 8)
+
+abbrev pub IsAskStatus : ℕ → Type 0
+IsAskStatus s = (s ≡ 9) ⊎ IsRunStatus s
+
+-- one of a command
+abbrev pub IsStatusOf : Option Command → ℕ → Type 0
+IsStatusOf None s = (s ≡ 1) ⊎ (s ≡ 7) ⊎ (s ≡ 8)
+IsStatusOf (Some (Run settings)) s = IsRunStatus s
+IsStatusOf (Some (Load orders settings)) s = IsRunStatus s
+IsStatusOf (Some (Ask node key start settings)) s = IsAskStatus s
+IsStatusOf (Some Audit) s = IsAuditStatus s
+
 -- the bytes of the job, where they are known: those that the source has left, or the load job's
 abbrev pub job_bytes : Option Command → Option (List ℕ) → Option (List ℕ)
 job_bytes None left = left

@@ -8,7 +8,7 @@ use Rattle.ks_run_output.specs.Texts.{bad_words_text}
 use Rattle.ks_words.specs.declared.command.Command.{Command}
 use Rattle.ks_words.specs.declared.command.Command.TheVariants.{Run, Load, Ask}
 use Rattle.ks_run_verdict.specs.Answers.{IsRefused, IsBadAsk}
-use Rattle.ks_run_verdict.specs.Commands.{HasBadAsk, HasValidJob, IsRun, IsJudgedBy, is_read_ahead, job_bytes, placing_by, wanted_of}
+use Rattle.ks_run_verdict.specs.Commands.{HasBadAsk, HasValidJob, IsRun, IsStatusOf, IsJudgedBy, is_read_ahead, job_bytes, placing_by, wanted_of}
 use Rattle.ks_run_verdict.specs.Journals.{HasJournal, IsSettledRun, IsLateRun, IsCollidedRun, IsWithoutCollision, IsEmptyIf}
 use Rattle.ks_run.proofs.Kept.{no_journal}
 use Rattle.ks_run.proofs.command.run_command.Goals as goal
@@ -126,3 +126,21 @@ returns-in-Some-Ask-clause-refused g c = λ bad kept.
     let command : c.args.command ≡ Some (Ask c.in-Some-Ask.node c.in-Some-Ask.key c.in-Some-Ask.start c.in-Some-Ask.settings) = c.in-Some-Ask.is ∙ ap Some ask in
     let its = subst (λ (command : Option Command). HasBadAsk command (g.S.Source.left c.args.input.now) (g.S.Source.faults c.args.input.now) (g.S.Source.faults c.run_asked.new.input)) command bad in
     c.run_asked.ensures.refused its.0 its.1 kept
+
+pub returns-in-Some-Run-clause-only : goal.returns-in-Some-Run-clause-only
+returns-in-Some-Run-clause-only g c =
+    let run : c.in-Some-Run.field-0 ≡ Run c.in-Some-Run.settings = c.in-Some-Run.field-0-is in
+    subst (λ (command : Option Command). IsStatusOf command c.run_job.result.status) (sym (c.in-Some-Run.is ∙ ap Some run)) c.run_job.ensures.only
+
+pub returns-in-Some-Load-clause-only : goal.returns-in-Some-Load-clause-only
+returns-in-Some-Load-clause-only g c =
+    let load : c.in-Some-Load.field-0 ≡ Load c.in-Some-Load.orders c.in-Some-Load.settings = c.in-Some-Load.field-0-is in
+    subst (λ (command : Option Command). IsStatusOf command c.run_load.result.status) (sym (c.in-Some-Load.is ∙ ap Some load)) c.run_load.ensures.only
+
+pub returns-in-Some-Ask-clause-only : goal.returns-in-Some-Ask-clause-only
+returns-in-Some-Ask-clause-only g c =
+    let ask : c.in-Some-Ask.field-0 ≡ Ask c.in-Some-Ask.node c.in-Some-Ask.key c.in-Some-Ask.start c.in-Some-Ask.settings = c.in-Some-Ask.field-0-is in
+    subst (λ (command : Option Command). IsStatusOf command c.run_asked.result.status) (sym (c.in-Some-Ask.is ∙ ap Some ask)) c.run_asked.ensures.only
+
+pub returns-in-None-clause-only : goal.returns-in-None-clause-only
+returns-in-None-clause-only g c = subst (λ (command : Option Command). IsStatusOf command c.refuse_words.result.status) (sym c.in-None.is) c.refuse_words.ensures.only

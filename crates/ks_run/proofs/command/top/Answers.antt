@@ -9,9 +9,9 @@ use Rattle.ks_words.specs.declared.command.Command.{Command}
 use Rattle.ks_run_output.specs.Bytes.{AppendsFront}
 use Rattle.ks_run_output.specs.Texts.{read_fault_text}
 use Rattle.ks_run_verdict.specs.Answers.{IsRefused, IsBadAsk}
-use Rattle.ks_run_verdict.specs.Commands.{HasBadAsk, HasValidJob, IsRun, IsJudgedBy, is_audit, is_read_ahead, job_bytes, placing_by, wanted_of}
+use Rattle.ks_run_verdict.specs.Commands.{HasBadAsk, HasValidJob, IsRun, IsStatusOf, IsJudgedBy, is_audit, is_read_ahead, job_bytes, placing_by, wanted_of}
 use Rattle.ks_run_verdict.specs.Journals.{HasJournal, IsSettledRun, IsLateRun, IsCollidedRun, TookFront, IsUndrained, IsEmptyIf, IsWithoutCollision}
-use Rattle.ks_run.proofs.Audited.{is_status, not_other, not_plain, is_command, no_job, no_bad_ask}
+use Rattle.ks_run.proofs.Audited.{of_memory, of_audit, not_other, not_plain, is_command, no_job, no_bad_ask}
 use Rattle.ks_run.proofs.Kept.{no_journal}
 use Rattle.ks_run.proofs.command.top.Goals as goal
 
@@ -152,7 +152,14 @@ pub returns-then-is_audit-clause-unasked : goal.returns-then-is_audit-clause-una
 returns-then-is_audit-clause-unasked g c = λ plain none. absurd (not_plain _ _ c.in-Ok.ensures.told (sym c.is_audit.ensures ∙ c.if-is_audit.true) plain)
 
 pub returns-then-is_audit-clause-only : goal.returns-then-is_audit-clause-only
-returns-then-is_audit-clause-only g c = is_status _ c.audit_input.ensures.status
+returns-then-is_audit-clause-only g c =
+    subst (λ (command : Option Command). IsStatusOf command c.audit_input.result.status) c.in-Ok.ensures.told (of_audit _ _ (sym c.is_audit.ensures ∙ c.if-is_audit.true) c.audit_input.ensures.status)
+
+pub returns-clause-only : goal.returns-clause-only
+returns-clause-only g c = subst (λ (command : Option Command). IsStatusOf command c.run_command.result.status) c.in-Ok.ensures.told c.run_command.ensures.only
+
+pub returns-in_default-clause-only : goal.returns-in_default-clause-only
+returns-in_default-clause-only g c = of_memory _
 
 pub returns-then-is_audit-clause-audit : goal.returns-then-is_audit-clause-audit
 returns-then-is_audit-clause-audit g c = λ e. (c.audit_input.ensures.journal, c.audit_input.ensures.status)

@@ -1,4 +1,5 @@
 use Rattle.std.proofs.Common.{sym, ◌∙◌, None}
+use Rattle.ks_run.proofs.Audited.{not_asked}
 use Rattle.ks_run.proofs.Kept.{asks_for, none_is}
 use Rattle.ks_run.proofs.runs.run_job.Goals as goal
 
@@ -28,3 +29,6 @@ returns-clause-write_fault g c = c.run_crew.ensures.write_fault
 
 pub returns-clause-journal : goal.returns-clause-journal
 returns-clause-journal g c = c.run_crew.ensures.journal
+
+pub returns-clause-only : goal.returns-clause-only
+returns-clause-only g c = not_asked _ c.run_crew.ensures.only (λ e. let bad = ((c.run_crew.ensures.bad_ask e).2).1 in none_is (sym (asks_for c.args.settings.now.journal None) ∙ bad.asked))
