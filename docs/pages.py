@@ -44,7 +44,7 @@ def crate_groups():
     groups, head = [], []
     for line in read_lines("crates.txt"):
         if line.startswith("#"):
-            head.append(line.lstrip("# ").strip())
+            head.append(line.lstrip("#- ").strip())
         elif not line.strip():
             head = []
         else:

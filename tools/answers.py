@@ -60,9 +60,9 @@ STATUSES = {
     8: (
         "No memory",
         "The program was refused memory, and prints nothing.",
-        "Give it more memory or less input; 250,000 records take 0.3 to 1 GB.",
+        "Give it more memory or less input; 250,000 records take 0.2 to 0.7 GB.",
     ),
-    9: ("The question has no store", "The job ran, but the node or the window that was asked for has no store to read.", ""),
+    9: ("The question has no store", "The job was read to its end, and the question can't be asked of it, so no table is printed.", ""),
     10: ("The output is refused", "The audit found where the output isn't that of a run of this topology.", ""),
     70: ("No program", "The script found no program and could make none.", "Put `rt` on the path, or run `./prove`."),
 }
