@@ -1,7 +1,7 @@
-// Stands between the program that it is preloaded into and standard input and output. A read takes at most $READ_MOST bytes and a write gives
-// at most $WRITE_MOST, where these are set. Read number $READ_AT, from 1, fails with the error $READ_ERROR, and write number $WRITE_AT with
-// $WRITE_ERROR; with the error 0 it ends with 0 bytes. None fails where the number is 0. At the end it writes two numbers to the file
-// descriptor $DEVICES_TELL: how many reads and how many writes there were. tests/devices compiles and uses it.
+// Stands between the program that it is preloaded into and standard input and output. A read takes at most $READ_MOST bytes, a write
+// gives at most $WRITE_MOST, where these are set. Read number $READ_AT, from 1, fails with the error $READ_ERROR, and write number
+// $WRITE_AT with $WRITE_ERROR; with the error 0 it ends with 0 bytes. None fails where the number is 0. At the end it writes two numbers
+// to the file descriptor $DEVICES_TELL: how many reads and how many writes there were. tests/devices compiles and uses it.
 #define _GNU_SOURCE
 #include <errno.h>
 #include <stdatomic.h>
