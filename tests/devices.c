@@ -1,7 +1,8 @@
 // Stands between the program that it is preloaded into and standard input and output. A read takes at most $READ_MOST bytes, a write
 // gives at most $WRITE_MOST, where these are set. Read number $READ_AT, from 1, fails with the error $READ_ERROR, and write number
-// $WRITE_AT with $WRITE_ERROR; with the error 0 it ends with 0 bytes. None fails where the number is 0. At the end it writes two numbers
-// to the file descriptor $DEVICES_TELL: how many reads and how many writes there were. tests/devices compiles and uses it.
+// $WRITE_AT with $WRITE_ERROR; with the error 0 it ends with 0 bytes. None fails where the number is 0. At the end it writes three
+// numbers to the file descriptor $DEVICES_TELL: how many reads and writes there were, and how many bytes were read. tests/devices compiles
+// and uses it.
 #define _GNU_SOURCE
 #include <errno.h>
 #include <stdatomic.h>
@@ -14,7 +15,7 @@
 struct device {
     int file;
     long most, at, error;
-    atomic_long calls;
+    atomic_long calls, bytes;
 };
 
 static struct device source = {.file = 0}, sink = {.file = 1};
@@ -37,7 +38,8 @@ __attribute__((constructor)) static void begin(void) {
 
 __attribute__((destructor)) static void tell(void) {
     char text[100];
-    int length = snprintf(text, sizeof text, "%ld %ld\n", atomic_load(&source.calls), atomic_load(&sink.calls));
+    long reads = atomic_load(&source.calls), writes = atomic_load(&sink.calls), bytes = atomic_load(&source.bytes);
+    int length = snprintf(text, sizeof text, "%ld %ld %ld\n", reads, writes, bytes);
     if (tells >= 0 && syscall(SYS_write, (int)tells, text, (size_t)length) != length) abort();
     tells = -1;
 }
@@ -56,7 +58,9 @@ static ssize_t call(struct device *device, long kernel, int file, void *bytes, s
         return device->error ? -1 : 0;
     }
     size_t most = device->most && (size_t)device->most < count ? (size_t)device->most : count;
-    return syscall(kernel, file, bytes, most);
+    ssize_t moved = syscall(kernel, file, bytes, most);
+    if (moved > 0) atomic_fetch_add(&device->bytes, moved);
+    return moved;
 }
 
 ssize_t read(int file, void *bytes, size_t count) { return call(&source, SYS_read, file, bytes, count); }
