@@ -1,5 +1,5 @@
 -- What an act did, from the clauses of its call.
-use Rattle.std.proofs.Common.{◌≡◌, ◌⊎◌, inl, inr, ℕ, zero, suc, Bool, true, false, List, [], Result, Ok, Err, refl}
+use Rattle.std.proofs.Common.{◌≡◌, ◌⊎◌, inl, inr, ℕ, Bool, true, false, List, [], Result, Ok, Err, refl}
 use Rattle.std.specs.Prelude.{OnOk}
 use Rattle.ks_history.specs.declared.journal.Entry.{Entry}
 use Rattle.ks_history.specs.declared.journal.Request.{Request}
@@ -7,10 +7,10 @@ use Rattle.ks_history.specs.Machine.{TaskPlan}
 use Rattle.ks_growing.specs.Passes.{PassView}
 use Rattle.ks_shared.specs.declared.state.Frame.{Frame}
 use Rattle.ks_shared.specs.Calls.{setup_in}
-use Rattle.ks_worker_state.specs.Gained.{HasMade, HasMadeOnly, are_all}
+use Rattle.ks_worker_state.specs.Gained.{HasMade}
 use Rattle.ks_worker_state.specs.declared.state.WorkerState.{WorkerState}
 use Rattle.ks_worker_state.specs.State.{KnowsTheSame, task_names, replica_names}
-use Rattle.ks_worker_acts.specs.Feeds.{AreFed, marks_of, is_mark}
+use Rattle.ks_worker_acts.specs.Feeds.{AreFed, marks_of}
 use Rattle.ks_worker_acts.specs.Inputs.{HaveReadOn, HasMoved, HaveReadAll}
 use Rattle.ks_worker_acts.specs.Picking.{HasPicked}
 use Rattle.ks_worker.specs.Acts.{HasWorked, HasPumped}
@@ -35,20 +35,15 @@ module _ {W G : Type 0} (plan : W → TaskPlan) (old new : WorkerState W G) wher
       by true m f d = inl (m refl, f refl)
       by false m f d = inr (d refl)
 
-  -- markers alone were written
-  marks_only : (n : ℕ) → are_all is_mark (marks_of n) ≡ true
-  marks_only zero = refl
-  marks_only (suc n) = refl
-
   -- the replicas were fed
-  pub has_pumped : {A E : Type 0} (r : Result A E) (waiting : ℕ) → KnowsTheSame old new → new.tasks ≡ old.tasks → OnOk r (replica_names new.replicas.items ≡ replica_names old.replicas.items) →
+  pub has_pumped : {A E : Type 0} (waiting : ℕ) (r : Result A E) → KnowsTheSame old new → new.tasks ≡ old.tasks → OnOk r (replica_names new.replicas.items ≡ replica_names old.replicas.items) →
       OnOk r (AreFed (setup_in plan old.session.client.pass.frame) old.session.client.pass.seen old.replicas.items new.replicas.items) →
-      OnOk r (HasMade old.session.client.pass new.session.client.pass (marks_of waiting)) → OnOk r (HasPumped plan old new)
-  has_pumped (Ok x) waiting same tasks names fed made = record {
+      OnOk r (HasMade old.session.client.pass new.session.client.pass (marks_of waiting)) → OnOk r (HasPumped plan waiting old new)
+  has_pumped waiting (Ok x) same tasks names fed made = record {
     same = same;
-    made = record { own = marks_of waiting; made = made; only = marks_only waiting };
+    made = made;
     tasks = tasks;
     names = names;
     fed = fed;
   }
-  has_pumped (Err e) waiting same tasks names fed made = tt
+  has_pumped waiting (Err e) same tasks names fed made = tt

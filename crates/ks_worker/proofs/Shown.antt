@@ -91,32 +91,32 @@ module _ {W : Type 0} (plan : W → TaskPlan) where
       ]
 
 module _ {W G : Type 0} (plan : W → TaskPlan) where
-  shows_act : (d : DraftView) (act : Act) (old new : WorkerState W G) → Later plan old.session.client.pass new.session.client.pass → Does plan d act old new → Shows old.member.number old.session.client.pass new.session.client.pass (calls_of act)
-  shows_act d (Work pick) old new l does = shows_none plan old.member.number _ _ l
-  shows_act d Commit old new l does = shows_none plan old.member.number _ _ l
-  shows_act d Abort old new l does = shows_none plan old.member.number _ _ l
-  shows_act d Crash old new l does = shows_none plan old.member.number _ _ l
-  shows_act d Leave old new l does = shows_gained plan old.member.number _ _ _ does.made.gained (last_counts old.member.number old.member.number old.member.instance (replica_names old.replicas.items ++ task_names (filter is_clean_task old.tasks.items)))
-  shows_act d Pump old new l does = shows_none plan old.member.number _ _ l
-  shows_act d Probe old new l does = shows_gained plan old.member.number _ _ _ does.made.gained (by (old.member.number == old.member.number) (eq-eqb old.member.number old.member.number refl))
+  shows_act : (d : DraftView) (waiting : ℕ) (act : Act) (old new : WorkerState W G) → Later plan old.session.client.pass new.session.client.pass → Does plan d waiting act old new → Shows old.member.number old.session.client.pass new.session.client.pass (calls_of act)
+  shows_act d waiting (Work pick) old new l does = shows_none plan old.member.number _ _ l
+  shows_act d waiting Commit old new l does = shows_none plan old.member.number _ _ l
+  shows_act d waiting Abort old new l does = shows_none plan old.member.number _ _ l
+  shows_act d waiting Crash old new l does = shows_none plan old.member.number _ _ l
+  shows_act d waiting Leave old new l does = shows_gained plan old.member.number _ _ _ does.made.gained (last_counts old.member.number old.member.number old.member.instance (replica_names old.replicas.items ++ task_names (filter is_clean_task old.tasks.items)))
+  shows_act d waiting Pump old new l does = shows_none plan old.member.number _ _ l
+  shows_act d waiting Probe old new l does = shows_gained plan old.member.number _ _ _ does.made.gained (by (old.member.number == old.member.number) (eq-eqb old.member.number old.member.number refl))
     where
       by : (b : Bool) → b ≡ true → 1 ≤ cond b 1 0
       by true e = omega arith
       by false e = absurd cc
-  shows_act d (Evict v) old new l does = shows_evicted plan old.member.number v _ _ l (λ few. (does.made few).gained)
-  shows_act d Stop old new l does = shows_none plan old.member.number _ _ l
+  shows_act d waiting (Evict v) old new l does = shows_evicted plan old.member.number v _ _ l (λ few. (does.made few).gained)
+  shows_act d waiting Stop old new l does = shows_none plan old.member.number _ _ l
 
   -- the gate gave an act, and the worker performed it or was cut off
-  pub shows_calls : (d : DraftView) (act : Act) (g : GateCounts) (old new : WorkerState W G) → Later plan old.session.client.pass new.session.client.pass →
+  pub shows_calls : (d : DraftView) (waiting : ℕ) (act : Act) (g : GateCounts) (old new : WorkerState W G) → Later plan old.session.client.pass new.session.client.pass →
       old.session.client.gate.calls ≡ g.calls + calls_of act → old.session.client.gate.cuts ≡ g.cuts → IsCutOnce old.session.client.gate new.session.client.gate →
-      (new.session.client.gate ≡ old.session.client.gate → Does plan d act old new) → ShowsCalls old.member.number old.session.client.pass new.session.client.pass g new.session.client.gate
-  shows_calls d act g old new l calls cuts (inl same) does =
-      let s = shows_act d act old new l (does same) in
+      (new.session.client.gate ≡ old.session.client.gate → Does plan d waiting act old new) → ShowsCalls old.member.number old.session.client.pass new.session.client.pass g new.session.client.gate
+  shows_calls d waiting act g old new l calls cuts (inl same) does =
+      let s = shows_act d waiting act old new l (does same) in
       let a : new.session.client.gate.calls ≡ g.calls + calls_of act = ap (λ (k : GateCounts). k.calls) same ∙ calls in
       let b : new.session.client.gate.cuts ≡ g.cuts = ap (λ (k : GateCounts). k.cuts) same ∙ cuts in
       let n : calls_of act ≤ group_requests old.member.number s.more = s.shown in
       record { more = s.more; seen = s.seen; shown = omega (arith, a, b, n) }
-  shows_calls d act g old new l calls cuts (inr cut) does =
+  shows_calls d waiting act g old new l calls cuts (inr cut) does =
       let a : new.session.client.gate.calls ≡ g.calls + calls_of act = ap (λ (k : GateCounts). k.calls) cut ∙ calls in
       let b : new.session.client.gate.cuts ≡ old.session.client.gate.cuts + 1 = ap (λ (k : GateCounts). k.cuts) cut in
       let few : calls_of act ≤ 1 = calls_few act in

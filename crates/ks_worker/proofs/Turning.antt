@@ -1,6 +1,7 @@
 -- Turns, one after another.
-use Rattle.std.proofs.Common.{◌≡◌, ◌⊎◌, ◌≤◌, ◌<◌, ◌+◌, ◌-◌, ◌^◌, ℕ, suc, Bool, true, false, cond, List, [], ◌∷◌, ◌++◌, Result, Ok, Err, OnOk, refl, sym, ap, subst, ◌∙◌, arith, append_assoc, append-nil}
+use Rattle.std.proofs.Common.{◌≡◌, ◌⊎◌, ◌≤◌, ◌<◌, ◌+◌, ◌-◌, ◌^◌, ℕ, suc, Bool, true, false, cond, List, [], ◌∷◌, ◌++◌, Result, Ok, Err, OnOk, inl, refl, sym, ap, subst, ◌∙◌, arith, append_assoc, append-nil}
 use Rattle.atomic_table.specs.Seated.{TableId}
+use Rattle.ks_edge.specs.Counts.{one_if}
 use Rattle.ks_plan.specs.Drafts.{DraftView}
 use Rattle.ks_history.specs.declared.journal.Entry.{Entry}
 use Rattle.ks_history.specs.Machine.{TaskPlan}
@@ -17,7 +18,7 @@ use Rattle.ks_worker_state.proofs.States.{runs_later}
 use Rattle.ks_worker_turn.specs.Placing.{PlacesBy}
 use Rattle.ks_worker_turn.proofs.Offered.{serves_later}
 use Rattle.ks_worker.specs.Beginning.{MayRun}
-use Rattle.ks_worker.specs.Running.{is_group_request, group_requests, HasCounted, ShowsCalls}
+use Rattle.ks_worker.specs.Running.{is_group_request, group_requests, HasCounted, ShowsCalls, HasEndedBy}
 
 -- ---- counts
 pub counted_none : (g : GateCounts) → HasCounted g g 0
@@ -46,6 +47,16 @@ counted_more a b m n h le = record {
   calls_most = omega (arith, h.calls_most, le);
   cuts_most = omega (arith, h.cuts_most, le);
 }
+
+-- ---- stops
+-- a turn that the gate didn't stop, or did
+pub went_on : (first before after : ℕ) (stopped : Bool) → before ≡ first → after ≡ before + one_if stopped → stopped ≡ false → after ≡ first
+went_on first before after false same turn is = omega (arith, same, turn)
+went_on first before after true same turn is = absurd cc
+
+pub stopped_then : (turns : ℕ) (first before after : GateCounts) (stopped : Bool) → before.stops ≡ first.stops → after.stops ≡ before.stops + one_if stopped → stopped ≡ true → HasEndedBy turns first after
+stopped_then turns first before after true same turn is = inl (omega (arith, same, turn))
+stopped_then turns first before after false same turn is = absurd cc
 
 -- ---- what shows
 none_more : (n : ℕ) → n ≡ 0 + n

@@ -15,8 +15,8 @@ use Rattle.ks_worker_state.specs.Worker.{lost}
 use Rattle.ks_worker_state.specs.State.{KnowsTheSame, task_names, replica_names}
 use Rattle.ks_worker_acts.specs.Inputs.{HaveReadOn, HasMoved, HaveReadAll}
 use Rattle.ks_worker_acts.specs.Picking.{HasPicked}
-use Rattle.ks_worker_acts.specs.Feeds.{AreFed, is_mark}
-use Rattle.ks_worker_state.specs.Gained.{HasMade, HasMadeOnly}
+use Rattle.ks_worker_acts.specs.Feeds.{AreFed, marks_of}
+use Rattle.ks_worker_state.specs.Gained.{HasMade}
 use Rattle.ks_worker_acts.specs.Telling.{is_clean_task, outside, parks, positions_held}
 use Rattle.ks_worker_acts.specs.declared.commit.commit_end.CommitEnd.{CommitEnd}
 use Rattle.ks_worker_acts.specs.Ends.{HasEnded}
@@ -31,10 +31,11 @@ pub record HasWorked {W G : Type 0} (plan : W → TaskPlan) (pick : ℕ) (old ne
   pub either : (HasMoved old.tasks.items new.tasks.items × HasPicked plan pick old new)
       ⊎ HaveReadAll (setup_in plan old.session.client.pass.frame) old.session.client.pass.seen new.tasks.items
 
--- it fed its replicas, and wrote waiting markers alone: each position rose, or nothing stable of what its pass had seen is left
-pub record HasPumped {W G : Type 0} (plan : W → TaskPlan) (old new : WorkerState W G) : Type 0 where
+-- it fed its replicas, and where so many markers waited it wrote one of each producer: each position rose, or nothing stable of what
+-- its pass had seen is left
+pub record HasPumped {W G : Type 0} (plan : W → TaskPlan) (waiting : ℕ) (old new : WorkerState W G) : Type 0 where
   pub same : KnowsTheSame old new
-  pub made : HasMadeOnly is_mark old.session.client.pass new.session.client.pass
+  pub made : HasMade old.session.client.pass new.session.client.pass (marks_of waiting)
   pub tasks : new.tasks ≡ old.tasks
   pub names : replica_names new.replicas.items ≡ replica_names old.replicas.items
   pub fed : AreFed (setup_in plan old.session.client.pass.frame) old.session.client.pass.seen old.replicas.items new.replicas.items
@@ -52,6 +53,11 @@ pub record HasLostAll {W G : Type 0} (old new : WorkerState W G) : Type 0 where
   pub last : new.session.last ≡ 0
   pub tasks : new.tasks.items ≡ []
   pub replicas : new.replicas.items ≡ []
+
+-- it lost all, and made no request
+pub record HasForgotten {W G : Type 0} (old new : WorkerState W G) : Type 0 where
+  pub all : HasLostAll old new
+  pub client : new.session.client ≡ old.session.client
 
 -- it parked its replicas and those of its clean tasks, removed itself, made no other request, and is no member any more
 pub record HasLeft {W G : Type 0} (old new : WorkerState W G) : Type 0 where
@@ -81,14 +87,14 @@ pub record HasEvicted {W G : Type 0} (w : ℕ) (old new : WorkerState W G) : Typ
   pub made : w ≤ 15 → HasMade old.session.client.pass new.session.client.pass (Expire w ∷ [])
   pub none : 15 < w → new.session.client.pass.made ≡ old.session.client.pass.made
 
--- what each act does
-abbrev pub Does : {W G : Type 0} → (W → TaskPlan) → DraftView → Act → WorkerState W G → WorkerState W G → Type 0
-Does plan d (Work pick) old new = HasWorked plan pick old new
-Does plan d Commit old new = (end : CommitEnd) × HasEnded plan d old new end
-Does plan d Abort old new = HasAborted old new
-Does plan d Crash old new = HasLostAll old new
-Does plan d Leave old new = HasLeft old new
-Does plan d Pump old new = HasPumped plan old new
-Does plan d Probe old new = HasProbed d old new
-Does plan d (Evict w) old new = HasEvicted w old new
-Does plan d Stop old new = new ≡ old
+-- what each act does, of a worker that was told that so many markers waited
+abbrev pub Does : {W G : Type 0} → (W → TaskPlan) → DraftView → ℕ → Act → WorkerState W G → WorkerState W G → Type 0
+Does plan d waiting (Work pick) old new = HasWorked plan pick old new
+Does plan d waiting Commit old new = (end : CommitEnd) × HasEnded plan d old new end
+Does plan d waiting Abort old new = HasAborted old new
+Does plan d waiting Crash old new = HasForgotten old new
+Does plan d waiting Leave old new = HasLeft old new
+Does plan d waiting Pump old new = HasPumped plan waiting old new
+Does plan d waiting Probe old new = HasProbed d old new
+Does plan d waiting (Evict w) old new = HasEvicted w old new
+Does plan d waiting Stop old new = new ≡ old

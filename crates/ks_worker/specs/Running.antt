@@ -1,5 +1,5 @@
 -- What turns leave: what the gate counted, and entries that show the acts on the group.
-use Rattle.std.specs.Prelude.{◌≡◌, ◌≢◌, ◌⊎◌, ◌≤◌, ◌<◌, ◌+◌, ◌==◌, ℕ, suc, Bool, true, false, if◌then◌else◌, List, [], ◌∷◌, ◌++◌}
+use Rattle.std.specs.Prelude.{◌≡◌, ◌≢◌, ◌⊎◌, ◌≤◌, ◌+◌, ◌==◌, ℕ, suc, Bool, true, false, if◌then◌else◌, List, [], ◌∷◌, ◌++◌}
 use Rattle.ks_history.specs.declared.journal.Entry.{Entry}
 use Rattle.ks_history.specs.declared.journal.Request.{Request}
 use Rattle.ks_history.specs.declared.journal.Request.TheVariants.{Expire, Probe}
@@ -39,6 +39,6 @@ pub record ShowsCalls {W : Type 0} (w : ℕ) (old new : PassView Entry (Frame W)
 abbrev pub IsCutOnce : GateCounts → GateCounts → Type 0
 IsCutOnce old new = (new ≡ old) ⊎ (new ≡ record old { cuts = old.cuts + 1 })
 
--- a run ended: its gate stopped it, or it took all its turns
+-- a run ended: its gate said stop, and wasn't asked again; or it never did, and all turns were taken
 abbrev pub HasEndedBy : ℕ → GateCounts → GateCounts → Type 0
-HasEndedBy turns old new = (old.stops < new.stops) ⊎ (old.asked + old.cuts + turns ≤ new.asked + new.cuts)
+HasEndedBy turns old new = (new.stops ≡ old.stops + 1) ⊎ ((new.stops ≡ old.stops) × (old.asked + old.cuts + turns ≤ new.asked + new.cuts))

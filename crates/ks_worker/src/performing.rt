@@ -39,9 +39,10 @@ impl<W: Work, G: Gate> Worker<W, G> {
             ≡ counts_after self.old.state.session.client.gate result }
         ensures later { LaterState W.plan self.old.state self.new.state }
         ensures placing { self.new.placing ≡ self.old.placing }
+        ensures waiting { self.new.waiting ≡ self.old.waiting }
         ensures worker { OnOk result (IsWorkerState W.plan (draft_of topology.now) self.new.state) }
-        ensures does { OnOk result (Does W.plan (draft_of topology.now) (Working pick)
-            self.old.state self.new.state) }
+        ensures does { OnOk result (Does W.plan (draft_of topology.now) self.old.waiting
+            (Working pick) self.old.state self.new.state) }
     {
         let moved = work::<H, R, W, G>(rt, alloc, topology, shared, &mut self.state, pick)?;
         self.dry = count_dry(self.dry, moved);
@@ -62,9 +63,10 @@ impl<W: Work, G: Gate> Worker<W, G> {
             ≡ counts_after self.old.state.session.client.gate result }
         ensures later { LaterState W.plan self.old.state self.new.state }
         ensures placing { self.new.placing ≡ self.old.placing }
+        ensures waiting { self.new.waiting ≡ self.old.waiting }
         ensures worker { OnOk result (IsWorkerState W.plan (draft_of topology.now) self.new.state) }
-        ensures does { OnOk result (Does W.plan (draft_of topology.now) Committing self.old.state
-            self.new.state) }
+        ensures does { OnOk result (Does W.plan (draft_of topology.now) self.old.waiting
+            Committing self.old.state self.new.state) }
     {
         commit_tasks::<H, R, W, G>(rt, alloc, topology, shared, &mut self.state)?;
         Ok(())
@@ -85,9 +87,10 @@ impl<W: Work, G: Gate> Worker<W, G> {
             ≡ counts_after self.old.state.session.client.gate result }
         ensures later { LaterState W.plan self.old.state self.new.state }
         ensures placing { self.new.placing ≡ self.old.placing }
+        ensures waiting { self.new.waiting ≡ self.old.waiting }
         ensures worker { OnOk result (IsWorkerState W.plan (draft_of topology.now) self.new.state) }
-        ensures does { OnOk result (Does W.plan (draft_of topology.now) act self.old.state
-            self.new.state) }
+        ensures does { OnOk result (Does W.plan (draft_of topology.now) self.old.waiting act
+            self.old.state self.new.state) }
     {
         let state = &mut self.state;
         match act {
@@ -141,10 +144,12 @@ impl<W: Work, G: Gate> Worker<W, G> {
             self.new.state.session.client.gate }
         ensures later { LaterState W.plan self.old.state self.new.state }
         ensures placing { self.new.placing ≡ self.old.placing }
+        ensures waiting { self.new.waiting ≡ self.old.waiting }
         ensures worker { OnOk result (IsWorkerState W.plan (draft_of topology.now) self.new.state) }
         ensures does { OnOk result (self.new.state.session.client.gate
             ≡ self.old.state.session.client.gate
-            → Does W.plan (draft_of topology.now) act self.old.state self.new.state) }
+            → Does W.plan (draft_of topology.now) self.old.waiting act
+            self.old.state self.new.state) }
         ensures cut { OnOk result (self.new.state.session.client.gate
             ≢ self.old.state.session.client.gate
             → HasLostAll self.old.state self.new.state) }

@@ -1,5 +1,6 @@
 //! A worker's turns.
 ghost use Rattle.std.specs.Prelude.{◌≡◌, ◌≤◌, ◌+◌, true, false, OnOk, IfOk};
+ghost use Rattle.ks_edge.specs.Counts.{one_if};
 ghost use Rattle.ks_topo.specs.Topologies.{draft_of};
 ghost use Rattle.ks_worker_state.specs.State.{MayAct, LaterState, IsWorkerState};
 ghost use Rattle.ks_worker_turn.specs.Placing.{PlacesBy};
@@ -80,9 +81,8 @@ impl<W: Work, G: Gate> Worker<W, G> {
             self.new.state.session.client.gate 1 }
         ensures asked { self.new.state.session.client.gate.asked
             ≡ self.old.state.session.client.gate.asked + 1 }
-        ensures stopped { IfOk result (λ stopped. stopped ≡ true
-            → self.new.state.session.client.gate.stops
-            ≡ self.old.state.session.client.gate.stops + 1) }
+        ensures stops { IfOk result (λ stopped. self.new.state.session.client.gate.stops
+            ≡ self.old.state.session.client.gate.stops + one_if stopped) }
         ensures shown { OnOk result (ShowsCalls self.old.state.member.number
             self.old.state.session.client.pass self.new.state.session.client.pass
             self.old.state.session.client.gate self.new.state.session.client.gate) }
@@ -113,9 +113,8 @@ impl<W: Work, G: Gate> Worker<W, G> {
         ensures worker { OnOk result (IsWorkerState W.plan (draft_of topology.now) self.new.state) }
         ensures counts { OnOk result (HasCounted self.old.state.session.client.gate
             self.new.state.session.client.gate 1) }
-        ensures ended { IfOk result (λ stopped. stopped ≡ true
-            → self.new.state.session.client.gate.stops
-            ≡ self.old.state.session.client.gate.stops + 1) }
+        ensures stops { IfOk result (λ stopped. self.new.state.session.client.gate.stops
+            ≡ self.old.state.session.client.gate.stops + one_if stopped) }
         ensures took { OnOk result (self.old.state.session.client.gate.asked
             + self.old.state.session.client.gate.cuts + 1
             ≤ self.new.state.session.client.gate.asked + self.new.state.session.client.gate.cuts) }

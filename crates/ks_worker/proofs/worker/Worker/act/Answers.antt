@@ -32,8 +32,8 @@ returns-in-Crash-clause-worker g c =
 
 pub returns-in-Pump-clause-does : goal.returns-in-Pump-clause-does
 returns-in-Pump-clause-does g c =
-    subst (λ (a : Act). OnOk c.pump.result (Does g.W.Work.plan (draft_of c.args.topology.now) a c.args.self.now.state c.pump.new.state)) (sym c.in-Pump.is)
-    (has_pumped g.W.Work.plan c.args.self.now.state c.pump.new.state c.pump.result c.args.self.now.waiting c.pump.ensures.same c.pump.ensures.tasks c.pump.ensures.names c.pump.ensures.fed c.pump.ensures.marked)
+    subst (λ (a : Act). OnOk c.pump.result (Does g.W.Work.plan (draft_of c.args.topology.now) c.args.self.now.waiting a c.args.self.now.state c.pump.new.state)) (sym c.in-Pump.is)
+    (has_pumped g.W.Work.plan c.args.self.now.state c.pump.new.state c.args.self.now.waiting c.pump.result c.pump.ensures.same c.pump.ensures.tasks c.pump.ensures.names c.pump.ensures.fed c.pump.ensures.marked)
 
 pub returns-in-Stop-clause-later : goal.returns-in-Stop-clause-later
 returns-in-Stop-clause-later g c = same_state g.W.Work.plan _ c.args.self.now.state c.requires.may.call

@@ -6,5 +6,5 @@ use Rattle.ks_worker.proofs.worker.Worker.obey.Goals as goal
 
 pub returns-clause-shown : goal.returns-clause-shown
 returns-clause-shown g c =
-    shows_calls g.W.Work.plan (draft_of c.args.topology.now) c.next-act.result c.args.self.now.state.session.client.gate _ c.perform.new.self.state c.perform.ensures.later.later
+    shows_calls g.W.Work.plan (draft_of c.args.topology.now) c.args.self.now.waiting c.next-act.result c.args.self.now.state.session.client.gate _ c.perform.new.self.state c.perform.ensures.later.later
     (ap (λ (k : GateCounts). k.calls) c.next-act.ensures) (ap (λ (k : GateCounts). k.cuts) c.next-act.ensures) c.perform.ensures.gate c.in_ok-perform.ensures.does

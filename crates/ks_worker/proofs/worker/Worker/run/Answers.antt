@@ -2,7 +2,7 @@ use Rattle.std.proofs.Common.{◌≡◌, ◌≤◌, ◌+◌, ◌∙◌, sym, sub
 use Rattle.ks_topo.specs.Topologies.{draft_of}
 use Rattle.ks_worker_state.proofs.States.{state_later_twice, same_state}
 use Rattle.ks_worker.specs.Running.{ShowsCalls}
-use Rattle.ks_worker.proofs.Turning.{counted_none, counted_then, counted_more, shown_none, shown_then, may_run_on}
+use Rattle.ks_worker.proofs.Turning.{counted_none, counted_then, counted_more, shown_none, shown_then, went_on, stopped_then, may_run_on}
 use Rattle.ks_worker.proofs.worker.Worker.run.Goals as goal
 
 pub take_turn-requires : goal.take_turn-requires
@@ -17,12 +17,17 @@ returns-then-branch-clause-shown g c =
     c.args.self.now.state.session.client.gate c.loop.self.state.session.client.gate c.take_turn.new.self.state.session.client.gate c.loop.invariant.shown
     (subst (λ n. ShowsCalls n c.loop.self.state.session.client.pass c.take_turn.new.self.state.session.client.pass c.loop.self.state.session.client.gate c.take_turn.new.self.state.session.client.gate) c.loop.invariant.later.number c.in_ok-take_turn.ensures.shown)
 
+pub returns-then-branch-clause-ended : goal.returns-then-branch-clause-ended
+returns-then-branch-clause-ended g c =
+    stopped_then c.args.turns c.args.self.now.state.session.client.gate c.loop.self.state.session.client.gate c.take_turn.new.self.state.session.client.gate c.in_ok-take_turn.field-0 c.loop.invariant.stops c.in_ok-take_turn.ensures.stops c.if-branch.true
+
 pub loop-preserved : goal.loop-preserved
 loop-preserved g c = record {
   placing = c.take_turn.ensures.placing ∙ c.loop.invariant.placing;
   later = state_later_twice g.W.Work.plan c.args.self.now.state c.loop.self.state c.take_turn.new.self.state c.loop.invariant.later c.take_turn.ensures.later;
   worker = c.in_ok-take_turn.ensures.worker;
   counts = counted_then c.args.self.now.state.session.client.gate c.loop.self.state.session.client.gate c.take_turn.new.self.state.session.client.gate c.loop.counter 1 c.loop.invariant.counts c.in_ok-take_turn.ensures.counts;
+  stops = went_on c.args.self.now.state.session.client.gate.stops c.loop.self.state.session.client.gate.stops c.take_turn.new.self.state.session.client.gate.stops c.in_ok-take_turn.field-0 c.loop.invariant.stops c.in_ok-take_turn.ensures.stops c.if-branch.false;
   took = omega (arith, c.loop.invariant.took, c.in_ok-take_turn.ensures.took);
   shown = shown_then c.args.self.now.state.member.number c.args.self.now.state.session.client.pass c.loop.self.state.session.client.pass c.take_turn.new.self.state.session.client.pass
       c.args.self.now.state.session.client.gate c.loop.self.state.session.client.gate c.take_turn.new.self.state.session.client.gate c.loop.invariant.shown

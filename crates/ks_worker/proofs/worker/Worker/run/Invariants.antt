@@ -11,6 +11,7 @@ invariant-loop g l = record {
   later : LaterState g.W.Work.plan l.fn.self.state l.self.state;
   worker : IsWorkerState g.W.Work.plan (draft_of l.topology) l.self.state;
   counts : HasCounted l.fn.self.state.session.client.gate l.self.state.session.client.gate l.counter;
+  stops : l.self.state.session.client.gate.stops ≡ l.fn.self.state.session.client.gate.stops;
   took : l.fn.self.state.session.client.gate.asked + l.fn.self.state.session.client.gate.cuts + l.counter ≤ l.self.state.session.client.gate.asked + l.self.state.session.client.gate.cuts;
   shown : ShowsCalls l.fn.self.state.member.number l.fn.self.state.session.client.pass l.self.state.session.client.pass l.fn.self.state.session.client.gate l.self.state.session.client.gate;
 }
