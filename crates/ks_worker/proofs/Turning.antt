@@ -1,7 +1,9 @@
 -- Turns, one after another.
 use Rattle.std.proofs.Common.{◌≡◌, ◌⊎◌, ◌≤◌, ◌<◌, ◌+◌, ◌-◌, ◌^◌, ℕ, suc, Bool, true, false, cond, List, [], ◌∷◌, ◌++◌, Result, Ok, Err, OnOk, inl, refl, sym, ap, subst, ◌∙◌, arith, append_assoc, append-nil}
+use Rattle.std.specs.Prelude.{IfOk}
 use Rattle.atomic_table.specs.Seated.{TableId}
 use Rattle.ks_edge.specs.Counts.{one_if}
+use Rattle.ks_record.specs.declared.record.TaskId.{TaskId}
 use Rattle.ks_plan.specs.Drafts.{DraftView}
 use Rattle.ks_history.specs.declared.journal.Entry.{Entry}
 use Rattle.ks_history.specs.Machine.{TaskPlan}
@@ -15,6 +17,7 @@ use Rattle.ks_worker_client.proofs.Moments.{may_later}
 use Rattle.ks_worker_state.specs.declared.state.WorkerState.{WorkerState}
 use Rattle.ks_worker_state.specs.State.{IsWorkerState, MayAct, LaterState}
 use Rattle.ks_worker_state.proofs.States.{runs_later}
+use Rattle.ks_worker_turn.specs.Beginning.{HasBegun}
 use Rattle.ks_worker_turn.specs.Placing.{PlacesBy}
 use Rattle.ks_worker_turn.proofs.Offered.{serves_later}
 use Rattle.ks_worker.specs.Beginning.{MayRun}
@@ -96,6 +99,20 @@ module _ {W : Type 0} (w : ℕ) where
   pub shown_ok : {A E : Type 0} (plan : W → TaskPlan) (v : ℕ) (p q r : PassView Entry (Frame W)) (g h k : GateCounts) (answer : Result A E) → v ≡ w → Later plan p q → h ≡ g → OnOk answer (ShowsCalls v q r h k) → OnOk answer (ShowsCalls w p r g k)
   shown_ok plan v p q r g h k (Ok a) same l quiet s = shown_then p q r g h k (shown_quiet plan p q g h l quiet) (subst (λ n. ShowsCalls n q r h k) same s)
   shown_ok plan v p q r g h k (Err e) same l quiet s = tt
+
+-- ---- a turn begins
+-- the clauses of the turn's beginning, for the state before its gate began
+pub begun_as : {W G : Type 0} (plan : W → TaskPlan) (threads : ℕ) (tasks : List TaskId) (s : WorkerState W G) (gate : GateCounts) (new : WorkerState W G) (waiting : ℕ) → gate ≡ s.session.client.gate →
+    HasBegun plan threads tasks (record s { session = record s.session { client = record s.session.client { gate = gate } } }) new waiting → HasBegun plan threads tasks s new waiting
+begun_as plan threads tasks s gate new waiting same h =
+    subst (λ (k : GateCounts). HasBegun plan threads tasks (record s { session = record s.session { client = record s.session.client { gate = k } } }) new waiting) same h
+
+pub begun_with : {A E : Type 0} (r : Result A E) (x : A) (P : A → Type 0) → r ≡ Ok x → IfOk r P → P x
+begun_with (Ok y) x P is h = subst P (same y x is) h
+  where
+    same : {A E : Type 0} (a b : A) → Ok {A} {E} a ≡ Ok b → a ≡ b
+    same a b e = cc
+begun_with (Err e) x P is h = absurd cc
 
 -- ---- a worker goes on
 -- its placing serves on

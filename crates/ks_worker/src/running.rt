@@ -1,8 +1,10 @@
 //! A worker's turns.
 ghost use Rattle.std.specs.Prelude.{◌≡◌, ◌≤◌, ◌+◌, true, false, OnOk, IfOk};
 ghost use Rattle.ks_edge.specs.Counts.{one_if};
-ghost use Rattle.ks_topo.specs.Topologies.{draft_of};
+ghost use Rattle.ks_plan.specs.Layout.{tasks};
+ghost use Rattle.ks_topo.specs.Topologies.{draft_of, plan_in};
 ghost use Rattle.ks_worker_state.specs.State.{MayAct, LaterState, IsWorkerState};
+ghost use Rattle.ks_worker_turn.specs.Beginning.{HasBegun};
 ghost use Rattle.ks_worker_turn.specs.Placing.{PlacesBy};
 ghost use Rattle.ks_worker.specs.Beginning.{MayRun};
 ghost use Rattle.ks_worker.specs.Running.{HasCounted, ShowsCalls, IsCutOnce, HasEndedBy};
@@ -43,6 +45,9 @@ impl<W: Work, G: Gate> Worker<W, G> {
             self.new.state.session.client.gate }
         ensures goes_on { IfOk result (λ is_cut. is_cut ≡ false
             → self.new.state.session.client.gate ≡ self.old.state.session.client.gate) }
+        ensures begun { IfOk result (λ is_cut. is_cut ≡ false
+            → HasBegun W.plan self.old.placing.threads (tasks (plan_in topology.now))
+            self.old.state self.new.state self.new.waiting) }
         ensures is_cut { IfOk result (λ is_cut. is_cut ≡ true
             → self.new.state.session.client.gate.cuts
             ≡ self.old.state.session.client.gate.cuts + 1) }

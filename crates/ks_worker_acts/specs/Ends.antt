@@ -41,7 +41,7 @@ pub record HasCommittedTasks {W G : Type 0} (plan : W → TaskPlan) (d : DraftVi
   pub clean : All IsCleanTask new.tasks.items
   pub stays : StaysMember old new
 
--- the journal has one of the five ends of a commit of these works
+-- the journal has one of the five ends of a commit of these works, and no commit of the worker's own was accepted
 pub record HasOneEnd {W G : Type 0} (plan : W → TaskPlan) (old new : WorkerState W G) : Type 0 where
   pub works : List WorkView
   pub are : AreWorks plan old works

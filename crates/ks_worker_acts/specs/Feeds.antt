@@ -1,5 +1,5 @@
 -- What an act of feeding does to a worker's replicas (KIP-441: standby replicas).
-use Rattle.std.specs.Prelude.{◌≡◌, ℕ, zero, suc, Bool, true, false, List, [], ◌∷◌, ◌++◌}
+use Rattle.std.specs.Prelude.{◌≡◌, ℕ, zero, suc, List, [], ◌∷◌, ◌++◌}
 use Rattle.std.specs.List.{AllZip}
 use Rattle.ks_history.specs.declared.journal.Entry.{Entry}
 use Rattle.ks_history.specs.declared.journal.Request.{Request}
@@ -33,8 +33,3 @@ marks_to (suc w) = marks_to w ++ MarkNext w ∷ []
 abbrev pub marks_of : ℕ → List Request
 marks_of zero = []
 marks_of (suc n) = marks_to 17
-
--- it writes a marker that waits
-abbrev pub is_mark : Request → Bool
-is_mark (MarkNext w) = true
-is_mark _ = false

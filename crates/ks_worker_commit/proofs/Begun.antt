@@ -85,6 +85,7 @@ module _ {W : Type 0} (plan : W → TaskPlan) (old : PassView Entry (Frame W)) (
   begun = record {
     worker = known;
     requests = requests_none plan old w;
+    undecided = refl;
     history = known.history;
     seen = known.seen;
     back = λ h. h;

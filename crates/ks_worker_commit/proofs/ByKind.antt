@@ -44,11 +44,11 @@ use Rattle.ks_worker_commit.specs.declared.halt.Halt.TheVariants.{OutOfMemory, C
 use Rattle.ks_worker_client.specs.declared.halt.Halt.{Halt as TurnHalt}
 use Rattle.ks_worker_client.specs.declared.halt.Halt.TheVariants.{OutOfMemory as NoMemory, Cut as CutOff}
 use Rattle.ks_worker_client.specs.Calls.{Answered}
-use Rattle.ks_worker_commit.specs.Outcomes.{Requests, halted, written}
+use Rattle.ks_worker_commit.specs.Outcomes.{Requests, UndecidedRequests, halted, written}
 use Rattle.ks_worker_commit.specs.Ends.{NeverBarred}
 use Rattle.ks_worker_commit.specs.Underway.{Memory, with_end, HasEnds, IsUnderway, Puts, Halts, Carries, HasDecided, Decides, HasAborted, HasNotAborted, Aborts, always, has_added, has_work, has_pending_work}
 use Rattle.ks_worker_commit.proofs.Ended.{append_has_ends}
-use Rattle.ks_worker_commit.proofs.Requesting.{Asked, history_now, carries_request, requests_request, requests_by, requests_nothing, requests_cut, numbered_reached, assigned_reached, reached_history, requests_now, more_now, before_is, before_setup, is_accepted, one_of_commit, request_refused, request_touched, seen_after}
+use Rattle.ks_worker_commit.proofs.Requesting.{Asked, history_now, carries_request, requests_request, requests_by, requests_nothing, requests_cut, undecided_nothing, undecided_cut, numbered_reached, assigned_reached, reached_history, requests_now, more_now, before_is, before_setup, is_accepted, one_of_commit, request_refused, request_touched, seen_after}
 
 -- the answer is what the call's is to a commit
 pub carried_as : {W A : Type 0} (plan : W → TaskPlan) (old new : PassView Entry (Frame W)) (w e g : ℕ) (mem next : Memory) (Ready : List WorkView → Contents → Type 0) (puts : Contents → Contents)
@@ -110,12 +110,12 @@ is_same w = eq-eqb w w refl
 module _ {W : Type 0} (plan : W → TaskPlan) (old new : PassView Entry (Frame W)) (w e g : ℕ) (mem : Memory) (next : ℕ) where
   pub add_carries : (p : PartId) (r : Result (Result (Unit {0}) Barred) TurnHalt) → Asked plan old new w mem.last next (Add w e p) (λ u. Done) r → Carries plan old new w e g mem (record mem { last = next }) always (with_part p) (halted r)
   add_carries p r called =
-      carries_request plan old new w e g mem (record mem { last = next }) always (Add w e p) (λ u. Done) (is_same w) (is_same w) (and_from (w == w) (e == e) (is_same w) (is_same e)) (is_same w) (λ u. refl) (λ s. refl)
+      carries_request plan old new w e g mem (record mem { last = next }) always (Add w e p) (λ u. Done) (is_same w) (is_same w) refl (and_from (w == w) (e == e) (is_same w) (is_same e)) (is_same w) (λ u. refl) (λ s. refl)
       r (λ u same. record { numbers = λ s n. n; ends = λ s c is h. h }) (λ b same. (refl, refl)) (λ from first fs c refused ready u k mine place. tt) called
 
   pub add_requests : (p : PartId) (r : Result (Result (Unit {0}) Barred) TurnHalt) → Asked plan old new w mem.last next (Add w e p) (λ u. Done) r → Requests plan old new w
   add_requests p r called =
-      requests_request plan old new w e g mem (record mem { last = next }) always (Add w e p) (λ u. Done) (is_same w) (is_same w) (and_from (w == w) (e == e) (is_same w) (is_same e)) (is_same w) (λ u. refl) (λ s. refl) r called
+      requests_request plan old new w e g mem (record mem { last = next }) always (Add w e p) (λ u. Done) (is_same w) (is_same w) refl (and_from (w == w) (e == e) (is_same w) (is_same e)) (is_same w) (λ u. refl) (λ s. refl) r called
 
   -- ---- append
   append_counts : (s : State) (number : ℕ) (t : TaskId) (p : PartId) (rs : List Rec) (q : PartId) → count_sent w e ((effect s (Append w e number t p rs)).partition q) ≡ count_sent w e (s.partition q) + put_count q ((t, p, rs) ∷ [])
@@ -137,7 +137,7 @@ module _ {W : Type 0} (plan : W → TaskPlan) (old new : PassView Entry (Frame W
         ((b : Barred) → halted r ≡ Err (IsBarred b) → (made.numbers ≡ mem.numbers) × (made.ends ≡ mem.ends)) →
         Asked plan old new w mem.last next (Append w e number t p rs) (λ n. Number n) r → Carries plan old new w e g mem made (has_added p) (with_records t p rs) (halted r)
     append_carries r goes stays called =
-        carries_request plan old new w e g mem made (has_added p) (Append w e number t p rs) (λ n. Number n) (is_same w) (is_same w) (and_from (w == w) (e == e) (is_same w) (is_same e)) (is_same w) (λ n. refl) (λ s. refl)
+        carries_request plan old new w e g mem made (has_added p) (Append w e number t p rs) (λ n. Number n) (is_same w) (is_same w) refl (and_from (w == w) (e == e) (is_same w) (is_same e)) (is_same w) (λ n. refl) (λ s. refl)
         r
         (λ n same. record {
           numbers = λ s h. numbers_rise s (effect s (Append w e number t p rs)) w e p t rs number now mem.numbers made.numbers h is rises (goes n same).0 (append_counts s number t p rs);
@@ -176,7 +176,7 @@ module _ {W : Type 0} (plan : W → TaskPlan) (old new : PassView Entry (Frame W
 
   pub append_requests : (number : ℕ) (t : TaskId) (p : PartId) (rs : List Rec) (r : Result (Result ℕ Barred) TurnHalt) → Asked plan old new w mem.last next (Append w e number t p rs) (λ n. Number n) r → Requests plan old new w
   append_requests number t p rs r called =
-      requests_request plan old new w e g mem (record mem { last = next }) (has_added p) (Append w e number t p rs) (λ n. Number n) (is_same w) (is_same w) (and_from (w == w) (e == e) (is_same w) (is_same e)) (is_same w) (λ n. refl) (λ s. refl) r called
+      requests_request plan old new w e g mem (record mem { last = next }) (has_added p) (Append w e number t p rs) (λ n. Number n) (is_same w) (is_same w) refl (and_from (w == w) (e == e) (is_same w) (is_same e)) (is_same w) (λ n. refl) (λ s. refl) r called
 
   -- ---- offsets
   module _ (t : TaskId) (offsets order : List (ℕ × ℕ)) (late : ℕ) where
@@ -189,12 +189,12 @@ module _ {W : Type 0} (plan : W → TaskPlan) (old new : PassView Entry (Frame W
     pub offsets_carries : (r : Result (Result (Unit {0}) Barred) TurnHalt) → Asked plan old new w mem.last next sending (λ u. Done) r →
         Carries plan old new w e g mem (record mem { last = next }) (has_work t) (with_pending_offsets (record { task = t; offsets = offsets; order = order; late = late })) (halted r)
     offsets_carries r called =
-        carries_request plan old new w e g mem (record mem { last = next }) (has_work t) sending (λ u. Done) (is_same w) (is_same w) carried (is_same w) (λ u. refl) (λ s. refl) r (λ u same. record { numbers = λ s n. n; ends = λ s c is h. h }) (λ b same. (refl, refl))
+        carries_request plan old new w e g mem (record mem { last = next }) (has_work t) sending (λ u. Done) (is_same w) (is_same w) refl carried (is_same w) (λ u. refl) (λ s. refl) r (λ u same. record { numbers = λ s n. n; ends = λ s c is h. h }) (λ b same. (refl, refl))
         (λ from first fs c refused ready u k mine place same. assigned_reached plan from old new w e g first mem fs c u (λ b x. IsRefused plan b x w mem.last next sending refused) k t ready mine place same)
         called
 
     pub offsets_requests : (r : Result (Result (Unit {0}) Barred) TurnHalt) → Asked plan old new w mem.last next sending (λ u. Done) r → Requests plan old new w
-    offsets_requests r called = requests_request plan old new w e g mem (record mem { last = next }) (has_work t) sending (λ u. Done) (is_same w) (is_same w) carried (is_same w) (λ u. refl) (λ s. refl) r called
+    offsets_requests r called = requests_request plan old new w e g mem (record mem { last = next }) (has_work t) sending (λ u. Done) (is_same w) (is_same w) refl carried (is_same w) (λ u. refl) (λ s. refl) r called
 
     -- they are accepted in the worker's generation
     in_generation : (s : State) → old_generation s g ≡ None → s.generation ≡ g
@@ -317,6 +317,25 @@ module _ {W : Type 0} (plan : W → TaskPlan) (old new : PassView Entry (Frame W
   decide_requests commit (Err NoMemory) k = requests_nothing plan old new w k
   decide_requests commit (Err CutOff) k = requests_cut plan old new w k
 
+  -- one that isn't to commit decides no commit
+  pub abort_requests : (r : Result (Result (Unit {0}) Barred) TurnHalt) → Asked plan old new w mem.last next aborting (λ u. Done) r → UndecidedRequests plan old new w
+  abort_requests (Ok (Ok u)) k = record {
+    requests = requests_by plan old new _ k w (record { request = aborting; reply = Done } ∷ []) (ap (λ (x : ClusterView W). x.journal) k.does.adds.journal)
+        (one_of_commit w (record { request = aborting; reply = Done }) (is_same w));
+    undecided = refl;
+  }
+  abort_requests (Ok (Err (Refusal r))) k = record {
+    requests = requests_by plan old new _ k w (record { request = aborting; reply = Refuse r } ∷ []) (ap (λ (x : ClusterView W). x.journal) k.does.adds.journal)
+        (one_of_commit w (record { request = aborting; reply = Refuse r }) (is_same w));
+    undecided = refl;
+  }
+  abort_requests (Ok (Err (Touched place))) k = record {
+    requests = requests_by plan old new _ k w [] (ap (λ (x : ClusterView W). x.journal) k.does.same ∙ sym (append-nil k.before.journal)) refl;
+    undecided = refl;
+  }
+  abort_requests (Err NoMemory) k = undecided_nothing plan old new w k
+  abort_requests (Err CutOff) k = undecided_cut plan old new w k
+
 -- ---- markers
 -- nothing waits where none was given
 none_waits : (s : State) (w : ℕ) → Marked None ≡ answer s (MarkNext w) → (s.producer w).waiting ≡ []
@@ -355,12 +374,14 @@ module _ {W : Type 0} (plan : W → TaskPlan) (old new : PassView Entry (Frame W
   abbrev pub MarkerAsked : Result (Option (PartId × Bool)) TurnHalt → Type 0
   MarkerAsked r = Answered plan old new (λ m before after. AddsEntry plan before after (MarkNext w) (Marked m)) r
 
-  pub marker_requests : (r : Result (Option (PartId × Bool)) TurnHalt) → MarkerAsked r → Requests plan old new w
-  marker_requests (Ok m) k =
-      requests_by plan old new _ k w (record { request = MarkNext w; reply = Marked m } ∷ []) (ap (λ (x : ClusterView W). x.journal) k.does.journal)
-      (one_of_commit w (record { request = MarkNext w; reply = Marked m }) (is_same w))
-  marker_requests (Err NoMemory) k = requests_nothing plan old new w k
-  marker_requests (Err CutOff) k = requests_cut plan old new w k
+  pub marker_requests : (r : Result (Option (PartId × Bool)) TurnHalt) → MarkerAsked r → UndecidedRequests plan old new w
+  marker_requests (Ok m) k = record {
+    requests = requests_by plan old new _ k w (record { request = MarkNext w; reply = Marked m } ∷ []) (ap (λ (x : ClusterView W). x.journal) k.does.journal)
+        (one_of_commit w (record { request = MarkNext w; reply = Marked m }) (is_same w));
+    undecided = refl;
+  }
+  marker_requests (Err NoMemory) k = undecided_nothing plan old new w k
+  marker_requests (Err CutOff) k = undecided_cut plan old new w k
 
   waits_none : (r : Result (Option (PartId × Bool)) TurnHalt) → MarkerAsked r → IfOk (written r) (λ more. more ≡ false → ((at (setup_in plan old.frame) new.seen).producer w).waiting ≡ [])
   waits_none (Ok None) k = λ h. none_left plan old new w k

@@ -29,12 +29,12 @@ use Rattle.ks_worker_commit.specs.declared.halt.Halt.{Halt}
 use Rattle.ks_worker_commit.specs.declared.halt.Halt.TheVariants.{OutOfMemory, Cut as IsCut, Barred as IsBarred}
 use Rattle.ks_worker_commit.specs.declared.outcome.Outcome.{Outcome}
 use Rattle.ks_worker_commit.specs.declared.outcome.Outcome.TheVariants.{Committed, Aborted, Fenced, Touched, Cut}
-use Rattle.ks_worker_commit.specs.Outcomes.{Requests, with_cuts, cuts_in}
+use Rattle.ks_worker_commit.specs.Outcomes.{Requests, UndecidedRequests, with_cuts, cuts_in}
 use Rattle.ks_worker_commit.specs.Outputs.{contents_of}
 use Rattle.ks_worker_commit.specs.Underway.{Memory, IsHalted}
 use Rattle.ks_worker_commit.specs.Ends.{CameToDecision, EndsSo, HasCase, IsOutcomeOf, HasTurnedBack, IsAborted, refused_outcome, cut_of, AbortsSo, FinishesSo}
 use Rattle.ks_worker_commit.specs.Leaves.{KnowsProducer, LeavesTasks, LeavesProducer, HasNoMarker, LeavesNoMarker}
-use Rattle.ks_worker_commit.proofs.Requesting.{requests_none, requests_both}
+use Rattle.ks_worker_commit.proofs.Requesting.{requests_both, undecided_none}
 use Rattle.ks_worker_commit.proofs.Ending.{pending_is, refused_then, touched_ends, committed_then, aborted_case, finished_case}
 use Rattle.ks_worker_commit.proofs.Carrying.{same_setup}
 use Rattle.ks_worker_commit.proofs.Kept.{committed_works, committed_rests, committed_remembers, remembers_later, aborted_tasks, aborted_remembers, refused_tasks, refused_remembers}
@@ -116,7 +116,7 @@ module _ {W : Type 0} (plan : W → TaskPlan) (old mid new : PassView Entry (Fra
 abbrev pub NotAborted : {E : Type 0} → Result Outcome E → Type 0
 NotAborted r = r ≡ Ok Aborted → ⊥
 
-module _ {W : Type 0} (plan : W → TaskPlan) (old mid : PassView Entry (Frame W)) (m : Member) (last : ℕ) (mem : Memory) (fs : List WorkView) (more : Requests plan mid mid m.number) where
+module _ {W : Type 0} (plan : W → TaskPlan) (old mid : PassView Entry (Frame W)) (m : Member) (last : ℕ) (mem : Memory) (fs : List WorkView) (more : UndecidedRequests plan mid mid m.number) where
   pub halted_cases : {E : Type 0} (A : Type 0) (halt : Halt) (r : Result Outcome E) → IsOutcomeOf halt r → EndsSo {A = A} plan old mid m.number m.epoch m.generation last mem fs (contents_of fs) (Err halt) → IfOk r (HasCase plan old mid m.number m.epoch m.generation last (pending_in fs))
   halted_cases A OutOfMemory (Ok o) is ends = absurd is
   halted_cases A OutOfMemory (Err e) is ends = tt
@@ -154,7 +154,7 @@ aborted_by IsCut r is same = absurd cc
 aborted_by (IsBarred (IsTouched place)) r is same = absurd cc
 aborted_by (IsBarred (Refusal x)) r is same = (x, refl)
 
-module _ {W : Type 0} (A : Type 0) (plan : W → TaskPlan) (old mid new : PassView Entry (Frame W)) (m : Member) (last : ℕ) (mem next : Memory) (fs : List WorkView) (more : Requests plan mid new m.number) (history : IsHistory (setup_in plan old.frame) new.seen)
+module _ {W : Type 0} (A : Type 0) (plan : W → TaskPlan) (old mid new : PassView Entry (Frame W)) (m : Member) (last : ℕ) (mem next : Memory) (fs : List WorkView) (more : UndecidedRequests plan mid new m.number) (history : IsHistory (setup_in plan old.frame) new.seen)
     (halt : Halt) (refused : (x : Refused) × (halt ≡ IsBarred (Refusal x))) (ends : EndsSo {A = A} plan old mid m.number m.epoch m.generation last mem fs (contents_of fs) (Err halt)) where
   was_halted : IsHalted plan old mid m.number m.epoch m.generation last mem (Refusal refused.0)
   was_halted = subst (λ h. EndsSo {A = A} plan old mid m.number m.epoch m.generation last mem fs (contents_of fs) (Err h)) refused.1 ends
@@ -241,13 +241,13 @@ module _ {W A E : Type 0} (plan : W → TaskPlan) (old mid new : PassView Entry 
   ok_marked = if_ok _ _ o (finished_marked plan old mid new m last next fs apart came more history_new) so
 
 module _ {W A E : Type 0} (plan : W → TaskPlan) (old mid new : PassView Entry (Frame W)) (m : Member) (last : ℕ) (mem next : Memory) (fs : List WorkView) (r : Result A Halt) (halt : Halt) (is : r ≡ Err halt)
-    (ends : EndsSo plan old mid m.number m.epoch m.generation last mem fs (contents_of fs) r) (one : Requests plan old mid m.number) (more : Requests plan mid new m.number) (history : IsHistory (setup_in plan old.frame) old.seen)
+    (ends : EndsSo plan old mid m.number m.epoch m.generation last mem fs (contents_of fs) r) (one : Requests plan old mid m.number) (more : UndecidedRequests plan mid new m.number) (history : IsHistory (setup_in plan old.frame) old.seen)
     (x : Result Outcome E) (of : IsOutcomeOf halt x) (aborted : x ≡ Ok Aborted) (o : Result Outcome E) (so : IfOk o (AbortsSo plan mid new m.number m.epoch mem next)) where
   stopped : EndsSo {A = A} plan old mid m.number m.epoch m.generation last mem fs (contents_of fs) (Err halt)
   stopped = subst (λ (y : Result A Halt). EndsSo plan old mid m.number m.epoch m.generation last mem fs (contents_of fs) y) is ends
 
   history_then : IsHistory (setup_in plan old.frame) new.seen
-  history_then = (requests_both plan old mid new m.number one more).history history
+  history_then = (requests_both plan old mid new m.number one more.requests).history history
 
   pub aborted_ok_cases : IfOk o (HasCase plan old new m.number m.epoch m.generation last (pending_in fs))
   aborted_ok_cases = if_ok _ _ o (abort_cases A plan old mid new m last mem next fs more history_then halt (aborted_by halt x of aborted) stopped) so
@@ -264,7 +264,7 @@ module _ {W A E : Type 0} (plan : W → TaskPlan) (old mid new : PassView Entry 
 module _ {W A E : Type 0} (plan : W → TaskPlan) (old mid : PassView Entry (Frame W)) (m : Member) (last : ℕ) (mem : Memory) (fs : List WorkView) (r : Result A Halt) (halt : Halt) (is : r ≡ Err halt)
     (ends : EndsSo plan old mid m.number m.epoch m.generation last mem fs (contents_of fs) r) (x : Result Outcome E) (of : IsOutcomeOf halt x) where
   pub halt_cases : IfOk x (HasCase plan old mid m.number m.epoch m.generation last (pending_in fs))
-  halt_cases = halted_cases plan old mid m last mem fs (requests_none plan mid m.number) A halt x of
+  halt_cases = halted_cases plan old mid m last mem fs (undecided_none plan mid m.number) A halt x of
       (subst (λ (y : Result A Halt). EndsSo plan old mid m.number m.epoch m.generation last mem fs (contents_of fs) y) is ends)
 
   pub halt_after : (P : Outcome → Type 0) → P Fenced → P Touched → P Cut → NotAborted x → IfOk x P

@@ -27,13 +27,13 @@ use Rattle.ks_shared.specs.declared.state.Frame.{Frame}
 use Rattle.ks_shared.specs.declared.barred.Barred.{Barred}
 use Rattle.ks_shared.specs.declared.barred.Barred.TheVariants.{Refused as Refusal, Touched as IsTouched}
 use Rattle.ks_shared.specs.Calls.{setup_in}
-use Rattle.ks_worker_commit.specs.Outcomes.{Requests, WhyBarred}
+use Rattle.ks_worker_commit.specs.Outcomes.{Requests, UndecidedRequests, WhyBarred}
 use Rattle.ks_worker_commit.specs.Outputs.{parts_in, add_all, put_all, send_all, contents_of}
 use Rattle.ks_worker_commit.specs.declared.outcome.Outcome.{Outcome}
 use Rattle.ks_worker_commit.specs.declared.outcome.Outcome.TheVariants.{Committed, Aborted, Fenced, Touched, Cut}
 use Rattle.ks_worker_commit.specs.Underway.{Memory, IsHalted}
 use Rattle.ks_worker_commit.specs.Ends.{CameToDecision, IsCommitted, IsEnded, HasCase, AbortsSo, FinishesSo}
-use Rattle.ks_worker_commit.proofs.Requesting.{requests_both}
+use Rattle.ks_worker_commit.proofs.Requesting.{requests_both, undecided_both}
 use Rattle.ks_worker_commit.proofs.Filling.{IsFirst, first_of, first_pending, send_pending, put_pending}
 
 -- ---- what is pending is the works' offsets
@@ -85,20 +85,25 @@ module _ {W : Type 0} (plan : W → TaskPlan) (old mid new : PassView Entry (Fra
       by false is = no_then (λ e. true≢false (sym (eq-eqb (touched w old.seen) last e) ∙ is))
 
   -- refused, and what came then
-  pub refused_then : (mem : Memory) (r : Refused) → IsHalted plan old mid w e g last mem (Refusal r) → Requests plan mid new w → IsEnded plan old new w e g last pending
+  pub refused_then : (mem : Memory) (r : Refused) → IsHalted plan old mid w e g last mem (Refusal r) → UndecidedRequests plan mid new w → IsEnded plan old new w e g last pending
   refused_then mem r h more =
-      let all : Requests plan old new w = requests_both plan old mid new w h.requests more in
-      record { requests = all; cases = mine_or (CommitCases (setup_in plan old.frame) old.seen all.more w e g (length all.own) last pending) (λ is. by (h.why is)) (λ ne. inr (inr (inr (inr ne)))) }
+      let all : Requests plan old new w = requests_both plan old mid new w h.requests more.requests in
+      record {
+        requests = all;
+        own = undecided_both h.requests.own more.requests.own h.undecided more.undecided;
+        cases = mine_or (CommitCases (setup_in plan old.frame) old.seen all.more w e g (length all.own) last pending) (λ is. by (h.why is)) (λ ne. inr (inr (inr (inr ne))));
+      }
     where
       by : (IsFencing r × IsTurnedDown h.requests.more w e g IsFencing)
           ⊎ (IsMarkersWaiting r × IsTurnedDown h.requests.more w e g IsMarkersWaiting × ((at (setup_in plan old.frame) old.seen).producer w).waiting ≢ [])
-          → CommitCases (setup_in plan old.frame) old.seen (h.requests.more ++ more.more) w e g (length (h.requests.own ++ more.own)) last pending
-      by (inl f) = inr (inl (turned_more h.requests.more more.more IsFencing f.1))
-      by (inr m) = inr (inr (inl (turned_more h.requests.more more.more IsMarkersWaiting m.1, m.2)))
+          → CommitCases (setup_in plan old.frame) old.seen (h.requests.more ++ more.requests.more) w e g (length (h.requests.own ++ more.requests.own)) last pending
+      by (inl f) = inr (inl (turned_more h.requests.more more.requests.more IsFencing f.1))
+      by (inr m) = inr (inr (inl (turned_more h.requests.more more.requests.more IsMarkersWaiting m.1, m.2)))
 
   pub touched_ends : (mem : Memory) (place : ℕ) → IsHalted plan old new w e g last mem (IsTouched place) → IsEnded plan old new w e g last pending
   touched_ends mem place h = record {
     requests = h.requests;
+    own = h.undecided;
     cases = mine_or (CommitCases (setup_in plan old.frame) old.seen h.requests.more w e g (length h.requests.own) last pending) (λ is. inr (inr (inr (inl (h.why is))))) (λ ne. inr (inr (inr (inr ne))));
   }
 

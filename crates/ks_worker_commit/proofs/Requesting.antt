@@ -45,7 +45,7 @@ use Rattle.ks_worker_client.specs.declared.halt.Halt.{Halt as TurnHalt}
 use Rattle.ks_worker_client.specs.declared.halt.Halt.TheVariants.{OutOfMemory as NoMemory, Cut as CutOff}
 use Rattle.ks_worker_client.specs.Turns.{GateCounts, counts_after}
 use Rattle.ks_worker_client.specs.Calls.{Answered}
-use Rattle.ks_worker_commit.specs.Outcomes.{IsAmong, are_of_commit, Requests, halted, written, with_cuts, cuts_in}
+use Rattle.ks_worker_commit.specs.Outcomes.{IsAmong, are_of_commit, is_commit, holds_commit, Requests, UndecidedRequests, halted, written, with_cuts, cuts_in}
 use Rattle.ks_worker_commit.proofs.Ended.{ends_stay, gained_epoch}
 use Rattle.ks_worker_commit.specs.Underway.{Memory, HasEnds, AreActiveWorks, IsUnderway, IsHalted, Puts, Halts, Carries}
 
@@ -70,6 +70,21 @@ of_commit_both w (x ∷ xs) ys h g = by (is_of_commit w x.request) h (λ k. of_c
     by : (b : Bool) → b && are_of_commit w xs ≡ true → (are_of_commit w xs ≡ true → are_of_commit w (xs ++ ys) ≡ true) → b && are_of_commit w (xs ++ ys) ≡ true
     by true k on = on k
     by false k on = absurd (true≢false (sym k))
+
+pub undecided_both : (xs ys : List Entry) → holds_commit xs ≡ false → holds_commit ys ≡ false → holds_commit (xs ++ ys) ≡ false
+undecided_both [] ys h g = g
+undecided_both (x ∷ xs) ys h g = by (not (is_refused x.reply) && is_commit x.request) h (λ k. undecided_both xs ys k g)
+  where
+    by : (b : Bool) → b || holds_commit xs ≡ false → (holds_commit xs ≡ false → holds_commit (xs ++ ys) ≡ false) → b || holds_commit (xs ++ ys) ≡ false
+    by true k on = absurd (true≢false k)
+    by false k on = on k
+
+pub undecided_one : (entry : Entry) → is_commit entry.request ≡ false → holds_commit (entry ∷ []) ≡ false
+undecided_one entry is = ap (λ b. (not (is_refused entry.reply) && b) || false) is ∙ by (not (is_refused entry.reply))
+  where
+    by : (b : Bool) → (b && false) || false ≡ false
+    by true = refl
+    by false = refl
 
 module _ {W : Type 0} (plan : W → TaskPlan) where
   pub made_none : (p : PassView Entry (Frame W)) → p.made ≡ p.made + 0
@@ -100,6 +115,15 @@ module _ {W : Type 0} (plan : W → TaskPlan) where
     of_commit = of_commit_both w f.own g.own f.of_commit g.of_commit;
     history = λ h. subst (λ (o : Option (Frame W)). IsHistory (setup_in plan o) c.seen) (ap (λ (k : PassView Entry (Frame W)). k.frame) f.same)
         (g.history (subst (λ (o : Option (Frame W)). IsHistory (setup_in plan o) b.seen) (sym (ap (λ (k : PassView Entry (Frame W)). k.frame) f.same)) (f.history h)));
+  }
+
+  pub undecided_none : (p : PassView Entry (Frame W)) (w : ℕ) → UndecidedRequests plan p p w
+  undecided_none p w = record { requests = requests_none p w; undecided = refl }
+
+  pub undecided_then : (a b c : PassView Entry (Frame W)) (w : ℕ) → UndecidedRequests plan a b w → UndecidedRequests plan b c w → UndecidedRequests plan a c w
+  undecided_then a b c w f g = record {
+    requests = requests_both a b c w f.requests g.requests;
+    undecided = undecided_both f.requests.own g.requests.own f.undecided g.undecided;
   }
 
   module _ (old new : PassView Entry (Frame W)) (Does : ClusterView W → ClusterView W → Type 0) (c : Called plan old new Does) where
@@ -231,7 +255,7 @@ was_refused s request refused (Some other) is h = same refused other is
 module _ {W : Type 0} (plan : W → TaskPlan) (from old new : PassView Entry (Frame W)) (w e g first : ℕ) (mem next : Memory) (fs : List WorkView) (contents : Contents)
     (u : IsUnderway plan from old w e g first mem fs contents) (request : Request) (reply : Reply)
     (c : Called plan old new (λ before after. IsAccepted plan before after w mem.last next.last request reply))
-    (adds : adds_to w request ≡ true) (kind : is_of_commit w request ≡ true) (carried : carries w e g request ≡ true) (own : is_of w request ≡ true) (plain : is_refused reply ≡ false) where
+    (adds : adds_to w request ≡ true) (kind : is_of_commit w request ≡ true) (open_still : is_commit request ≡ false) (carried : carries w e g request ≡ true) (own : is_of w request ≡ true) (plain : is_refused reply ≡ false) where
   abbrev entry : Entry
   entry = record { request = request; reply = reply }
 
@@ -318,6 +342,7 @@ module _ {W : Type 0} (plan : W → TaskPlan) (from old new : PassView Entry (Fr
   request_done counts ends = record {
     worker = u.worker;
     requests = all;
+    undecided = undecided_both u.requests.own (entry ∷ []) u.undecided (undecided_one entry open_still);
     history = history_now plan from old new w e g first mem fs contents u Done_so c;
     seen = record {
       generation = subst (λ l. g ≤ (at here l).generation) (sym all.seen) (seen_stays here from.seen all.more w g first u.worker.seen).generation;
@@ -380,6 +405,7 @@ module _ {W : Type 0} (plan : W → TaskPlan) (from old new : PassView Entry (Fr
   pub request_refused : (touched w from.seen ≡ first → touched w refused_reach ≡ mem.last → IsPrepared (at refused_here refused_reach) contents request) → IsHalted plan from new w e g first next (Refusal r)
   request_refused ready = record {
     requests = refused_all;
+    undecided = undecided_both u.requests.own (refused_entry ∷ []) u.undecided refl;
     why = λ mine. by (sending_refused refused_here from.seen u.requests.more c.others request r w e g (length u.requests.own) first mem.last contents u.worker.network
         (reached_history plan from old new w e g first mem fs contents u Refused_so c) (u.worker.idle mine) u.worker.past carried refused_place (ready mine refused_place) refused_why (u.sending mine));
     mid = old;
@@ -409,6 +435,7 @@ module _ {W : Type 0} (plan : W → TaskPlan) (from old new : PassView Entry (Fr
   pub request_touched : IsHalted plan from new w e g first next (Touched place)
   request_touched = record {
     requests = requests_now plan from old new w e g first mem fs contents u Touched_so c [] same_journal refl;
+    undecided = undecided_both u.requests.own [] u.undecided refl;
     why = λ mine.
         let there = before_is plan from old new w e g first mem fs contents u Touched_so c in
         let counted = sending_touched (setup_in plan from.frame) from.seen u.requests.more c.others w e (length u.requests.own) first mem.last contents (u.sending mine)
@@ -438,8 +465,14 @@ module _ {W : Type 0} (plan : W → TaskPlan) (old new : PassView Entry (Frame W
   pub requests_cut : new ≡ old → Requests plan old new w
   requests_cut same = subst (λ (k : PassView Entry (Frame W)). Requests plan old k w) (sym same) (requests_none plan old w)
 
+  pub undecided_nothing : Called plan old new (λ b a. a ≡ b) → UndecidedRequests plan old new w
+  undecided_nothing k = record { requests = requests_by plan old new _ k w [] (ap (λ (x : ClusterView W). x.journal) k.does ∙ sym (append-nil k.before.journal)) refl; undecided = refl }
+
+  pub undecided_cut : new ≡ old → UndecidedRequests plan old new w
+  undecided_cut same = subst (λ (k : PassView Entry (Frame W)). UndecidedRequests plan old k w) (sym same) (undecided_none plan old w)
+
 module _ {W A : Type 0} (plan : W → TaskPlan) (old new : PassView Entry (Frame W)) (w e g : ℕ) (mem next : Memory) (Ready : List WorkView → Contents → Type 0) (request : Request) (reply : A → Reply)
-    (adds : adds_to w request ≡ true) (kind : is_of_commit w request ≡ true) (carried : carries w e g request ≡ true) (own : is_of w request ≡ true) (plain : (a : A) → is_refused (reply a) ≡ false)
+    (adds : adds_to w request ≡ true) (kind : is_of_commit w request ≡ true) (open_still : is_commit request ≡ false) (carried : carries w e g request ≡ true) (own : is_of w request ≡ true) (plain : (a : A) → is_refused (reply a) ≡ false)
     (answers : (s : State) → is_refused (reply_by s request None) ≡ false) where
   -- what it makes of what the producer remembers
   pub record Counts (a : A) : Type 0 where
@@ -454,7 +487,7 @@ module _ {W A : Type 0} (plan : W → TaskPlan) (old new : PassView Entry (Frame
       IsPrepared (at (setup_in plan from.frame) (reached plan from old new w e g first mem fs c u (λ b x. IsRefused plan b x w mem.last next.last request refused) k)) c request
 
   is_done : (a : A) → Counts a → Called plan old new (λ b x. IsAccepted plan b x w mem.last next.last request (reply a)) → Puts plan old new w e g mem next (added_by request)
-  is_done a counts k from first fs c u = request_done plan from old new w e g first mem next fs c u request (reply a) k adds kind carried own (plain a) counts.numbers (λ s. counts.ends s c)
+  is_done a counts k from first fs c u = request_done plan from old new w e g first mem next fs c u request (reply a) k adds kind open_still carried own (plain a) counts.numbers (λ s. counts.ends s c)
 
   -- what the producer remembers but for the place stays, where it isn't done
   abbrev pub Same : Type 0

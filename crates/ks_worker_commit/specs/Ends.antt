@@ -1,5 +1,5 @@
 -- What a commit's end says of the journal.
-use Rattle.std.specs.Prelude.{◌≡◌, ◌⊎◌, OnOk, ℕ, Result, Ok, Err, Option, List, [], length}
+use Rattle.std.specs.Prelude.{◌≡◌, ◌⊎◌, OnOk, ℕ, false, Result, Ok, Err, Option, List, [], length}
 use Rattle.ks_record.specs.declared.record.TaskId.{TaskId}
 use Rattle.ks_record.specs.declared.assignment.Marker.{Marker}
 use Rattle.ks_record.specs.declared.assignment.Refused.{Refused}
@@ -20,7 +20,7 @@ use Rattle.ks_worker_commit.specs.declared.halt.Halt.{Halt}
 use Rattle.ks_worker_commit.specs.declared.halt.Halt.TheVariants.{OutOfMemory, Cut as IsCut, Barred as IsBarred}
 use Rattle.ks_worker_commit.specs.declared.outcome.Outcome.{Outcome}
 use Rattle.ks_worker_commit.specs.declared.outcome.Outcome.TheVariants.{Committed, Aborted, Fenced, Touched, Cut}
-use Rattle.ks_worker_commit.specs.Outcomes.{Requests}
+use Rattle.ks_worker_commit.specs.Outcomes.{Requests, holds_commit}
 use Rattle.ks_worker_commit.specs.Underway.{Memory, HasDecided, IsHalted, HasAborted, HasNotAborted}
 
 -- all was sent while the generation was the worker's, and then the commit was decided; nobody else had used the number
@@ -43,9 +43,10 @@ pub record IsCommitted {W : Type 0} (plan : W → TaskPlan) (old new : PassView 
   pub requests : Requests plan old new w
   pub committed : HasCommitted (setup_in plan old.frame) old.seen requests.more w e pending
 
--- one of the five cases
+-- one of the five cases, and no commit of its own was accepted
 pub record IsEnded {W : Type 0} (plan : W → TaskPlan) (old new : PassView Entry (Frame W)) (w e g last : ℕ) (pending : TaskId → Option Pending) : Type 0 where
   pub requests : Requests plan old new w
+  pub own : holds_commit requests.own ≡ false
   pub cases : CommitCases (setup_in plan old.frame) old.seen requests.more w e g (length requests.own) last pending
 
 -- a committed end is the first of them, and only one that was cut off may be none

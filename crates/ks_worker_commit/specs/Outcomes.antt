@@ -1,9 +1,12 @@
 -- What a pass has seen and made in a commit, and what each of the commit's ends says.
-use Rattle.std.specs.Prelude.{◌≡◌, ◌≢◌, ◌⊎◌, ◌+◌, ◌≤◌, ◌&&◌, ℕ, suc, Bool, true, false, Option, Some, None, Result, Ok, Err, List, [], ◌∷◌, ◌++◌, length}
+use Rattle.std.specs.Prelude.{◌≡◌, ◌≢◌, ◌⊎◌, ◌+◌, ◌≤◌, ◌&&◌, ◌||◌, ℕ, suc, Bool, true, false, not, Option, Some, None, Result, Ok, Err, List, [], ◌∷◌, ◌++◌, length}
 use Rattle.ks_history.specs.declared.journal.Entry.{Entry}
+use Rattle.ks_history.specs.declared.journal.Request.{Request}
+use Rattle.ks_history.specs.declared.journal.Request.TheVariants.{Decide}
 use Rattle.ks_history.specs.Machine.{TaskPlan}
 use Rattle.ks_history.specs.State.{Setup}
 use Rattle.ks_history.specs.History.{at, IsHistory}
+use Rattle.ks_history.specs.Touched.{is_refused}
 use Rattle.ks_growing.specs.Passes.{PassView}
 use Rattle.ks_shared.specs.declared.state.Frame.{Frame}
 use Rattle.ks_shared.specs.Calls.{setup_in}
@@ -37,6 +40,20 @@ pub record Requests {W : Type 0} (plan : W → TaskPlan) (old new : PassView Ent
   pub among : IsAmong own more
   pub of_commit : are_of_commit w own ≡ true
   pub history : IsHistory (setup_in plan old.frame) old.seen → IsHistory (setup_in plan old.frame) new.seen
+
+-- one of these entries is a commit that was accepted
+abbrev pub is_commit : Request → Bool
+is_commit (Decide v d commit) = commit
+is_commit _ = false
+
+abbrev pub holds_commit : List Entry → Bool
+holds_commit [] = false
+holds_commit (x ∷ xs) = (not (is_refused x.reply) && is_commit x.request) || holds_commit xs
+
+-- the same of a pass whose own requests hold no accepted commit
+pub record UndecidedRequests {W : Type 0} (plan : W → TaskPlan) (old new : PassView Entry (Frame W)) (w : ℕ) : Type 0 where
+  pub requests : Requests plan old new w
+  pub undecided : holds_commit requests.own ≡ false
 
 -- what a call's answer is to a commit
 abbrev pub halted : {A : Type 0} → Result (Result A Barred) TurnHalt → Result A Halt

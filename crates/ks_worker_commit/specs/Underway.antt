@@ -29,7 +29,7 @@ use Rattle.ks_shared.specs.declared.barred.Barred.{Barred}
 use Rattle.ks_shared.specs.declared.barred.Barred.TheVariants.{Refused as Refusal}
 use Rattle.ks_worker_commit.specs.declared.halt.Halt.{Halt}
 use Rattle.ks_worker_commit.specs.declared.halt.Halt.TheVariants.{OutOfMemory, Cut, Barred as IsBarred}
-use Rattle.ks_worker_commit.specs.Outcomes.{Requests, WhyBarred}
+use Rattle.ks_worker_commit.specs.Outcomes.{Requests, holds_commit, WhyBarred}
 
 -- the work of one of the worker's active tasks, since its last commit
 pub record IsActiveWork (setup : Setup) (journal : List Entry) (w g last : ℕ) (f : WorkView) : Type 0 where
@@ -86,6 +86,7 @@ HasEnds s w e c ends = (t : TaskId) (q : PartId) (old : ℕ) → end_in old t q 
 pub record IsUnderway {W : Type 0} (plan : W → TaskPlan) (from now : PassView Entry (Frame W)) (w e g first : ℕ) (mem : Memory) (fs : List WorkView) (c : Contents) : Type 0 where
   pub worker : IsWorker plan from w e g first fs
   pub requests : Requests plan from now w
+  pub undecided : holds_commit requests.own ≡ false
   pub history : IsHistory (setup_in plan from.frame) now.seen
   pub seen : HasSeen (setup_in plan from.frame) now.seen w g mem.last
   -- if nobody else has used the number up to now, nobody had when the commit began
@@ -97,6 +98,7 @@ pub record IsUnderway {W : Type 0} (plan : W → TaskPlan) (from now : PassView 
 -- a request of the commit, which was under way until then, wasn't done, and the producer remembers the same
 pub record IsHalted {W : Type 0} (plan : W → TaskPlan) (from now : PassView Entry (Frame W)) (w e g first : ℕ) (mem : Memory) (b : Barred) : Type 0 where
   pub requests : Requests plan from now w
+  pub undecided : holds_commit requests.own ≡ false
   pub why : touched w from.seen ≡ first → WhyBarred (setup_in plan from.frame) from.seen requests.more w e g (length requests.own) b
   pub mid : PassView Entry (Frame W)
   pub fs : List WorkView

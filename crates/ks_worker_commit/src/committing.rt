@@ -10,7 +10,7 @@ ghost use Rattle.ks_commit.specs.Alone.{IsNumbered};
 ghost use Rattle.ks_commit.specs.Sending.{pendings_of};
 ghost use Rattle.ks_commit.specs.Committed.{works_of, EachOf, AreApart};
 ghost use Rattle.ks_worker_commit.specs.Premises.{MayRequest};
-ghost use Rattle.ks_worker_commit.specs.Outcomes.{Requests, with_cuts, cuts_in};
+ghost use Rattle.ks_worker_commit.specs.Outcomes.{Requests, UndecidedRequests, with_cuts, cuts_in};
 ghost use Rattle.ks_worker_commit.specs.Outputs.{contents_of};
 ghost use Rattle.ks_worker_commit.specs.Underway.{memory, IsWorker, AreActiveWorks};
 ghost use Rattle.ks_worker_commit.specs.Leaves.{LeavesTasks, LeavesProducer, LeavesNoMarker};
@@ -81,7 +81,7 @@ fn write_markers<R: Wait, W: Work, G: Gate>(
     member: Member,
 ) -> Result<(), Halt>
     requires may { MayRequest shared.now.growing.id member.number session.old }
-    ensures requests { Requests W.plan session.old.client.pass session.new.client.pass
+    ensures requests { UndecidedRequests W.plan session.old.client.pass session.new.client.pass
         member.number }
     ensures none { OnOk result (((at (setup_in W.plan session.old.client.pass.frame)
         session.new.client.pass.seen).producer member.number).waiting ≡ []) }
@@ -122,7 +122,7 @@ fn turn_back<R: Wait, W: Work, G: Gate>(
     member: Member,
 ) -> Result<Outcome, AllocError>
     requires may { MayRequest shared.now.growing.id member.number session.old }
-    ensures requests { Requests W.plan session.old.client.pass session.new.client.pass
+    ensures requests { UndecidedRequests W.plan session.old.client.pass session.new.client.pass
         member.number }
     ensures so { IfOk result (TurnsBackSo W.plan session.old.client.pass session.new.client.pass
         member.number member.epoch
@@ -146,7 +146,7 @@ fn abort<R: Wait, W: Work, G: Gate>(
     member: Member,
 ) -> Result<Outcome, AllocError>
     requires may { MayRequest shared.now.growing.id member.number session.old }
-    ensures requests { Requests W.plan session.old.client.pass session.new.client.pass
+    ensures requests { UndecidedRequests W.plan session.old.client.pass session.new.client.pass
         member.number }
     ensures so { IfOk result (AbortsSo W.plan session.old.client.pass session.new.client.pass
         member.number member.epoch

@@ -17,16 +17,19 @@ use Rattle.ks_shared.specs.Calls.{setup_in}
 use Rattle.ks_standby.specs.declared.replica.Replica.{Replica}
 use Rattle.ks_task.specs.declared.task.Task.{Task}
 use Rattle.ks_assign_group.specs.Groups.{clients_of}
+use Rattle.ks_worker_client.specs.declared.member.Member.{Member}
 use Rattle.ks_worker_client.specs.Calls.{Later, Wrote, state_seen}
 use Rattle.ks_worker_client.proofs.Moments.{later_twice}
 use Rattle.ks_worker_state.specs.declared.state.WorkerState.{WorkerState}
 use Rattle.ks_worker_state.specs.State.{LaterState}
 use Rattle.ks_worker_turn.specs.Beginning.{HasOffered, HasPlaced, HasBegun, seen_by}
+use Rattle.ks_worker_turn.specs.Requests.{HasJoined}
 use Rattle.ks_worker_turn.specs.Resting.{is_generation_over, HaveRested}
 use Rattle.ks_worker_turn.specs.Restored.{HasTakenAll}
 
 module _ {W G : Type 0} (plan : W → TaskPlan) (threads : ℕ) (tasks : List TaskId) (old new : WorkerState W G) (s : Status) (is : s ≡ status (setup_in plan old.session.client.pass.frame) (state_seen plan old.session.client.pass))
     (offer answer : Option Assignment) (mid : PassView Entry (Frame W)) (l : Later plan mid new.session.client.pass)
+    (same : new.member ≡ record old.member { generation = new.member.generation })
     (free : offer ≡ None → (s.assignment ≢ None) ⊎ (clients_of threads s.members ≡ []))
     (given : s.assignment ≢ None → answer ≡ s.assignment)
     (offered : s.assignment ≡ None → IfSome offer (λ a. HasOffered plan old.session.client.pass mid old.member.number s.generation a (answer ≡ Some a)))
@@ -58,6 +61,7 @@ module _ {W G : Type 0} (plan : W → TaskPlan) (threads : ℕ) (tasks : List Ta
 
   pub placed : HasPlaced plan threads tasks old new
   placed = record {
+    member = same;
     given = λ a e. took_there a (given (some_apart s.assignment a (assignment_is ∙ e)) ∙ assignment_is ∙ e);
     offered = λ none some. by none some offer refl;
   }
@@ -76,15 +80,25 @@ nothing_took answer P none a e = absurd cc
 pub took_it : (answer : Option Assignment) (b : Assignment) (P : Assignment → Type 0) → answer ≡ Some b → P b → (a : Assignment) → answer ≡ Some a → P a
 took_it answer b P is h a e = let same : b ≡ a = cc in subst P same h
 
+-- the same member, but for its generation
+pub only_newer : (old new : Member) (generation : ℕ) → new ≡ record old { generation = generation } → new ≡ record old { generation = new.generation }
+only_newer old new generation is = is ∙ ap (λ (g : ℕ). record old { generation = g }) (sym (ap (λ (m : Member). m.generation) is))
+
 -- a turn up to its act, from its parts
 pub begun : {W G : Type 0} (plan : W → TaskPlan) (threads : ℕ) (tasks : List TaskId) (old one two new : WorkerState W G) (s : Status) → LaterState plan old two → LaterState plan two new → one.member.generation ≡ old.member.generation → one.member.number ≡ old.member.number →
     one.tasks.items ≡ old.tasks.items → one.replicas.items ≡ old.replicas.items → s ≡ status (setup_in plan two.session.client.pass.frame) (state_seen plan two.session.client.pass) →
     HaveRested (is_generation_over one.member.generation s.generation (has_number one.member.number s.members)) one.tasks.items one.replicas.items two.tasks.items two.replicas.items →
-    HasPlaced plan threads tasks two new → HasBegun plan threads tasks old new
-begun plan threads tasks old one two new s since before generation number same_tasks same_replicas is rested placed = record {
+    two.member ≡ record one.member { is_member = has_number one.member.number s.members } → HasJoined old two → HasPlaced plan threads tasks two new → HasBegun plan threads tasks old new s.waiting
+begun plan threads tasks old one two new s since before generation number same_tasks same_replicas is rested member joined placed = record {
   told = two;
   since = since;
   before = before;
+  joined = joined;
+  listed = ap (λ (m : Member). m.is_member) member ∙ ap (λ (w : ℕ). has_number w s.members) number ∙ ap (λ (x : Status). has_number old.member.number x.members) is;
+  own = ap (λ (m : Member). m.generation) member ∙ generation;
+  said = s;
+  said_is = is;
+  markers = refl;
   rested =
       subst (λ (g : ℕ). HaveRested (is_generation_over g (seen_by plan two).generation (has_number old.member.number (seen_by plan two).members)) old.tasks.items old.replicas.items two.tasks.items two.replicas.items) generation
       (subst (λ (n : ℕ). HaveRested (is_generation_over one.member.generation (seen_by plan two).generation (has_number n (seen_by plan two).members)) old.tasks.items old.replicas.items two.tasks.items two.replicas.items) number

@@ -63,6 +63,10 @@ pub ok_both : {A E P Q R : Type 0} (r : Result A E) → (P → Q → R) → OnOk
 ok_both (Ok x) f p q = f p q
 ok_both (Err e) f p q = tt
 
+pub ok_three : {A E P Q R S : Type 0} (r : Result A E) → (P → Q → R → S) → OnOk r P → OnOk r Q → OnOk r R → OnOk r S
+ok_three (Ok x) f p q k = f p q k
+ok_three (Err e) f p q k = tt
+
 -- with one more name, which none has
 once_more : (ts : List Task) (rs : List Replica) (t : TaskId) → AreHeldOnce ts rs → has_task t (task_names ts) ≡ false → has_task t (replica_names rs) ≡ false → (u : TaskId) →
     times u (t ∷ []) + (times u (task_names ts) + times u (replica_names rs)) ≤ 1

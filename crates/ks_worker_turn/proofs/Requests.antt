@@ -1,19 +1,35 @@
 -- The requests that a worker makes before its act, from part to part.
-use Rattle.std.proofs.Common.{◌≡◌, ℕ, Bool, Option, refl, subst}
+use Rattle.std.proofs.Common.{◌≡◌, ℕ, zero, suc, ◌+◌, ◌&&◌, Bool, true, false, [], ◌∷◌, ◌++◌, replicate, Option, refl, ap, subst, ◌∙◌, append-nil}
+use Rattle.std.specs.Prelude.{◌==◌}
 use Rattle.std.proofs.lemmas.Bool.{eq-eqb}
+use Rattle.std.proofs.lemmas.List.{replicate_more}
 use Rattle.ks_record.specs.declared.record.PartId.{PartId}
 use Rattle.ks_history.specs.declared.journal.Entry.{Entry}
-use Rattle.ks_history.specs.declared.journal.Request.TheVariants.{Join, MarkNext}
+use Rattle.ks_history.specs.declared.journal.Request.TheVariants.{Init, Join, MarkNext}
 use Rattle.ks_history.specs.declared.journal.Reply.TheVariants.{Number, Mark as Marked}
 use Rattle.ks_history.specs.Machine.{TaskPlan}
 use Rattle.ks_growing.specs.Passes.{PassView}
 use Rattle.ks_shared.specs.declared.state.Frame.{Frame}
 use Rattle.ks_worker_client.specs.Calls.{Later, Wrote}
-use Rattle.ks_worker_state.specs.Gained.{HasMadeOnly}
-use Rattle.ks_worker_state.proofs.Gains.{only_none, only_one, only_then}
+use Rattle.ks_worker_state.specs.Gained.{HasMade, HasMadeOnly, are_all}
+use Rattle.ks_worker_state.proofs.Gains.{made_none, made_one, made_then, only_none, only_then}
 use Rattle.ks_worker_state.specs.declared.state.WorkerState.{WorkerState}
 use Rattle.ks_worker_state.specs.State.{LaterState}
-use Rattle.ks_worker_turn.specs.Requests.{is_of_turn, MakesTurn}
+use Rattle.ks_worker_turn.specs.Requests.{is_of_turn, MakesTurn, joining, HasJoined}
+
+-- all that it makes is of a turn
+joining_only : (w instance marks : ℕ) → are_all (is_of_turn w instance) (joining w marks) ≡ true
+joining_only w instance marks = and_both (w == w) (are_all (is_of_turn w instance) (replicate marks (MarkNext w) ++ Join w ∷ [])) own (behind marks)
+  where
+    own : (w == w) ≡ true
+    own = eq-eqb w w refl
+
+    and_both : (a b : Bool) → a ≡ true → b ≡ true → (a && b) ≡ true
+    and_both a b f g = ap (λ c. c && b) f ∙ g
+
+    behind : (n : ℕ) → are_all (is_of_turn w instance) (replicate n (MarkNext w) ++ Join w ∷ []) ≡ true
+    behind zero = and_both (w == w) true own refl
+    behind (suc n) = and_both (w == w) (are_all (is_of_turn w instance) (replicate n (MarkNext w) ++ Join w ∷ [])) own (behind n)
 
 module _ {W G : Type 0} (plan : W → TaskPlan) where
   -- a part that only read
@@ -27,22 +43,36 @@ module _ {W G : Type 0} (plan : W → TaskPlan) where
       (subst (λ (w : ℕ). HasMadeOnly (is_of_turn w old.member.instance) mid.session.client.pass new.session.client.pass) l.number
       (subst (λ (i : ℕ). HasMadeOnly (is_of_turn mid.member.number i) mid.session.client.pass new.session.client.pass) l.instance g))
 
-  -- a part, and then one of its client
-  pub joined_on : (old mid : WorkerState W G) (new : PassView Entry (Frame W)) → LaterState plan old mid → MakesTurn old mid → ((instance : ℕ) → HasMadeOnly (is_of_turn mid.member.number instance) mid.session.client.pass new) →
-      HasMadeOnly (is_of_turn old.member.number old.member.instance) old.session.client.pass new
-  joined_on old mid new l f g =
-      only_then (is_of_turn old.member.number old.member.instance) old.session.client.pass mid.session.client.pass new f
-      (subst (λ (w : ℕ). HasMadeOnly (is_of_turn w old.member.instance) mid.session.client.pass new) l.number (g old.member.instance))
+  -- ---- of a worker that joins
+  -- an epoch, and then what its client made
+  pub joined_on : (old mid : WorkerState W G) (new : PassView Entry (Frame W)) → LaterState plan old mid → HasMade old.session.client.pass mid.session.client.pass (Init old.member.number ∷ []) →
+      (marks : ℕ) × HasMade mid.session.client.pass new (replicate marks (MarkNext mid.member.number) ++ Join mid.member.number ∷ []) → (marks : ℕ) × HasMade old.session.client.pass new (joining old.member.number marks)
+  joined_on old mid new l f g = (
+    g.0,
+    made_then old.session.client.pass mid.session.client.pass new (Init old.member.number ∷ []) (replicate g.0 (MarkNext old.member.number) ++ Join old.member.number ∷ []) f
+        (subst (λ (w : ℕ). HasMade mid.session.client.pass new (replicate g.0 (MarkNext w) ++ Join w ∷ [])) l.number g.1),
+  )
 
--- one part of its client after another
-pub client_then : {W : Type 0} (w instance : ℕ) (old mid new : PassView Entry (Frame W)) → HasMadeOnly (is_of_turn w instance) old mid → HasMadeOnly (is_of_turn w instance) mid new → HasMadeOnly (is_of_turn w instance) old new
-client_then w instance old mid new f g = only_then (is_of_turn w instance) old mid new f g
+  pub joined_only : (old : WorkerState W G) (new : PassView Entry (Frame W)) → (marks : ℕ) × HasMade old.session.client.pass new (joining old.member.number marks) → HasMadeOnly (is_of_turn old.member.number old.member.instance) old.session.client.pass new
+  joined_only old new h = record { own = joining old.member.number h.0; made = h.1; only = joining_only old.member.number old.member.instance h.0 }
 
-module _ {W : Type 0} (plan : W → TaskPlan) (w instance : ℕ) (old mid new : PassView Entry (Frame W)) where
+  -- it joined, and then only read
+  pub has_joined : (old one two : WorkerState W G) → Later plan one.session.client.pass two.session.client.pass → (old.member.is_member ≡ true → one ≡ old) →
+      (old.member.is_member ≡ false → (marks : ℕ) × HasMade old.session.client.pass one.session.client.pass (joining old.member.number marks)) → two.session.client.pass.made ≡ one.session.client.pass.made → HasJoined old two
+  has_joined old one two l nothing joined same = record {
+    member = λ inside. same ∙ ap (λ (s : WorkerState W G). s.session.client.pass.made) (nothing inside);
+    joined = λ outside. let h = joined outside in (
+      h.0,
+      subst (HasMade old.session.client.pass two.session.client.pass) (append-nil (joining old.member.number h.0))
+          (made_then old.session.client.pass one.session.client.pass two.session.client.pass (joining old.member.number h.0) [] h.1 (made_none plan one.session.client.pass two.session.client.pass l same)),
+    );
+  }
+
+module _ {W : Type 0} (plan : W → TaskPlan) (w : ℕ) (old mid new : PassView Entry (Frame W)) where
   -- one more marker
-  pub marked_more : (n : Option (PartId × Bool)) → HasMadeOnly (is_of_turn w instance) old mid → Wrote plan mid new (MarkNext w) (Marked n) → HasMadeOnly (is_of_turn w instance) old new
-  marked_more n f wrote = only_then (is_of_turn w instance) old mid new f (only_one plan (is_of_turn w instance) mid new (MarkNext w) (Marked n) (eq-eqb w w refl) wrote)
+  pub marked_more : (marks : ℕ) (n : Option (PartId × Bool)) → HasMade old mid (replicate marks (MarkNext w)) → Wrote plan mid new (MarkNext w) (Marked n) → HasMade old new (replicate (marks + 1) (MarkNext w))
+  marked_more marks n f wrote = subst (HasMade old new) (replicate_more marks (MarkNext w)) (made_then old mid new (replicate marks (MarkNext w)) (MarkNext w ∷ []) f (made_one plan mid new (MarkNext w) (Marked n) wrote))
 
   -- the markers, and the worker joins
-  pub joined_then : (n : ℕ) → HasMadeOnly (is_of_turn w instance) old mid → Wrote plan mid new (Join w) (Number n) → HasMadeOnly (is_of_turn w instance) old new
-  joined_then n f wrote = only_then (is_of_turn w instance) old mid new f (only_one plan (is_of_turn w instance) mid new (Join w) (Number n) (eq-eqb w w refl) wrote)
+  pub joined_then : (marks n : ℕ) → HasMade old mid (replicate marks (MarkNext w)) → Wrote plan mid new (Join w) (Number n) → HasMade old new (replicate marks (MarkNext w) ++ Join w ∷ [])
+  joined_then marks n f wrote = made_then old mid new (replicate marks (MarkNext w)) (Join w ∷ []) f (made_one plan mid new (Join w) (Number n) wrote)

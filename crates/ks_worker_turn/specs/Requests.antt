@@ -1,8 +1,8 @@
 -- The requests that a worker makes before its act.
-use Rattle.std.specs.Prelude.{ℕ, ◌==◌, Bool, false}
+use Rattle.std.specs.Prelude.{◌≡◌, ℕ, ◌==◌, Bool, true, false, List, [], ◌∷◌, ◌++◌, replicate}
 use Rattle.ks_history.specs.declared.journal.Request.{Request}
 use Rattle.ks_history.specs.declared.journal.Request.TheVariants.{Init, MarkNext, Join, Assign, Park, Unpark}
-use Rattle.ks_worker_state.specs.Gained.{HasMadeOnly}
+use Rattle.ks_worker_state.specs.Gained.{HasMade, HasMadeOnly}
 use Rattle.ks_worker_state.specs.declared.state.WorkerState.{WorkerState}
 
 -- an `init`, `mark_next`, `join` or `assign` of worker `w`, or a `park` or `unpark` at its instance
@@ -18,3 +18,13 @@ is_of_turn w instance _ = false
 -- its pass made no others
 abbrev pub MakesTurn : {W G : Type 0} → WorkerState W G → WorkerState W G → Type 0
 MakesTurn old new = HasMadeOnly (is_of_turn old.member.number old.member.instance) old.session.client.pass new.session.client.pass
+
+-- those by which worker `w` joins its group: its producer begins an epoch, so many of its markers are asked for, and it is a member
+abbrev pub joining : ℕ → ℕ → List Request
+joining w marks = Init w ∷ replicate marks (MarkNext w) ++ Join w ∷ []
+
+-- it joined where it was no member, by these requests alone; who was one made none
+pub record HasJoined {W G : Type 0} (old new : WorkerState W G) : Type 0 where
+  pub member : old.member.is_member ≡ true → new.session.client.pass.made ≡ old.session.client.pass.made
+  pub joined : old.member.is_member ≡ false →
+      (marks : ℕ) × HasMade old.session.client.pass new.session.client.pass (joining old.member.number marks)

@@ -1,5 +1,5 @@
 -- Which of a worker's places are tasks (KIP-441: an active task is restored before it runs).
-use Rattle.std.specs.Prelude.{◌≡◌, ◌⊎◌, ℕ, true, List}
+use Rattle.std.specs.Prelude.{◌≡◌, ◌⊎◌, ℕ, max, true, List}
 use Rattle.ks_record.specs.declared.record.TaskId.{TaskId}
 use Rattle.ks_record.specs.declared.assignment.Assignment.{Assignment}
 use Rattle.ks_history.specs.Machine.{TaskPlan}
@@ -29,7 +29,9 @@ IsRestored plan t old new = (has_task t (task_names new.tasks.items) ≡ true) �
 abbrev pub HasRestored : {W G : Type 0} → (W → TaskPlan) → Assignment → List TaskId → WorkerState W G → WorkerState W G → Type 0
 HasRestored plan a tasks old new = (t : TaskId) → has_task t tasks ≡ true → has_place t old.member.number a.active ≡ true → old.member.is_member ≡ true → IsRestored plan t old new
 
--- it took its places of a generation's assignment, and each task that is active with it is one, or can't be yet
+-- it took its places of a generation's assignment, which is its own now if it is newer, and each task that is active with it is one, or
+-- can't be yet
 pub record HasTakenAll {W G : Type 0} (plan : W → TaskPlan) (tasks : List TaskId) (generation : ℕ) (a : Assignment) (old new : WorkerState W G) : Type 0 where
+  pub member : new.member ≡ record old.member { generation = max old.member.generation generation }
   pub taken : HasTakenPlaces tasks generation a old new
   pub restored : HasRestored plan a tasks old new

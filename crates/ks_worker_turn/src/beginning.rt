@@ -1,5 +1,5 @@
 //! A worker's turn up to its act.
-ghost use Rattle.std.specs.Prelude.{◌≡◌, ◌⊎◌, ◌<◌, [], OnOk};
+ghost use Rattle.std.specs.Prelude.{◌≡◌, ◌⊎◌, ◌<◌, [], IfOk, OnOk};
 ghost use Rattle.ks_history.specs.Reads.{status};
 ghost use Rattle.ks_plan.specs.Layout.{tasks};
 ghost use Rattle.ks_topo.specs.Topologies.{draft_of, plan_in};
@@ -67,7 +67,8 @@ fn place_tasks<H: Hash128, R: Wait, W: Work, G: Gate>(
 }
 
 /// A worker's turn up to its act: it is made a member, heeds the group's status, gives the generation a good assignment where it has
-/// none, and takes what the assignment of the generation places with it, where there is one. Answers how many markers waited when the status was told.
+/// none, and takes what the assignment of the generation places with it, where there is one. Answers how many markers waited by that
+/// status.
 ///
 /// Errors: the gate cut the worker off, or no memory; the worker is then to be crashed.
 pub fn begin_turn<H: Hash128, R: Wait, W: Work, G: Gate>(
@@ -89,7 +90,7 @@ pub fn begin_turn<H: Hash128, R: Wait, W: Work, G: Gate>(
     ensures generation { OnOk result ((state.new.member.generation ≡ state.old.member.generation)
         ⊎ WasAssigned W.plan state.old.session.client.pass state.new.session.client.pass
         state.new.member.generation) }
-    ensures begun { OnOk result (HasBegun W.plan placing.now.threads (tasks (plan_in topology.now))
+    ensures begun { IfOk result (HasBegun W.plan placing.now.threads (tasks (plan_in topology.now))
         state.old state.new) }
 {
     join_group(rt, alloc, shared, state)?;

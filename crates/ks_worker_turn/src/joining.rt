@@ -1,11 +1,12 @@
 //! A worker joins its group.
-ghost use Rattle.std.specs.Prelude.{◌≡◌, ◌≤◌, ℕ, true, false, OnOk};
+ghost use Rattle.std.specs.Prelude.{◌≡◌, ◌≤◌, ◌++◌, ◌∷◌, ℕ, true, false, [], replicate, OnOk};
+ghost use Rattle.ks_history.specs.declared.journal.Request.TheVariants.{Init, Join, MarkNext};
 ghost use Rattle.ks_worker_client.specs.Turns.{counts_after};
 ghost use Rattle.ks_worker_client.specs.Calls.{MayCall, Later};
-ghost use Rattle.ks_worker_state.specs.Gained.{HasMadeOnly};
+ghost use Rattle.ks_worker_state.specs.Gained.{HasMade};
 ghost use Rattle.ks_worker_state.specs.State.{LaterState};
 ghost use Rattle.ks_worker_turn.specs.Acting.{KeepsWorker};
-ghost use Rattle.ks_worker_turn.specs.Requests.{is_of_turn, MakesTurn};
+ghost use Rattle.ks_worker_turn.specs.Requests.{MakesTurn, joining};
 
 use ks_cluster::Work;
 use ks_edge::Gate;
@@ -29,7 +30,8 @@ fn begin_epoch<R: Wait, W: Work, G: Gate>(
     ensures gate { state.new.session.client.gate
         ≡ counts_after state.old.session.client.gate result }
     ensures later { LaterState W.plan state.old state.new }
-    ensures made { OnOk result (MakesTurn state.old state.new) }
+    ensures made { OnOk result (HasMade state.old.session.client.pass
+        state.new.session.client.pass (Init state.old.member.number ∷ [])) }
     ensures worker { OnOk result (KeepsWorker W.plan state.old state.new) }
     ensures outside { state.new.member.is_member ≡ state.old.member.is_member }
     ensures generation { state.new.member.generation ≡ state.old.member.generation }
@@ -57,8 +59,8 @@ fn write_markers<R: Wait, W: Work, G: Gate>(
     requires number { number ≤ 16 }
     ensures gate { client.new.gate ≡ counts_after client.old.gate result }
     ensures later { Later W.plan client.old.pass client.new.pass }
-    ensures made { OnOk result ((instance : ℕ) → HasMadeOnly (is_of_turn number instance)
-        client.old.pass client.new.pass) }
+    ensures made { OnOk result ((marks : ℕ) × HasMade client.old.pass client.new.pass
+        (replicate marks (MarkNext number))) }
 {
     for _ in rt.forever() {
         if client.mark_next(rt, alloc, shared, number)?.is_none() {
@@ -80,8 +82,8 @@ fn enter_group<R: Wait, W: Work, G: Gate>(
     requires number { number ≤ 15 }
     ensures gate { client.new.gate ≡ counts_after client.old.gate result }
     ensures later { Later W.plan client.old.pass client.new.pass }
-    ensures made { OnOk result ((instance : ℕ) → HasMadeOnly (is_of_turn number instance)
-        client.old.pass client.new.pass) }
+    ensures made { OnOk result ((marks : ℕ) × HasMade client.old.pass client.new.pass
+        (replicate marks (MarkNext number) ++ Join number ∷ [])) }
 {
     write_markers(rt, alloc, shared, client, number)?;
     client.join(rt, alloc, shared, number)?;
@@ -110,6 +112,9 @@ pub fn join_group<R: Wait, W: Work, G: Gate>(
     ensures generation { state.new.member.generation ≡ state.old.member.generation }
     ensures tasks { state.new.tasks ≡ state.old.tasks }
     ensures replicas { state.new.replicas ≡ state.old.replicas }
+    ensures joined { OnOk result (state.old.member.is_member ≡ false
+        → (marks : ℕ) × HasMade state.old.session.client.pass state.new.session.client.pass
+        (joining state.old.member.number marks)) }
     ensures nothing { state.old.member.is_member ≡ true → state.new ≡ state.old }
 {
     if state.member.is_member {

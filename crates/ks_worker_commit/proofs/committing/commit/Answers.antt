@@ -24,7 +24,7 @@ pub returns-in-Ok-clause-marked : goal.returns-in-Ok-clause-marked
 returns-in-Ok-clause-marked g c = ok_marked g.W.Work.plan _ _ _ c.args.member c.args.session.now.last (memory c.send_and_decide.new.session.last c.send_and_decide.new.session.numbers.items c.send_and_decide.new.session.ends.items) (memory c.finish.new.session.last c.finish.new.session.numbers.items c.finish.new.session.ends.items) (works_of c.args.works.now) c.requires.apart c.send_and_decide.result tt c.in-Ok.is c.send_and_decide.ensures.ends c.send_and_decide.ensures.requests c.finish.ensures.requests c.requires.may.history c.finish.ensures.same c.finish.result c.finish.ensures.so
 
 pub returns-in-Aborted-clause-requests : goal.returns-in-Aborted-clause-requests
-returns-in-Aborted-clause-requests g c = requests_both g.W.Work.plan _ _ _ _ c.send_and_decide.ensures.requests c.abort.ensures.requests
+returns-in-Aborted-clause-requests g c = requests_both g.W.Work.plan _ _ _ _ c.send_and_decide.ensures.requests c.abort.ensures.requests.requests
 
 pub returns-in-Aborted-clause-cases : goal.returns-in-Aborted-clause-cases
 returns-in-Aborted-clause-cases g c = aborted_ok_cases g.W.Work.plan _ _ _ c.args.member c.args.session.now.last (memory c.send_and_decide.new.session.last c.send_and_decide.new.session.numbers.items c.send_and_decide.new.session.ends.items) (memory c.abort.new.session.last c.abort.new.session.numbers.items c.abort.new.session.ends.items) (works_of c.args.works.now) c.send_and_decide.result c.in-Err.halt c.in-Err.is c.send_and_decide.ensures.ends c.send_and_decide.ensures.requests c.abort.ensures.requests c.requires.may.history c.outcome_of.result c.outcome_of.ensures (c.in-Ok-outcome_of.is ∙ ap Ok c.in-Aborted.is) c.abort.result c.abort.ensures.so

@@ -8,7 +8,7 @@ use Rattle.ks_worker_turn.proofs.Keeping.{told_state, still_rested, keeps_both}
 use Rattle.ks_worker_turn.proofs.Assigned.{either_within}
 use Rattle.ks_worker_turn.proofs.Offered.{serves_later}
 use Rattle.ks_worker_turn.proofs.Begun.{begun}
-use Rattle.ks_worker_turn.proofs.Requests.{turn_none, turn_then}
+use Rattle.ks_worker_turn.proofs.Requests.{turn_none, turn_then, has_joined}
 use Rattle.ks_plan.specs.Layout.{tasks}
 use Rattle.ks_worker_turn.proofs.beginning.begin_turn.Goals as goal
 
@@ -76,4 +76,5 @@ returns-clause-begun g c =
     (state_later_twice g.W.Work.plan s one two c.join_group.ensures.later c.heed_status.ensures.later) c.place_tasks.ensures.later c.join_group.ensures.generation c.join_group.ensures.later.number
     (ap (λ v. v.items) c.join_group.ensures.tasks) (ap (λ v. v.items) c.join_group.ensures.replicas)
     (told_state g.W.Work.plan one two c.in_ok-status.status c.heed_status.ensures.later.later c.in_ok-status.ensures.status)
-    c.in_ok-status.ensures.rested c.in_ok-place_tasks.ensures.placed
+    c.in_ok-status.ensures.rested c.in_ok-status.ensures.member
+    (has_joined g.W.Work.plan s one two c.heed_status.ensures.later.later c.join_group.ensures.nothing c.in_ok-join_group.ensures.joined c.heed_status.ensures.made) c.in_ok-place_tasks.ensures.placed

@@ -1,5 +1,5 @@
 use Rattle.std.proofs.Common.{inl, refl, sym, ◌∙◌}
-use Rattle.std.specs.Prelude.{IfSome}
+use Rattle.std.specs.Prelude.{max, IfSome}
 use Rattle.std.proofs.lemmas.Result.{on_ok_weaker}
 use Rattle.ks_topo.specs.Topologies.{draft_of, plan_in}
 use Rattle.ks_plan.specs.Infos.{changelog_numbers}
@@ -13,12 +13,12 @@ use Rattle.ks_worker_turn.proofs.Keeping.{acts_on, later_still}
 use Rattle.ks_worker_turn.proofs.Offered.{may_offers}
 use Rattle.ks_worker_turn.proofs.Assigned.{own_or_told, told_past}
 use Rattle.ks_worker_turn.specs.Acting.{WasAssigned}
-use Rattle.ks_worker_turn.proofs.Placed.{generation_later, some_said, ok_both}
+use Rattle.ks_worker_turn.proofs.Placed.{generation_later, some_said, ok_three}
 use Rattle.ks_worker_turn.proofs.Activated.{all_since}
 use Rattle.ks_worker_state.proofs.Gains.{only_then}
 use Rattle.ks_worker_turn.specs.Requests.{is_of_turn}
 use Rattle.ks_worker_turn.specs.Restored.{HasTakenAll}
-use Rattle.ks_worker_turn.proofs.Begun.{placed, nothing_took, took_it}
+use Rattle.ks_worker_turn.proofs.Begun.{placed, only_newer, nothing_took, took_it}
 use Rattle.ks_worker_turn.proofs.Taken.{taken_from}
 use Rattle.ks_worker_turn.proofs.beginning.place_tasks.Goals as goal
 
@@ -76,6 +76,7 @@ returns-in_default-clause-placed g c =
     let s = c.args.state.now in
     placed g.W.Work.plan c.args.placing.now.threads (tasks (plan_in c.args.topology.now)) s (record s { session = record s.session { client = c.assignment_of.new.client } }) c.args.told c.requires.status c.in_ok-offer.offer c.in_ok-answer.answer
     c.assignment_of.new.client.pass (later_still g.W.Work.plan s.session.client.pass c.assignment_of.new.client.pass c.assignment_of.ensures.later)
+    refl
     (was_ok_with c.new_assignment.result _ c.in_ok-offer.offer (sym c.or_halt.ensures ∙ c.in_ok-offer.was) c.new_assignment.ensures.none)
     c.in_ok-answer.ensures.given c.in_ok-answer.ensures.offered (nothing_took c.in_ok-answer.answer _ c.in_default.is)
 
@@ -90,14 +91,16 @@ pub returns-clause-placed : goal.returns-clause-placed
 returns-clause-placed g c =
     let s = c.args.state.now in
     let n = c.take_places.new.state in
-    ok_both c.take_places.result
-    (λ h restored. placed g.W.Work.plan c.args.placing.now.threads (tasks (plan_in c.args.topology.now)) s n c.args.told c.requires.status c.in_ok-offer.offer c.in_ok-answer.answer
+    ok_three c.take_places.result
+    (λ h restored member. placed g.W.Work.plan c.args.placing.now.threads (tasks (plan_in c.args.topology.now)) s n c.args.told c.requires.status c.in_ok-offer.offer c.in_ok-answer.answer
     c.assignment_of.new.client.pass c.take_places.ensures.later.later
+    (only_newer s.member n.member (max s.member.generation c.args.told.generation) member)
     (was_ok_with c.new_assignment.result _ c.in_ok-offer.offer (sym c.or_halt.ensures ∙ c.in_ok-offer.was) c.new_assignment.ensures.none)
     c.in_ok-answer.ensures.given c.in_ok-answer.ensures.offered
     (took_it c.in_ok-answer.answer c.in-Some.assignment (λ a. HasTakenAll g.W.Work.plan (tasks (plan_in c.args.topology.now)) c.args.told.generation a s n) c.in-Some.is
     (record {
+      member = member;
       taken = taken_from g.W.Work.plan (tasks (plan_in c.args.topology.now)) c.args.told.generation c.in-Some.assignment s n c.assignment_of.new.client c.assignment_of.ensures.later h;
       restored = all_since g.W.Work.plan s (record s { session = record s.session { client = c.assignment_of.new.client } }) n c.in-Some.assignment (tasks (plan_in c.args.topology.now)) c.assignment_of.ensures.later refl refl restored;
     })))
-    c.take_places.ensures.taken c.take_places.ensures.restored
+    c.take_places.ensures.taken c.take_places.ensures.restored c.take_places.ensures.member

@@ -1,10 +1,7 @@
 use Rattle.ks_worker_turn.proofs.Joined.{epoch_begun}
-use Rattle.std.proofs.Common.{refl}
-use Rattle.std.proofs.lemmas.Bool.{eq-eqb}
 use Rattle.ks_history.specs.declared.journal.Request.TheVariants.{Init}
 use Rattle.ks_history.specs.declared.journal.Reply.TheVariants.{Number}
-use Rattle.ks_worker_state.proofs.Gains.{only_one}
-use Rattle.ks_worker_turn.specs.Requests.{is_of_turn}
+use Rattle.ks_worker_state.proofs.Gains.{made_one}
 use Rattle.ks_worker_turn.proofs.joining.begin_epoch.Goals as goal
 
 pub returns-clause-worker : goal.returns-clause-worker
@@ -14,5 +11,4 @@ returns-clause-worker g c = λ hash d runs w.
 
 pub returns-clause-made : goal.returns-clause-made
 returns-clause-made g c =
-    let m = c.args.state.now.member in
-    only_one g.W.Work.plan (is_of_turn m.number m.instance) c.args.state.now.session.client.pass c.init.new.self.pass (Init m.number) (Number c.in_ok-epoch.epoch) (eq-eqb m.number m.number refl) c.in_ok-epoch.ensures.wrote
+    made_one g.W.Work.plan c.args.state.now.session.client.pass c.init.new.self.pass (Init c.args.state.now.member.number) (Number c.in_ok-epoch.epoch) c.in_ok-epoch.ensures.wrote

@@ -1,9 +1,8 @@
-use Rattle.std.proofs.Common.{true, refl}
+use Rattle.std.proofs.Common.{true}
 use Rattle.ks_worker_state.proofs.Workers.{worker_later}
 use Rattle.ks_worker_turn.proofs.Keeping.{network_later}
 use Rattle.ks_worker_turn.proofs.Joined.{now_listed}
-use Rattle.ks_worker_client.proofs.Moments.{not_later}
-use Rattle.ks_worker_turn.proofs.Requests.{turn_none, joined_on}
+use Rattle.ks_worker_turn.proofs.Requests.{joined_on, joined_only}
 use Rattle.ks_worker_turn.proofs.joining.join_group.Goals as goal
 
 pub returns-clause-worker : goal.returns-clause-worker
@@ -15,4 +14,10 @@ returns-clause-worker g c = λ hash d runs w.
     (c.in_ok-begin_epoch.ensures.worker hash d runs w))
 
 pub returns-clause-made : goal.returns-clause-made
-returns-clause-made g c = joined_on g.W.Work.plan c.args.state.now c.begin_epoch.new.state c.enter_group.new.client.pass c.begin_epoch.ensures.later c.in_ok-begin_epoch.ensures.made c.in_ok-enter_group.ensures.made
+returns-clause-made g c =
+    joined_only g.W.Work.plan c.args.state.now c.enter_group.new.client.pass
+    (joined_on g.W.Work.plan c.args.state.now c.begin_epoch.new.state c.enter_group.new.client.pass c.begin_epoch.ensures.later c.in_ok-begin_epoch.ensures.made c.in_ok-enter_group.ensures.made)
+
+pub returns-clause-joined : goal.returns-clause-joined
+returns-clause-joined g c = λ outside.
+    joined_on g.W.Work.plan c.args.state.now c.begin_epoch.new.state c.enter_group.new.client.pass c.begin_epoch.ensures.later c.in_ok-begin_epoch.ensures.made c.in_ok-enter_group.ensures.made
