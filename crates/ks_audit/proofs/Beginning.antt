@@ -96,6 +96,7 @@ audited_more d setup journal (x ∷ xs) t all one = (all.0, audited_more d setup
 pub taken_line : {H : Type 0} (hash : List ℕ → ℕ) (old : Audit H) (played : Played (TaskWork H)) (line : List ℕ) → old.fault ≡ None → IsAudit hash old →
     PlaysLine (plan_by hash) good_by (rules_of hash) (draft_of old.topology.now) old.played played line → TakesLine hash old (record old { played = played }) line
 taken_line hash old played line none audit plays = record {
+  clean = none;
   entry = plays.entry;
   taken = plays.taken;
   journal = plays.journal;

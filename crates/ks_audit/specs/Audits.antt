@@ -56,8 +56,9 @@ pub record IsAudit {H : Type 0} (hash : List ℕ → ℕ) (a : Audit H) : Type 0
 abbrev pub state_at : {H : Type 0} → (List ℕ → ℕ) → Audit H → State
 state_at hash a = at (topology_setup (rules_of hash) (plan_in a.topology.now)) (journal_of a)
 
--- the line is an entry of a legal and faithful journal, and the journal has it
+-- no line before was refused, this one is an entry of a legal and faithful journal, and the journal has it
 pub record TakesLine {H : Type 0} (hash : List ℕ → ℕ) (old new : Audit H) (line : List ℕ) : Type 0 where
+  pub clean : old.fault ≡ None
   pub entry : Entry
   pub taken : IsTaken (rules_of hash) (plan_in old.topology.now) (state_at hash old) line entry
   pub journal : journal_of new ≡ journal_of old ++ entry ∷ []

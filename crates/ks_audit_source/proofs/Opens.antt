@@ -3,7 +3,8 @@ use Rattle.std.proofs.Common.{true, false, ◌≡◌, inl, inr, ℕ, ◌+◌, �
 use Rattle.std.specs.Prelude.{Option, Some, None, Result, Ok, Err, ⊤, IfOk, IfErr, IfSome, is_some, option_map, option_to_list}
 use Rattle.std.proofs.lemmas.List.{map-append}
 use Rattle.std.specs.Option.{option_or}
-use Rattle.std.specs.Io.KnownBytes.{Consumes, IsAtEnd}
+use Rattle.std.specs.Io.KnownBytes.{Consumes, IsAtEnd, Keeps}
+use Rattle.std.proofs.KnownBytes.{Consumes-kept}
 use Rattle.ks_plan.specs.Drafts.{draft_view}
 use Rattle.ks_plan.specs.Faults.{fault_of}
 use Rattle.ks_plan.specs.declared.fault.TopoFault.{TopoFault}
@@ -31,7 +32,7 @@ use Rattle.ks_audit_source.specs.Cutting.{IsLine}
 use Rattle.ks_audit_source.specs.declared.opening.OpenAudit.{OpenAudit}
 use Rattle.ks_audit_source.specs.declared.opening.TopologyLine.{TopologyLine}
 use Rattle.ks_audit_source.specs.TopologyLines.{LacksEnd, StopsAtEnd}
-use Rattle.ks_audit_source.specs.Opened.{IsReady, HasRead, HasReadOut, HasStopped}
+use Rattle.ks_audit_source.specs.Opened.{IsReady, HasRead, HasReadOut, HasStopped, HasBegun}
 use Rattle.ks_audit_source.specs.Opening.{Found, FoundIn, BuildsLine, or_fault, IsBefore, HasTopology, LineFinds, EndFinds, HasLine, StopsIn, StopsNow, PieceFinds, IsWith}
 use Rattle.ks_audit_source.proofs.Numbers.{few_lines}
 use Rattle.ks_audit_source.proofs.Cuts.{quiet, HasFew, few_line, HasFewItems, few_end}
@@ -308,6 +309,14 @@ has_read old now got piece more line taken topology lost h e =
       size = size;
       few = omega (arith, size, few_lines (got ++ h.front) line (draft_of topology) h.topology_is.items);
     }
+
+-- it failed before
+pub has_begun : (old left now : Option (List ℕ)) (got : List ℕ) (reader : Option Reader) → Consumes old left got → Keeps left now → IsBefore got reader → HasBegun old now
+has_begun old left now got reader lost kept before = record {
+  got = got;
+  lost = Consumes-kept old left now got lost kept;
+  lacks = record { unopened = items_before got reader before; unstopped = before.unstopped };
+}
 
 -- it lost bytes that there is something to stop at among
 pub has_stopped : (old now : Option (List ℕ)) (got piece : List ℕ) (stop : JobStop) → Consumes old now (got ++ piece) → StopsIn got piece stop → HasStopped old now stop

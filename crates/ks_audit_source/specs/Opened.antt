@@ -6,7 +6,7 @@ use Rattle.ks_plan.specs.Faults.{fault_of}
 use Rattle.ks_law_inputs.specs.Records.{HavePartitions}
 use Rattle.ks_job_source.specs.declared.stop.JobStop.{JobStop}
 use Rattle.ks_audit_source.specs.TopologyLines.{EndsTopology}
-use Rattle.ks_audit_source.specs.TopologyLines.{LacksEnd, StopsAt, StopsAtEnd}
+use Rattle.ks_audit_source.specs.TopologyLines.{LacksEnd, LacksTopology, StopsAt, StopsAtEnd}
 
 -- a topology that is well formed, each of whose topics has a partition
 pub record IsReady (d : DraftView) : Type 0 where
@@ -33,3 +33,9 @@ pub record HasStopped (old now : Option (List ℕ)) (stop : JobStop) : Type 0 wh
   pub got : List ℕ
   pub lost : Consumes old now got
   pub stops : StopsAt got stop ⊎ (IsAtEnd now × StopsAtEnd got stop)
+
+-- it lost these, which have no topology yet and nothing to stop at
+pub record HasBegun (old now : Option (List ℕ)) : Type 0 where
+  pub got : List ℕ
+  pub lost : Consumes old now got
+  pub lacks : LacksTopology got

@@ -15,6 +15,11 @@ pub record EndsTopology (bytes : List ℕ) (line : ℕ) (d : DraftView) : Type 0
   pub items : (so_far bytes).items ≡ TopologyAt line d ∷ []
   pub unstopped : stop_of (so_far bytes) ≡ None
 
+-- these bytes have no topology's line with its end yet, and nothing to stop at
+pub record LacksTopology (bytes : List ℕ) : Type 0 where
+  pub unopened : (so_far bytes).items ≡ []
+  pub unstopped : stop_of (so_far bytes) ≡ None
+
 -- these bytes are the line of a well-formed topology, which has this number, without its end
 pub record LacksEnd (bytes : List ℕ) (line : ℕ) : Type 0 where
   pub draft : DraftView

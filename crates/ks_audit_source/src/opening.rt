@@ -10,7 +10,7 @@ ghost use Rattle.ks_job_source.specs.declared.stop.JobStop.TheVariants.{BadLine}
 ghost use Rattle.ks_job_source.specs.Stops.{refusal};
 ghost use Rattle.ks_audit_source.specs.TopologyLines.{LacksEnd, StopsAtEnd};
 ghost use Rattle.ks_audit_source.specs.Cutting.{IsLine};
-ghost use Rattle.ks_audit_source.specs.Opened.{HasRead, HasReadOut, HasStopped, IsReady};
+ghost use Rattle.ks_audit_source.specs.Opened.{HasBegun, HasRead, HasReadOut, HasStopped, IsReady};
 ghost use Rattle.ks_audit_source.specs.Opening.{IsBefore, FoundIn, LineFinds, EndFinds, PieceFinds, BuildsLine, IsWith, or_fault};
 
 use crate::cutting::split_line;
@@ -203,7 +203,8 @@ fn open_with(alloc: Global, found: TopologyLine<'_>, taken: u64) -> Result<OpenA
     })
 }
 
-/// Reads until the topology line is whole, and opens the audit; or tells why there is none.
+/// Reads until the topology line is whole, and opens the audit; or tells why there is none. A fault that rose in the source is told only
+/// where nothing was read before it that the audit stops at.
 pub fn open_audit<S: Source>(
     alloc: Global,
     input: &mut S,
@@ -221,6 +222,7 @@ pub fn open_audit<S: Source>(
         (S.left input.new))) }
     ensures kept { OnOk result (S.faults input.new ≡ S.faults input.old) }
     ensures fault { result ≡ Err SourceFault → Rose (S.faults input.old) (S.faults input.new) }
+    ensures begun { result ≡ Err SourceFault → HasBegun (S.left input.old) (S.left input.new) }
     ensures buf { length buf.new ≡ length buf.old }
 {
     let mut reader = JobReader::new(alloc);

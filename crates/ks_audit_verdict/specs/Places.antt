@@ -13,7 +13,7 @@ use Rattle.ks_audit.specs.Audited.{IsTaken, IsRefused}
 use Rattle.ks_table_line.specs.Fitting.{IsRowLine}
 use Rattle.ks_audit_verdict.specs.declared.fault.OutputFault.{OutputFault}
 use Rattle.ks_audit_verdict.specs.declared.fault.OutputFault.TheVariants.{NotJournal, NotLegal, NotFaithful}
-use Rattle.ks_audit_verdict.specs.Lines.{Leads, ended}
+use Rattle.ks_audit_verdict.specs.Lines.{IsPlain, Leads, ended, lines_text}
 
 -- what the next line is to be: `settled`; the head of a table, with the names of those behind it; a row of a table with windows or
 -- without, with so many behind it; an entry of a journal that has these
@@ -60,3 +60,12 @@ RefusesAt rules d place line fault = ⊥
 -- these lines stand one after another from a place on, and lead here
 abbrev pub TakesLines : Rules → DraftView → Place → List (List ℕ) → Place → Type 0
 TakesLines rules d place lines here = Leads (TakesAt rules d) place lines here
+
+-- these bytes are lines that stand one after another from a place on, and maybe the front of another one: no whole line is refused
+pub record BeginsAt (rules : Rules) (d : DraftView) (place : Place) (bytes : List ℕ) : Type 0 where
+  pub lines : List (List ℕ)
+  pub here : Place
+  pub taken : TakesLines rules d place lines here
+  pub begun : List ℕ
+  pub plain : IsPlain begun
+  pub cut : bytes ≡ lines_text lines ++ begun

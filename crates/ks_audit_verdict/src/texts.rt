@@ -18,7 +18,8 @@ pub fn print_yes(alloc: Global) -> Result<Vec<u8>, AllocError>
 }
 
 fn print_task(alloc: Global, task: TaskId) -> Result<Vec<u8>, AllocError>
-    ensures { IfOk result (λ v. v.items ≡ codes "42 NotFaithful " ++ 34 ∷ (task_text task ++ 34 ∷ [])) }
+    ensures { IfOk result (λ v. v.items ≡ codes "42 NotFaithful " ++ 34
+        ∷ (task_text task ++ 34 ∷ [])) }
 {
     let mut text = Vec::from_slice(alloc, b"42 NotFaithful \"")?;
     text.extend_from_slice(task.sub.to_string(alloc)?.as_bytes())?;

@@ -1,6 +1,6 @@
 -- What is answered, from what was read.
 use Rattle.std.proofs.Common.{◌≡◌, ◌⊎◌, inl, inr, ℕ, ◌+◌, ◌≤◌, arith, Bool, true, false, List, [], ◌++◌, refl, sym, ap, subst, append-nil, ◌∙◌}
-use Rattle.std.specs.Prelude.{Option, Result, Ok, Err, IfOk, IfErr, OnOk}
+use Rattle.std.specs.Prelude.{Option, Result, Ok, Err, IfOk, IfErr, OnOk, length}
 use Rattle.std.proofs.lemmas.Result.{IfOk-weaker}
 use Rattle.ks_edge.specs.Causes.{Rose}
 use Rattle.ks_plan.specs.Drafts.{DraftView}
@@ -13,7 +13,7 @@ use Rattle.ks_audit_verdict.specs.declared.fault.OutputFault.TheVariants.{NotJou
 use Rattle.ks_audit_verdict.specs.Places.{Place}
 use Rattle.ks_audit_verdict.specs.Audited.{IsAudited}
 use Rattle.ks_audit_verdict.specs.Faults.{IsFaultyWhole, EndsFaulty}
-use Rattle.ks_audit_verdict.specs.Answers.{IsAuditAnswer}
+use Rattle.ks_audit_verdict.specs.Answers.{IsAuditAnswer, TookNothingFaulty}
 use Rattle.ks_audit_verdict.specs.Texts.{yes_text, no_text}
 use Rattle.ks_run_audit.specs.declared.auditing.AuditAnswer.{AuditAnswer}
 use Rattle.ks_audit_verdict.specs.Lines.{IsPlain}
@@ -27,7 +27,7 @@ use Rattle.ks_run_audit.specs.Outputs.{place_in, text_of}
 use Rattle.ks_run_audit.specs.Feeding.{IsFeed, ReadsAll, ReadsFault, draft_in}
 use Rattle.ks_audit_source.specs.Opened.{HasRead, HasReadOut, HasStopped}
 use Rattle.ks_run_audit.specs.Ending.{HasEndFault}
-use Rattle.ks_run_audit.specs.Answering.{IsJudged, EndsOutput, AnswersOutput}
+use Rattle.ks_run_audit.specs.Answering.{IsJudged, EndsOutput, EndsEarly, AnswersOutput}
 use Rattle.ks_run_audit.proofs.Sources.{answers, answers_fault, holds_audited, has_fault, lacks_end, bad_topology}
 
 -- one status is no other
@@ -71,11 +71,11 @@ module _ (rules : Rules) (first now : Option (List ℕ)) (before after status : 
     only = inr (inl is);
   }
 
-  pub from_fault : Rose before after → status ≡ 6 → text ≡ read_fault_text → IsAuditAnswer rules first now before after status text
-  from_fault rose is told = record {
+  pub from_fault : Rose before after → TookNothingFaulty rules first now → status ≡ 6 → text ≡ read_fault_text → IsAuditAnswer rules first now before after status text
+  from_fault rose none is told = record {
     yes = λ e. absurd (let f = sym is ∙ e in cc);
     bad_topology = λ e. absurd (let f = sym is ∙ e in cc);
-    read_fault = λ e. (rose, told);
+    read_fault = λ e. (rose, none, told);
     no = λ e. absurd (let f = sym is ∙ e in cc);
     only = inr (inr (inl is));
   }
@@ -123,6 +123,11 @@ module _ {H : Type 0} (hash : List ℕ → ℕ) (d : DraftView) (line taken : �
       let here = subst (λ n. ReadsFault hash d taken rest old now n lines first fault) number
       (subst (λ n. ReadsFault hash d n rest old now feed.lines lines first fault) size (subst (λ x. ReadsFault hash x feed.taken rest old now feed.lines lines first fault) same h)) in
       answers_fault hash d line taken rest old now first begins empty lines fault status text here told
+
+  pub answered_early : EndsEarly (rules_of hash) (draft_in first) (place_in first) (feed.taken + length rest) rest old now → EndsEarly (rules_of hash) d first_line (taken + length rest) rest old now
+  answered_early h =
+      subst (λ n. EndsEarly (rules_of hash) d first_line (n + length rest) rest old now) size
+      (subst (λ p. EndsEarly (rules_of hash) d p (feed.taken + length rest) rest old now) begins (subst (λ x. EndsEarly (rules_of hash) x (place_in first) (feed.taken + length rest) rest old now) same h))
 
 -- ---- behind a topology line
 -- it has its end, or lacks it

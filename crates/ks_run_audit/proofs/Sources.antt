@@ -1,8 +1,8 @@
 -- The bytes that a source gave, as the lines of an output.
 use Rattle.std.proofs.Common.{◌≡◌, ◌⊎◌, inl, inr, ℕ, suc, ◌+◌, ◌<◌, ◌≤◌, List, [], ◌∷◌, ◌++◌, length, refl, sym, ap, subst, ◌∙◌, append_assoc, append-nil, arith, length-append}
 use Rattle.std.specs.Prelude.{Option, Some, None, Result, Ok, Err, IfOk, IfSome}
-use Rattle.std.specs.Io.KnownBytes.{Consumes, IsAtEnd}
-use Rattle.std.proofs.KnownBytes.{Consumes-nil, Consumes-trans, Consumes-whole}
+use Rattle.std.specs.Io.KnownBytes.{Consumes, IsAtEnd, Keeps}
+use Rattle.std.proofs.KnownBytes.{Consumes-kept, Consumes-nil, Consumes-trans, Consumes-whole}
 use Rattle.ks_plan.specs.Drafts.{DraftView}
 use Rattle.ks_def_tasks.specs.Messages.{Rules}
 use Rattle.ks_def_tasks.specs.Rules.{rules_of}
@@ -14,15 +14,15 @@ use Rattle.ks_audit_verdict.specs.Places.Place.{first_line}
 use Rattle.ks_audit_verdict.specs.Audited.{IsAudited, IsAuditedInput, HoldsAudited}
 use Rattle.ks_audit_verdict.specs.Faults.{EndsFaulty, IsFirstFault, IsFaultAt}
 use Rattle.ks_audit_source.specs.TopologyLines.{LacksEnd, StopsAt, StopsAtEnd}
-use Rattle.ks_audit_verdict.specs.Answers.{HasBadTopology, IsFaultyInput, HasFault}
+use Rattle.ks_audit_verdict.specs.Answers.{HasBadTopology, IsFaultyInput, HasFault, TookNothingFaulty}
 use Rattle.ks_audit_verdict.specs.Texts.{yes_text, no_text}
-use Rattle.ks_audit_verdict.proofs.Chains.{leads_plain}
+use Rattle.ks_audit_verdict.proofs.Chains.{leads_both, leads_plain, lines_both}
 use Rattle.ks_job_source.specs.declared.stop.JobStop.{JobStop}
 use Rattle.ks_run_audit.specs.declared.output.OutputAudit.{OutputAudit}
-use Rattle.ks_audit_source.specs.Opened.{HasRead, HasReadOut, HasStopped}
+use Rattle.ks_audit_source.specs.Opened.{HasBegun, HasRead, HasReadOut, HasStopped}
 use Rattle.ks_run_audit.specs.Outputs.{IsSound, text_of, place_in}
 use Rattle.ks_run_audit.specs.Feeding.{IsRefused, Feeds, RefusesBytes, Loses, LosesFault, HasLost, ReadsOut, ReadsAll, ReadsFault}
-use Rattle.ks_run_audit.specs.Answering.{EndsOutput, EndsAudited, EndsRefused, AnswersOutput, left_of}
+use Rattle.ks_run_audit.specs.Answering.{EndsOutput, EndsAudited, EndsEarly, EndsRefused, AnswersOutput, left_of}
 use Rattle.ks_run_audit.proofs.Feeds.{feeds_none, feeds_on, feeds_size, refuses_behind, refuses_with}
 
 -- ---- along the pieces
@@ -82,6 +82,38 @@ module _ {H : Type 0} (hash : List ℕ → ℕ) (d : DraftView) (taken : ℕ) (r
         lost = l.lost;
         refuses = subst (λ b. RefusesBytes hash d taken (rest ++ l.bytes) b before after old fault) none
             (refuses_behind hash d fault taken (taken + length (lines_text fed.lines)) rest l.bytes begun middle before between after old this fed here (l.refuses (taken + length (lines_text fed.lines)) (omega (arith, here, size, zero))));
+      }
+
+-- ---- where the source fails
+module _ {H : Type 0} (hash : List ℕ → ℕ) (d : DraftView) (taken : ℕ) where
+  pub ends_early : (first left now : Option (List ℕ)) (total : ℕ) (begun begins : List ℕ) (before after : ℕ) (old this : OutputAudit H) → HasLost hash d taken total first left begun begins before after old this → total ≤ 536870912 → Keeps left now →
+      EndsEarly (rules_of hash) d (place_in old) taken begun first now
+  ends_early first left now total begun begins before after old this h most kept = record {
+    got = h.got;
+    lost = Consumes-kept first left now h.got h.lost kept;
+    most = omega (arith, most, h.size);
+    front = record { lines = h.feeds.lines; here = place_in this; taken = h.feeds.passing.along; begun = begins; plain = h.feeds.passing.plain; cut = h.feeds.passing.cut ∙ append-nil (lines_text h.feeds.lines ++ begins) };
+  }
+
+  pub early_behind : (rest : List ℕ) (first now : Option (List ℕ)) (mid : ℕ) (begun middle : List ℕ) (before between : ℕ) (old this : OutputAudit H) → begun ≡ [] → Feeds hash d rest begun middle before between old this → mid ≡ taken + length rest → EndsEarly (rules_of hash) d (place_in this) mid middle first now →
+      EndsEarly (rules_of hash) d (place_in old) (taken + length rest) rest first now
+  early_behind rest first now mid begun middle before between old this none fed size e =
+      let lines = lines_text fed.lines in
+      let own : rest ≡ lines ++ middle = ap (λ b. b ++ rest) (sym none) ∙ (fed.passing.cut ∙ append-nil (lines ++ middle)) in
+      record {
+        got = e.got;
+        lost = e.lost;
+        most = omega (arith, e.most, size);
+        front = record {
+          lines = fed.lines ++ e.front.lines;
+          here = e.front.here;
+          taken = leads_both (TakesAt (rules_of hash) d) (place_in old) (place_in this) e.front.here fed.lines e.front.lines fed.passing.along e.front.taken;
+          begun = e.front.begun;
+          plain = e.front.plain;
+          cut =
+              ap (λ l. l ++ e.got) own ∙ append_assoc lines middle e.got ∙ ap (λ l. lines ++ l) e.front.cut
+              ∙ sym (append_assoc lines (lines_text e.front.lines) e.front.begun) ∙ ap (λ l. l ++ e.front.begun) (sym (lines_both fed.lines e.front.lines));
+        };
       }
 
 -- ---- what is answered of it
@@ -205,6 +237,25 @@ holds_audited rules d line taken first left now rest h e = record {
     audited = e.audited;
   };
 }
+
+pub none_faulty : (rules : Rules) (d : DraftView) (line taken : ℕ) (first left now : Option (List ℕ)) (rest : List ℕ) → HasRead first left d rest line taken → EndsEarly rules d first_line (taken + length rest) rest left now → TookNothingFaulty rules first now
+none_faulty rules d line taken first left now rest h e = record {
+  taken = (h.head ++ rest) ++ e.got;
+  lost = Consumes-trans first left now (h.head ++ rest) e.got h.lost e.lost;
+  is = inr (record {
+    head = h.head;
+    text = rest ++ e.got;
+    cut = append_assoc h.head rest e.got;
+    line = line;
+    draft = d;
+    topology = h.topology;
+    front = e.front;
+    most = omega (arith, e.most, h.size, length-append (h.head ++ rest) e.got, length-append h.head rest);
+  });
+}
+
+pub none_begun : (rules : Rules) (first now : Option (List ℕ)) → HasBegun first now → TookNothingFaulty rules first now
+none_begun rules first now h = record { taken = h.got; lost = h.lost; is = inl h.lacks }
 
 -- it says no, by this text
 abbrev pub SaysNo : Rules → Option (List ℕ) → List ℕ → Type 0

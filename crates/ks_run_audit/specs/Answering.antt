@@ -1,11 +1,11 @@
 -- What is answered of an output. No public contract names these words.
-use Rattle.std.specs.Prelude.{◌≡◌, ◌⊎◌, ◌+◌, ℕ, suc, List, [], ◌++◌, Option, Some, None}
+use Rattle.std.specs.Prelude.{◌≡◌, ◌⊎◌, ◌+◌, ◌≤◌, ℕ, suc, List, [], ◌++◌, length, Option, Some, None}
 use Rattle.std.specs.Io.KnownBytes.{Consumes, IsAtEnd}
 use Rattle.ks_plan.specs.Drafts.{DraftView}
 use Rattle.ks_def_tasks.specs.Messages.{Rules}
 use Rattle.ks_audit_verdict.specs.declared.fault.OutputFault.{OutputFault}
 use Rattle.ks_audit_verdict.specs.Lines.{IsWithinMost}
-use Rattle.ks_audit_verdict.specs.Places.{Place}
+use Rattle.ks_audit_verdict.specs.Places.{Place, BeginsAt}
 use Rattle.ks_audit_verdict.specs.Audited.{IsAudited}
 use Rattle.ks_audit_verdict.specs.Faults.{EndsFaulty, IsFirstFault}
 use Rattle.ks_audit_verdict.specs.Texts.{yes_text, no_text}
@@ -47,3 +47,10 @@ pub record AnswersOutput (rules : Rules) (d : DraftView) (line taken : ℕ) (res
   pub yes : status ≡ 0 → (text ≡ yes_text) × EndsAudited rules d taken rest old now
   pub no : status ≡ 10 → EndsRefused rules d taken rest old now line text
   pub only : IsJudged status
+
+-- the source lost these bytes behind some others, where so many had been taken with those, and all of them begin what stands from a place on
+pub record EndsEarly (rules : Rules) (d : DraftView) (place : Place) (taken : ℕ) (rest : List ℕ) (old now : Option (List ℕ)) : Type 0 where
+  pub got : List ℕ
+  pub lost : Consumes old now got
+  pub most : taken + length got ≤ 536870912
+  pub front : BeginsAt rules d place (rest ++ got)

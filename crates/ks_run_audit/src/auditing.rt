@@ -1,17 +1,18 @@
 //! The audit of what a source holds.
-ghost use Rattle.std.specs.Prelude.{◌≡◌, ◌+◌, ◌^◌, ◌<◌, ◌≤◌, [], true, false, Err, IfOk, IfErr, OnOk, length, take, vec_len};
-ghost use Rattle.std.specs.Io.KnownBytes.{Consumes, IsAtEnd};
+ghost use Rattle.std.specs.Prelude.{◌≡◌, ◌+◌, ◌^◌, ◌<◌, ◌≤◌, [], true, false, Err, IfOk, IfErr, OnErr, OnOk, length, take, vec_len};
+ghost use Rattle.std.specs.Io.KnownBytes.{Consumes, IsAtEnd, Keeps};
 ghost use Rattle.ks_edge.specs.Causes.{HasCause, Rose};
 ghost use Rattle.ks_job_source.specs.declared.reading.SourceError.TheVariants.{Fault as SourceFault};
 ghost use Rattle.ks_topo.specs.Topologies.{draft_of};
 ghost use Rattle.ks_def_tasks.specs.Rules.{rules_of};
 ghost use Rattle.ks_audit_verdict.specs.declared.fault.OutputFault.TheVariants.{NotJournal};
-ghost use Rattle.ks_audit_verdict.specs.Answers.{IsAuditAnswer};
+ghost use Rattle.ks_audit_verdict.specs.Answers.{IsAuditAnswer, TookNothingFaulty};
+ghost use Rattle.ks_audit_verdict.specs.Places.Place.{first_line};
 ghost use Rattle.ks_audit_verdict.specs.Texts.{no_text, yes_text};
 ghost use Rattle.ks_audit_source.specs.Opened.{IsReady};
 ghost use Rattle.ks_run_audit.specs.Outputs.{IsSound, place_in, text_of};
 ghost use Rattle.ks_run_audit.specs.Feeding.{IsFeed, Loses, LosesFault, ReadsAll, ReadsFault, ReadsOut, draft_in};
-ghost use Rattle.ks_run_audit.specs.Answering.{AnswersOutput, EndsOutput};
+ghost use Rattle.ks_run_audit.specs.Answering.{AnswersOutput, EndsEarly, EndsOutput};
 
 use crate::ending::judge_end;
 use crate::feeding::LineFeed;
@@ -95,6 +96,7 @@ fn take_most<S: Source>(input: &mut S, buf: &mut [u8], most: usize) -> Result<us
     ensures bytes { IfOk result (λ n. Consumes (S.left input.old) (S.left input.new)
         (take n buf.new)) }
     ensures end { IfOk result (λ n. n ≡ 0 → 0 < most → IsAtEnd (S.left input.new)) }
+    ensures kept { OnErr result (Keeps (S.left input.old) (S.left input.new)) }
     ensures cause { HasCause (S.faults input.old) (S.faults input.new) result }
     ensures buf { length buf.new ≡ length buf.old }
 {
@@ -124,6 +126,7 @@ fn feed_next<H: Processing, S: Source>(
     ensures few { IfOk result (λ r. feed.new.lines < 2 ^ 63) }
     ensures kept { OnOk result (S.faults input.new ≡ S.faults input.old) }
     ensures fault { result ≡ Err SourceFault → Rose (S.faults input.old) (S.faults input.new) }
+    ensures lost { result ≡ Err SourceFault → Keeps (S.left input.old) (S.left input.new) }
     ensures buf { length buf.new ≡ length buf.old }
 {
     let room = feed.room(buf.len());
@@ -156,6 +159,9 @@ fn read_lines<H: Processing, S: Source>(
     ensures few { IfOk result (λ r. feed.new.lines < 2 ^ 63) }
     ensures kept { OnOk result (S.faults input.new ≡ S.faults input.old) }
     ensures fault { result ≡ Err SourceFault → Rose (S.faults input.old) (S.faults input.new) }
+    ensures early { result ≡ Err SourceFault → EndsEarly (rules_of H.hash_of)
+        (draft_in output.old) (place_in output.old) feed.old.taken feed.old.line.items
+        (S.left input.old) (S.left input.new) }
 {
     loop {
         match feed_next(alloc, input, buf, output, feed)? {
@@ -193,6 +199,9 @@ fn read_all<H: Processing, S: Source>(
     ensures few { IfOk result (λ r. feed.new.lines < 2 ^ 63) }
     ensures kept { OnOk result (S.faults input.new ≡ S.faults input.old) }
     ensures fault { result ≡ Err SourceFault → Rose (S.faults input.old) (S.faults input.new) }
+    ensures early { result ≡ Err SourceFault → EndsEarly (rules_of H.hash_of)
+        (draft_in output.old) (place_in output.old) (feed.old.taken + length rest.now) rest.now
+        (S.left input.old) (S.left input.new) }
 {
     match feed.feed(alloc, output, rest)? {
         Ok(()) => read_lines(alloc, input, buf, output, feed),
@@ -217,6 +226,9 @@ fn read_output<H: Processing + Send + Sync, R: Threads + Sync, S: Source>(
         (S.left input.old) (S.left input.new) a.status a.text.items) }
     ensures kept { OnOk result (S.faults input.new ≡ S.faults input.old) }
     ensures fault { result ≡ Err SourceFault → Rose (S.faults input.old) (S.faults input.new) }
+    ensures early { result ≡ Err SourceFault → EndsEarly (rules_of H.hash_of)
+        (draft_of open.now.topology) first_line (open.now.taken + length open.now.rest.items)
+        open.now.rest.items (S.left input.old) (S.left input.new) }
 {
     let mut output = OutputAudit::<H>::new(alloc, &open.topology)?;
     let mut feed = LineFeed::new(alloc, open.line, open.taken);
@@ -248,6 +260,10 @@ fn audit_open<H: Processing + Send + Sync, R: Threads + Sync, S: Source>(
         × (S.left input.new ≡ S.left input.old)) }
     ensures kept { OnOk result (S.faults input.new ≡ S.faults input.old) }
     ensures fault { result ≡ Err SourceFault → Rose (S.faults input.old) (S.faults input.new) }
+    ensures whole { result ≡ Err SourceFault → open.now.has_end ≡ true }
+    ensures early { result ≡ Err SourceFault → EndsEarly (rules_of H.hash_of)
+        (draft_of open.now.topology) first_line (open.now.taken + length open.now.rest.items)
+        open.now.rest.items (S.left input.old) (S.left input.new) }
 {
     if open.has_end {
         read_output::<H, R, S>(rt, alloc, open, input, buf)
@@ -274,6 +290,8 @@ fn audit_by<H: Processing + Send + Sync, R: Threads + Sync, S: Source>(
     ensures answer { IfOk result (λ a. IsAuditAnswer (rules_of H.hash_of) (S.left input.old)
         (S.left input.new) (S.faults input.old) (S.faults input.new) a.status a.text.items) }
     ensures fault { result ≡ Err SourceFault → Rose (S.faults input.old) (S.faults input.new) }
+    ensures early { result ≡ Err SourceFault → TookNothingFaulty (rules_of H.hash_of)
+        (S.left input.old) (S.left input.new) }
 {
     match open_audit(alloc, input, buf)? {
         Ok(open) => audit_open::<H, R, S>(rt, alloc, &open, input, buf),
@@ -292,7 +310,7 @@ fn audit_by<H: Processing + Send + Sync, R: Threads + Sync, S: Source>(
 /// | 0 | the lines behind the topology's are what a settled run of it prints with its journal | `yes` |
 /// | 10 | they aren't, or a length is passed | `no L FAULT`: the first line that shows it, and its first fault |
 /// | 2 | the topology line has a fault | `bad job line L: FAULT` |
-/// | 6 | the source failed before that | `read fault` |
+/// | 6 | the source failed, and no line before has a fault | `read fault` |
 pub fn audit_source<H: Processing + Send + Sync, R: Threads + Sync, S: Source>(
     rt: &R,
     alloc: Global,

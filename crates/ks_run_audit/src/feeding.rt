@@ -1,5 +1,5 @@
 //! Cuts what is read into lines, and has each of them judged.
-ghost use Rattle.std.specs.Prelude.{◌≡◌, ◌++◌, ◌+◌, ◌^◌, ◌<◌, ◌≤◌, ℕ, [], true, false, IfOk, IfErr, OnOk, length};
+ghost use Rattle.std.specs.Prelude.{◌≡◌, ◌++◌, ◌+◌, ◌^◌, ◌<◌, ◌≤◌, ℕ, [], true, false, IfOk, IfErr, OnOk, ◌-◌, length, min};
 ghost use Rattle.ks_def_tasks.specs.Rules.{rules_of};
 ghost use Rattle.ks_audit_verdict.specs.declared.fault.OutputFault.TheVariants.{TooLong};
 ghost use Rattle.ks_audit_verdict.specs.Lines.{IsPlain};
@@ -57,11 +57,11 @@ impl LineFeed {
         !self.line.is_empty()
     }
 
-    /// How many bytes may be asked for at once: no more than one past the most of the input. Takes no memory.
+    /// How many bytes may be asked for at once: the lesser of so many and of what is left up to one past the most of the input. Takes no
+    /// memory.
     pub fn room(&self, most: usize) -> usize
         requires within { self.now.taken ≤ 536870912 }
-        ensures most { result ≤ most }
-        ensures some { 0 < most → 0 < result }
+        ensures { result ≡ min (536870913 - self.now.taken) most }
     {
         let room = (MOST_INPUT + 1).saturating_sub(self.taken) as usize;
         room.min(most)

@@ -6,13 +6,18 @@ use Rattle.ks_job_source.proofs.Machines.{few_bytes}
 use Rattle.ks_job_source.proofs.Taking.{took_more}
 use Rattle.ks_audit_source.specs.Opened.{HasRead, IsReady}
 use Rattle.ks_audit_source.specs.Opening.{IsBefore, HasLine, PieceFinds}
-use Rattle.ks_audit_source.proofs.Opens.{has_read, has_stopped, read_out, stopped_out, line_ready, line_within}
+use Rattle.ks_audit_source.proofs.Opens.{has_begun, has_read, has_stopped, read_out, stopped_out, line_ready, line_within}
 use Rattle.ks_audit_source.proofs.opening.open_audit.Goals as goal
 
 pub end_reading-requires : goal.end_reading-requires
 end_reading-requires g c =
     let was = c.loop-reader.invariant.0 in
     (was.got, record { stands = was.stands; unstopped = was.unstopped }, was.counted)
+
+pub returns-in_err-count-clause-begun : goal.returns-in_err-count-clause-begun
+returns-in_err-count-clause-begun g c = λ e.
+    let was = c.loop-reader.invariant.0 in
+    has_begun (g.S.Source.left c.args.input.now) (g.S.Source.left c.loop-reader.input) (g.S.Source.left c.take.new.self) was.got c.loop-reader.reader was.front c.in_err-count.ensures.bytes (record { stands = was.stands; unstopped = was.unstopped })
 
 pub overflow_add-taken : goal.overflow_add-taken
 overflow_add-taken g c =

@@ -1,6 +1,7 @@
 use Rattle.std.proofs.Common.{◌≡◌, refl, sym, ap, subst, ◌∙◌}
 use Rattle.ks_topo.specs.Topologies.{draft_of}
 use Rattle.ks_def_tasks.specs.Rules.{rules_of}
+use Rattle.ks_run_audit.proofs.Sources.{none_begun, none_faulty}
 use Rattle.ks_run_audit.proofs.Answering.{opened, stopped}
 use Rattle.ks_run_audit.proofs.auditing.audit_by.Goals as goal
 
@@ -16,3 +17,12 @@ pub returns-in_ok-print_bad_job-in-Err-clause-answer : goal.returns-in_ok-print_
 returns-in_ok-print_bad_job-in-Err-clause-answer g c =
     stopped (rules_of g.H.Hash128.hash_of) (g.S.Source.left c.args.input.now) (g.S.Source.left c.open_audit.new.input) (g.S.Source.faults c.args.input.now) (g.S.Source.faults c.open_audit.new.input)
     c.in-Err.stop (rw c.in-Err.is at c.in_ok-open.ensures.stopped) c.in_ok-open.ensures.kept _ c.in_ok-print_bad_job-in-Err.ensures
+
+pub returns-in_err-open-clause-early : goal.returns-in_err-open-clause-early
+returns-in_err-open-clause-early g c = λ e. none_begun (rules_of g.H.Hash128.hash_of) (g.S.Source.left c.args.input.now) (g.S.Source.left c.open_audit.new.input) (c.in_err-open.ensures.begun (search rules))
+
+pub returns-in-Ok-clause-early : goal.returns-in-Ok-clause-early
+returns-in-Ok-clause-early g c = λ e.
+    let o = c.in-Ok.open in
+    none_faulty (rules_of g.H.Hash128.hash_of) (draft_of o.topology) o.line o.taken (g.S.Source.left c.args.input.now) (g.S.Source.left c.open_audit.new.input) (g.S.Source.left c.audit_open.new.input) o.rest.items
+    ((rw c.in-Ok.is at c.in_ok-open.ensures.read) (c.audit_open.ensures.whole e)) (c.audit_open.ensures.early e)

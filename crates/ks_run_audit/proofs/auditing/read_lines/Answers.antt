@@ -2,7 +2,7 @@ use Rattle.std.proofs.Common.{◌≡◌, refl, sym, ap, subst, ◌∙◌, arith}
 use Rattle.ks_topo.specs.Topologies.{draft_of}
 use Rattle.ks_audit_source.specs.Opened.{IsReady}
 use Rattle.ks_run_audit.specs.Feeding.{HasLost, Loses, LosesFault, draft_in}
-use Rattle.ks_run_audit.proofs.Sources.{lost_none, lost_more, lost_fault}
+use Rattle.ks_run_audit.proofs.Sources.{ends_early, lost_none, lost_more, lost_fault}
 use Rattle.ks_run_audit.proofs.auditing.read_lines.Goals as goal
 
 pub loop-count-init : goal.loop-count-init
@@ -56,3 +56,10 @@ loop-count-preserved g c =
       lost_more hash (draft_in c.args.output.now) c.args.feed.now.taken (left c.args.input.now) (left c.loop-count.input) (left c.feed_next.new.input) c.loop-count.feed.taken c.feed_next.new.feed.taken c.in-Ok.count
           c.args.feed.now.line.items c.loop-count.feed.line.items c.feed_next.new.feed.line.items c.args.feed.now.lines c.loop-count.feed.lines c.feed_next.new.feed.lines c.args.output.now c.loop-count.output c.feed_next.new.output was.5 loses (rw c.in-Ok.is at c.in_ok-count.ensures.taken),
     )
+
+pub returns-in_err-count-clause-early : goal.returns-in_err-count-clause-early
+returns-in_err-count-clause-early g c = λ e.
+    let was = c.loop-count.invariant in
+    let left = g.S.Source.left in
+    ends_early g.H.Hash128.hash_of (draft_in c.args.output.now) c.args.feed.now.taken (left c.args.input.now) (left c.loop-count.input) (left c.feed_next.new.input) c.loop-count.feed.taken
+    c.args.feed.now.line.items c.loop-count.feed.line.items c.args.feed.now.lines c.loop-count.feed.lines c.args.output.now c.loop-count.output was.5 was.2.within (c.in_err-count.ensures.lost (search rules))

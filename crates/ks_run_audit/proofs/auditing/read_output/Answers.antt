@@ -1,9 +1,11 @@
-use Rattle.std.proofs.Common.{◌≡◌, refl, sym, ap, subst, ◌∙◌, arith}
+use Rattle.std.proofs.Common.{◌≡◌, ◌+◌, length, refl, sym, ap, subst, ◌∙◌, arith}
 use Rattle.ks_topo.specs.Topologies.{draft_of}
 use Rattle.ks_def_tasks.specs.Rules.{rules_of}
 use Rattle.ks_audit_verdict.specs.Texts.{no_text}
+use Rattle.ks_run_audit.specs.Outputs.{place_in}
+use Rattle.ks_run_audit.specs.Answering.{EndsEarly}
 use Rattle.ks_run_audit.specs.Feeding.{IsFeed, ReadsAll, ReadsFault, draft_in}
-use Rattle.ks_run_audit.proofs.Answering.{answered_all, answered_fault, new_feed}
+use Rattle.ks_run_audit.proofs.Answering.{answered_all, answered_early, answered_fault, new_feed}
 use Rattle.ks_run_audit.proofs.auditing.read_output.Goals as goal
 
 pub read_all-requires-clause-feed : goal.read_all-requires-clause-feed
@@ -31,3 +33,12 @@ returns-in_ok-answer_no-in-Err-clause-answers g c =
     c.read_all.new.feed.lines c.in-Err.fault
     (subst (λ r. ReadsFault g.H.Hash128.hash_of (draft_in c.in_ok-output.output) c.new-feed.result.taken r (g.S.Source.left c.args.input.now) (g.S.Source.left c.read_all.new.input) c.new-feed.result.lines c.read_all.new.feed.lines c.in_ok-output.output c.in-Err.fault) c.as_slice-rest.ensures.value (rw c.in-Err.is at c.in_ok-read_all.ensures.refused))
     _ _ (let told = c.in_ok-answer_no-in-Err.ensures in (told.0, told.1 ∙ ap (λ n. no_text n c.in-Err.fault) c.number.ensures))
+
+pub returns-in_err-read_all-clause-early : goal.returns-in_err-read_all-clause-early
+returns-in_err-read_all-clause-early g c = λ e.
+    let first = c.in_ok-output.output in
+    let old = g.S.Source.left c.args.input.now in
+    let now = g.S.Source.left c.read_all.new.input in
+    answered_early g.H.Hash128.hash_of (draft_of c.args.open.now.topology) c.args.open.now.line c.args.open.now.taken c.args.open.now.rest.items old now first c.new-feed.result
+    (ap (λ t. draft_of t.now) c.in_ok-output.ensures.topology) c.in_ok-output.ensures.place c.in_ok-output.ensures.text c.new-feed.ensures.lines c.new-feed.ensures.taken
+    (subst (λ r. EndsEarly (rules_of g.H.Hash128.hash_of) (draft_in first) (place_in first) (c.new-feed.result.taken + length r) r old now) c.as_slice-rest.ensures.value (c.in_err-read_all.ensures.early (search rules)))
