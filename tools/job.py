@@ -2,7 +2,7 @@
 
     topology, records = read_job("examples/orders-by-region.jsonl")
     topology.tasks              [(0, 0), (0, 1), ..]: subtopology and partition
-    topology.topics[5].name     "shop-orders_by_region-changelog": topics by the numbers that the journal has
+    topology.topics[5].name     "shop-cents_by_customer-changelog": topics by the numbers that the journal has
 
 The job has to be a valid one (`./streams check` tells what is wrong with one that isn't); where it is none, BadJob says at which line this
 was seen, and no more. Nothing here knows the program: tests hold it to the program's journals.

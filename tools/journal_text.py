@@ -1,7 +1,7 @@
 """Entries of a journal in words, with the names of topics and with keys and rows as text; the same as objects.
 
     text = Wording(topology)
-    text.line(entry)        '14 worker 0      append   0_0 to shop-orders-changelog/2 from 0: "o-1" {"cents":1250} -> offset 0'
+    text.line(entry)        '    14 worker 0   append   0_0 to shop-orders-changelog/2 in epoch 1 from 0: "o-1" {"cents":1250} -> offset 0'
     text.object(entry)      {"number":14,"request":"append","worker":0, ..}
 """
 

@@ -1,7 +1,7 @@
 """A small reader of JSON that keeps where each value stands, and judges a text as serde_json does.
 
     value = parse('{"a": [1, 2.5]}')
-    value.get("a").items[1].at      9: the place of 2.5 in the text, from 0
+    value.get("a").items[1].at      10: the place of 2.5 in the text, from 0
 
 serde_json takes what RFC 8259 says, and refuses more than Python's own reader: NaN and Infinity, halves of surrogate pairs, numbers
 without a finite double (1e999), 128 arrays or objects in one another, a byte order mark. Bytes that are no UTF-8 come in as the
