@@ -22,7 +22,7 @@ def parser():
     words.add_argument("job", metavar="JOB")
     form = words.add_mutually_exclusive_group()
     form.add_argument("--dot", action="store_true", help="a graph for Graphviz: ./streams describe --dot JOB | dot -Tsvg > topology.svg")
-    form.add_argument("--json", action="store_true", help="one JSON object: app, subtopologies, topics, tasks")
+    form.add_argument("--json", action="store_true", help="one JSON object: app, subtopologies, topics, tasks, repartitioned, print")
     return words
 
 
