@@ -44,7 +44,8 @@ use Rattle.ks_worker_commit.specs.declared.halt.Halt.TheVariants.{OutOfMemory, C
 use Rattle.ks_worker_client.specs.declared.halt.Halt.{Halt as TurnHalt}
 use Rattle.ks_worker_client.specs.declared.halt.Halt.TheVariants.{OutOfMemory as NoMemory, Cut as CutOff}
 use Rattle.ks_worker_client.specs.Calls.{Answered}
-use Rattle.ks_worker_commit.specs.Outcomes.{Requests, UndecidedRequests, halted, written}
+use Rattle.ks_worker_client.proofs.Called.{wrote}
+use Rattle.ks_worker_commit.specs.Outcomes.{Requests, UndecidedRequests, halted, written, WroteMarker}
 use Rattle.ks_worker_commit.specs.Ends.{NeverBarred}
 use Rattle.ks_worker_commit.specs.Underway.{Memory, with_end, HasEnds, IsUnderway, Puts, Halts, Carries, HasDecided, Decides, HasAborted, HasNotAborted, Aborts, always, has_added, has_work, has_pending_work}
 use Rattle.ks_worker_commit.proofs.Ended.{append_has_ends}
@@ -391,6 +392,15 @@ module _ {W : Type 0} (plan : W → TaskPlan) (old new : PassView Entry (Frame W
 
   pub waits_as : (x : Result Bool Halt) (r : Result (Option (PartId × Bool)) TurnHalt) → x ≡ written r → MarkerAsked r → IfOk x (λ more. more ≡ false → ((at (setup_in plan old.frame) new.seen).producer w).waiting ≡ [])
   waits_as x r is k = subst (λ y. IfOk y (λ more. more ≡ false → ((at (setup_in plan old.frame) new.seen).producer w).waiting ≡ [])) (sym is) (waits_none r k)
+
+  marker_is_written : (r : Result (Option (PartId × Bool)) TurnHalt) → MarkerAsked r → IfOk (written r) (λ more. more ≡ true → WroteMarker plan old new w)
+  marker_is_written (Ok None) k = λ h. absurd (true≢false (sym h))
+  marker_is_written (Ok (Some m)) k = λ h. record { marker = m; wrote = wrote plan old new k (MarkNext w) (Marked (Some m)) k.does }
+  marker_is_written (Err NoMemory) k = tt
+  marker_is_written (Err CutOff) k = tt
+
+  pub wrote_as : (x : Result Bool Halt) (r : Result (Option (PartId × Bool)) TurnHalt) → x ≡ written r → MarkerAsked r → IfOk x (λ more. more ≡ true → WroteMarker plan old new w)
+  wrote_as x r is k = subst (λ y. IfOk y (λ more. more ≡ true → WroteMarker plan old new w)) (sym is) (marker_is_written r k)
 
 -- a marker's request is never barred
 pub marker_never_barred : {A : Type 0} (x : Result Bool Halt) (r : Result (Option A) TurnHalt) → x ≡ written r → NeverBarred x

@@ -1,8 +1,10 @@
 -- What a pass has seen and made in a commit, and what each of the commit's ends says.
 use Rattle.std.specs.Prelude.{◌≡◌, ◌≢◌, ◌⊎◌, ◌+◌, ◌≤◌, ◌&&◌, ◌||◌, ℕ, suc, Bool, true, false, not, Option, Some, None, Result, Ok, Err, List, [], ◌∷◌, ◌++◌, length}
+use Rattle.ks_record.specs.declared.record.PartId.{PartId}
 use Rattle.ks_history.specs.declared.journal.Entry.{Entry}
 use Rattle.ks_history.specs.declared.journal.Request.{Request}
-use Rattle.ks_history.specs.declared.journal.Request.TheVariants.{Decide}
+use Rattle.ks_history.specs.declared.journal.Request.TheVariants.{Decide, MarkNext}
+use Rattle.ks_history.specs.declared.journal.Reply.TheVariants.{Mark as Marked}
 use Rattle.ks_history.specs.Machine.{TaskPlan}
 use Rattle.ks_history.specs.State.{Setup}
 use Rattle.ks_history.specs.History.{at, IsHistory}
@@ -18,6 +20,7 @@ use Rattle.ks_law_commit.specs.Cases.{IsTurnedDown}
 use Rattle.ks_worker_client.specs.declared.halt.Halt.{Halt as TurnHalt}
 use Rattle.ks_worker_client.specs.declared.halt.Halt.TheVariants.{OutOfMemory as NoMemory, Cut as CutOff}
 use Rattle.ks_worker_client.specs.Turns.{GateCounts}
+use Rattle.ks_worker_client.specs.Calls.{Wrote}
 use Rattle.ks_worker_commit.specs.declared.halt.Halt.{Halt}
 use Rattle.ks_worker_commit.specs.declared.halt.Halt.TheVariants.{OutOfMemory, Cut, Barred as IsBarred}
 
@@ -68,6 +71,11 @@ written (Ok None) = Ok false
 written (Ok (Some a)) = Ok true
 written (Err NoMemory) = Err OutOfMemory
 written (Err CutOff) = Err Cut
+
+-- a marker of the worker waited and was written: that entry is the last which the pass has seen
+pub record WroteMarker {W : Type 0} (plan : W → TaskPlan) (old new : PassView Entry (Frame W)) (w : ℕ) : Type 0 where
+  pub marker : PartId × Bool
+  pub wrote : Wrote plan old new (MarkNext w) (Marked (Some marker))
 
 -- the counts of a gate that cut the worker off so often more
 abbrev pub with_cuts : GateCounts → ℕ → GateCounts

@@ -9,7 +9,7 @@ ghost use Rattle.ks_law_restore.specs.Views.{pending_work};
 ghost use Rattle.ks_law_commit.specs.Building.{with_part, with_records, with_pending_offsets};
 ghost use Rattle.ks_commit.specs.Work.{work_view};
 ghost use Rattle.ks_worker_commit.specs.Premises.{MayRequest};
-ghost use Rattle.ks_worker_commit.specs.Outcomes.{Requests, UndecidedRequests, with_cuts, cuts_in, halted, written};
+ghost use Rattle.ks_worker_commit.specs.Outcomes.{Requests, UndecidedRequests, with_cuts, cuts_in, halted, written, WroteMarker};
 ghost use Rattle.ks_worker_commit.specs.Ends.{NeverBarred};
 ghost use Rattle.ks_worker_commit.specs.Underway.{memory, with_end, Carries, Decides, Aborts, always, has_added, has_work};
 
@@ -222,7 +222,7 @@ pub fn decide_abort<R: Wait, W: Work, G: Gate>(
     done(client.decide(rt, alloc, shared, member, false, last))
 }
 
-/// Writes the worker's next waiting marker; false where none waits.
+/// Writes the worker's next waiting marker; true where one waited, false where none waits.
 pub fn write_marker<R: Wait, W: Work, G: Gate>(
     rt: &R,
     alloc: Global,
@@ -239,6 +239,8 @@ pub fn write_marker<R: Wait, W: Work, G: Gate>(
     ensures none { IfOk result (λ more. more ≡ false
         → ((at (setup_in W.plan session.old.client.pass.frame)
         session.new.client.pass.seen).producer member.number).waiting ≡ []) }
+    ensures wrote { IfOk result (λ more. more ≡ true
+        → WroteMarker W.plan session.old.client.pass session.new.client.pass member.number) }
     ensures gate { session.new.client.gate ≡ with_cuts session.old.client.gate (cuts_in result) }
 {
     let client = &mut session.client;
