@@ -1,5 +1,5 @@
 -- A worker's state before and after a commit of its tasks.
-use Rattle.std.proofs.Common.{◌≡◌, ◌≢◌, ℕ, List, [], ◌∷◌, refl, sym, ap, subst, ◌∙◌, Result, Ok, Err}
+use Rattle.std.proofs.Common.{◌≡◌, ◌≢◌, inl, inr, ℕ, List, [], ◌∷◌, refl, sym, ap, subst, ◌∙◌, Result, Ok, Err}
 use Rattle.std.specs.Prelude.{IfOk, OnOk}
 use Rattle.std.specs.List.{All}
 use Rattle.atomic_table.specs.Seated.{TableId}
@@ -99,12 +99,12 @@ module _ {W G : Type 0} (plan : W → TaskPlan) (hash : List ℕ → ℕ) (lock 
     works_are : AreWorks plan s (works_of made)
     works_are = record { of_tasks = are; some = some_works made some }
 
-    one_end : new.session.client ≡ sess.client →
-        IsEnded plan s.session.client.pass sess.client.pass s.member.number s.member.epoch s.member.generation s.session.last (λ t. pending_of t (pendings_of (works_of made))) → HasOneEnd plan s new
-    one_end same ended = record {
+    one_end : (x : Outcome) → new.session.client ≡ sess.client →
+        IsEnded plan s.session.client.pass sess.client.pass s.member.number s.member.epoch s.member.generation s.session.last (λ t. pending_of t (pendings_of (works_of made))) x → HasOneEnd plan s new x
+    one_end x same ended = record {
       works = works_of made;
       are = works_are;
-      case = subst (λ (c : ClusterClient W G). IsEnded plan s.session.client.pass c.pass s.member.number s.member.epoch s.member.generation s.session.last (λ t. pending_of t (pendings_of (works_of made)))) (sym same) ended;
+      case = subst (λ (c : ClusterClient W G). IsEnded plan s.session.client.pass c.pass s.member.number s.member.epoch s.member.generation s.session.last (λ t. pending_of t (pendings_of (works_of made))) x) (sym same) ended;
     }
 
     module _ (session : new.session ≡ sess) (member : new.member ≡ s.member) (replicas : new.replicas ≡ s.replicas) where
@@ -145,7 +145,7 @@ module _ {W G : Type 0} (plan : W → TaskPlan) (hash : List ℕ → ℕ) (lock 
 
       pub aborted_ended : o ≡ Aborted → LeavesNoMarker (setup_in plan s.session.client.pass.frame) sess.client.pass.seen s.member.number o → AreCleanOf s.tasks.items new.tasks.items → HasDroppedDirty plan s new
       aborted_ended is none kept = record {
-        end = one_end (ap (λ (x : Session W G). x.client) session)
+        end = one_end Aborted (ap (λ (x : Session W G). x.client) session)
             (subst (HasCase plan s.session.client.pass sess.client.pass s.member.number s.member.epoch s.member.generation s.session.last (λ t. pending_of t (pendings_of (works_of made)))) is case);
         kept = kept;
         marked = subst (λ (x : Session W G). HasNoMarker (setup_in plan s.session.client.pass.frame) x.client.pass.seen s.member.number) (sym session)
@@ -155,13 +155,13 @@ module _ {W G : Type 0} (plan : W → TaskPlan) (hash : List ℕ → ℕ) (lock 
 
     pub fenced_ended : o ≡ Fenced → new.session.client ≡ sess.client → HasLostAll s.member new → HasCrashed plan s new
     fenced_ended is same all = record {
-      end = one_end same (subst (HasCase plan s.session.client.pass sess.client.pass s.member.number s.member.epoch s.member.generation s.session.last (λ t. pending_of t (pendings_of (works_of made)))) is case);
+      end = inl (one_end Fenced same (subst (HasCase plan s.session.client.pass sess.client.pass s.member.number s.member.epoch s.member.generation s.session.last (λ t. pending_of t (pendings_of (works_of made)))) is case));
       all = all;
     }
 
     pub touched_ended : o ≡ Touched → new.session.client ≡ sess.client → HasLostAll s.member new → HasCrashed plan s new
     touched_ended is same all = record {
-      end = one_end same (subst (HasCase plan s.session.client.pass sess.client.pass s.member.number s.member.epoch s.member.generation s.session.last (λ t. pending_of t (pendings_of (works_of made)))) is case);
+      end = inr (one_end Touched same (subst (HasCase plan s.session.client.pass sess.client.pass s.member.number s.member.epoch s.member.generation s.session.last (λ t. pending_of t (pendings_of (works_of made)))) is case));
       all = all;
     }
 

@@ -1,5 +1,5 @@
 -- What a commit of its tasks makes of a worker.
-use Rattle.std.specs.Prelude.{◌≡◌, ◌≢◌, List, []}
+use Rattle.std.specs.Prelude.{◌≡◌, ◌≢◌, ◌⊎◌, List, []}
 use Rattle.std.specs.List.{All}
 use Rattle.ks_plan.specs.Drafts.{DraftView}
 use Rattle.ks_history.specs.Machine.{TaskPlan}
@@ -8,6 +8,8 @@ use Rattle.ks_law_restore.specs.Views.{WorkView}
 use Rattle.ks_commit.specs.Sending.{pendings_of}
 use Rattle.ks_shared.specs.Calls.{setup_in}
 use Rattle.ks_worker_client.specs.declared.member.Member.{Member}
+use Rattle.ks_worker_commit.specs.declared.outcome.Outcome.{Outcome}
+use Rattle.ks_worker_commit.specs.declared.outcome.Outcome.TheVariants.{Aborted as IsAborted, Fenced, Touched}
 use Rattle.ks_worker_commit.specs.Ends.{IsCommitted, IsEnded}
 use Rattle.ks_worker_commit.specs.Leaves.{HasNoMarker}
 use Rattle.ks_worker_state.specs.declared.state.WorkerState.{WorkerState}
@@ -41,15 +43,15 @@ pub record HasCommittedTasks {W G : Type 0} (plan : W → TaskPlan) (d : DraftVi
   pub clean : All IsCleanTask new.tasks.items
   pub stays : StaysMember old new
 
--- the journal has one of the five ends of a commit of these works, and no commit of the worker's own was accepted
-pub record HasOneEnd {W G : Type 0} (plan : W → TaskPlan) (old new : WorkerState W G) : Type 0 where
+-- the journal has one of the five ends of a commit of these works, which came to this, and no commit of the worker's own was accepted
+pub record HasOneEnd {W G : Type 0} (plan : W → TaskPlan) (old new : WorkerState W G) (o : Outcome) : Type 0 where
   pub works : List WorkView
   pub are : AreWorks plan old works
-  pub case : IsEnded plan old.session.client.pass new.session.client.pass old.member.number old.member.epoch old.member.generation old.session.last (λ t. pending_of t (pendings_of works))
+  pub case : IsEnded plan old.session.client.pass new.session.client.pass old.member.number old.member.epoch old.member.generation old.session.last (λ t. pending_of t (pendings_of works)) o
 
--- it has only its clean tasks any more, and no marker of it waits
+-- none of its requests was refused by `Fenced`; it has only its clean tasks any more, and no marker of it waits
 pub record HasDroppedDirty {W G : Type 0} (plan : W → TaskPlan) (old new : WorkerState W G) : Type 0 where
-  pub end : HasOneEnd plan old new
+  pub end : HasOneEnd plan old new IsAborted
   pub kept : AreCleanOf old.tasks.items new.tasks.items
   pub marked : HasNoMarker (setup_in plan old.session.client.pass.frame) new.session.client.pass.seen old.member.number
   pub stays : StaysMember old new
@@ -62,8 +64,9 @@ pub record HasLostAll {W G : Type 0} (m : Member) (new : WorkerState W G) : Type
   pub last : new.session.last ≡ 0
   pub numbers : new.session.numbers.items ≡ []
 
+-- one of its requests was refused by `Fenced`, or somebody else used its number
 pub record HasCrashed {W G : Type 0} (plan : W → TaskPlan) (old new : WorkerState W G) : Type 0 where
-  pub end : HasOneEnd plan old new
+  pub end : HasOneEnd plan old new Fenced ⊎ HasOneEnd plan old new Touched
   pub all : HasLostAll old.member new
 
 abbrev pub HasEnded : {W G : Type 0} → (W → TaskPlan) → DraftView → WorkerState W G → WorkerState W G → CommitEnd → Type 0

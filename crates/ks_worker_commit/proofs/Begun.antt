@@ -86,6 +86,7 @@ module _ {W : Type 0} (plan : W → TaskPlan) (old : PassView Entry (Frame W)) (
     worker = known;
     requests = requests_none plan old w;
     undecided = refl;
+    unfenced = refl;
     history = known.history;
     seen = known.seen;
     back = λ h. h;

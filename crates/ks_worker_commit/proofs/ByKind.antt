@@ -44,12 +44,12 @@ use Rattle.ks_worker_commit.specs.declared.halt.Halt.TheVariants.{OutOfMemory, C
 use Rattle.ks_worker_client.specs.declared.halt.Halt.{Halt as TurnHalt}
 use Rattle.ks_worker_client.specs.declared.halt.Halt.TheVariants.{OutOfMemory as NoMemory, Cut as CutOff}
 use Rattle.ks_worker_client.specs.Calls.{Answered}
-use Rattle.ks_worker_client.proofs.Called.{wrote}
-use Rattle.ks_worker_commit.specs.Outcomes.{Requests, UndecidedRequests, halted, written, WroteMarker}
+use Rattle.ks_worker_client.proofs.Called.{wrote, read_made}
+use Rattle.ks_worker_commit.specs.Outcomes.{Requests, UndecidedRequests, is_fence, fence_in, halted, written, WroteMarker}
 use Rattle.ks_worker_commit.specs.Ends.{NeverBarred}
-use Rattle.ks_worker_commit.specs.Underway.{Memory, with_end, HasEnds, IsUnderway, Puts, Halts, Carries, HasDecided, Decides, HasAborted, HasNotAborted, Aborts, always, has_added, has_work, has_pending_work}
+use Rattle.ks_worker_commit.specs.Underway.{Memory, with_end, HasEnds, IsUnderway, Puts, Halts, Carries, HasDecided, Decides, HasAborted, HasNotAborted, WasNotAsked, Aborts, always, has_added, has_work, has_pending_work}
 use Rattle.ks_worker_commit.proofs.Ended.{append_has_ends}
-use Rattle.ks_worker_commit.proofs.Requesting.{Asked, history_now, carries_request, requests_request, requests_by, requests_nothing, requests_cut, undecided_nothing, undecided_cut, numbered_reached, assigned_reached, reached_history, requests_now, more_now, before_is, before_setup, is_accepted, one_of_commit, request_refused, request_touched, seen_after}
+use Rattle.ks_worker_commit.proofs.Requesting.{Asked, history_now, carries_request, requests_request, requests_by, requests_nothing, requests_cut, undecided_nothing, undecided_cut, numbered_reached, assigned_reached, reached_history, requests_now, more_now, before_is, before_setup, is_accepted, one_of_commit, request_refused, request_touched, seen_after, or_none}
 
 -- the answer is what the call's is to a commit
 pub carried_as : {W A : Type 0} (plan : W → TaskPlan) (old new : PassView Entry (Frame W)) (w e g : ℕ) (mem next : Memory) (Ready : List WorkView → Contents → Type 0) (puts : Contents → Contents)
@@ -300,10 +300,18 @@ module _ {W : Type 0} (plan : W → TaskPlan) (old new : PassView Entry (Frame W
         same = λ i. record mem { last = k.does.same i };
       }
 
+  not_asked : (place : ℕ) → Called plan old new (λ b x. IsTouched b x w mem.last next place) → WasNotAsked old new w mem
+  not_asked place k =
+      let there : new.seen ≡ k.before.journal = seen_after plan old new (λ b x. IsTouched b x w mem.last next place) k ∙ ap (λ (y : ClusterView W). y.journal) k.does.same in
+      record {
+        made = read_made plan old new k k.does.same;
+        place = λ same. k.does.other (k.does.at_is ∙ ap (touched w) (sym there) ∙ same);
+      }
+
   pub abort_aborts : (r : Result (Result (Unit {0}) Barred) TurnHalt) → Asked plan old new w mem.last next aborting (λ u. Done) r → Aborts plan old new w e mem decided_memory (halted r)
   abort_aborts (Ok (Ok u)) called = is_aborted called
   abort_aborts (Ok (Err (Refusal r))) called = not_aborted r called
-  abort_aborts (Ok (Err (Touched place))) called = tt
+  abort_aborts (Ok (Err (Touched place))) called = not_asked place called
   abort_aborts (Err NoMemory) called = tt
   abort_aborts (Err CutOff) called = tt
 
@@ -319,23 +327,29 @@ module _ {W : Type 0} (plan : W → TaskPlan) (old new : PassView Entry (Frame W
   decide_requests commit (Err CutOff) k = requests_cut plan old new w k
 
   -- one that isn't to commit decides no commit
-  pub abort_requests : (r : Result (Result (Unit {0}) Barred) TurnHalt) → Asked plan old new w mem.last next aborting (λ u. Done) r → UndecidedRequests plan old new w
+  pub abort_requests : (r : Result (Result (Unit {0}) Barred) TurnHalt) → Asked plan old new w mem.last next aborting (λ u. Done) r → UndecidedRequests plan old new w (fence_in (halted r))
   abort_requests (Ok (Ok u)) k = record {
     requests = requests_by plan old new _ k w (record { request = aborting; reply = Done } ∷ []) (ap (λ (x : ClusterView W). x.journal) k.does.adds.journal)
         (one_of_commit w (record { request = aborting; reply = Done }) (is_same w));
     undecided = refl;
+    fence = refl;
   }
   abort_requests (Ok (Err (Refusal r))) k = record {
     requests = requests_by plan old new _ k w (record { request = aborting; reply = Refuse r } ∷ []) (ap (λ (x : ClusterView W). x.journal) k.does.adds.journal)
         (one_of_commit w (record { request = aborting; reply = Refuse r }) (is_same w));
     undecided = refl;
+    fence = or_none (is_fence r);
   }
   abort_requests (Ok (Err (Touched place))) k = record {
     requests = requests_by plan old new _ k w [] (ap (λ (x : ClusterView W). x.journal) k.does.same ∙ sym (append-nil k.before.journal)) refl;
     undecided = refl;
+    fence = refl;
   }
   abort_requests (Err NoMemory) k = undecided_nothing plan old new w k
   abort_requests (Err CutOff) k = undecided_cut plan old new w k
+
+  pub abort_requests_as : (x : Result (Unit {0}) Halt) (r : Result (Result (Unit {0}) Barred) TurnHalt) → x ≡ halted r → Asked plan old new w mem.last next aborting (λ u. Done) r → UndecidedRequests plan old new w (fence_in x)
+  abort_requests_as x r is called = subst (λ y. UndecidedRequests plan old new w (fence_in y)) (sym is) (abort_requests r called)
 
 -- ---- markers
 -- nothing waits where none was given
@@ -375,11 +389,12 @@ module _ {W : Type 0} (plan : W → TaskPlan) (old new : PassView Entry (Frame W
   abbrev pub MarkerAsked : Result (Option (PartId × Bool)) TurnHalt → Type 0
   MarkerAsked r = Answered plan old new (λ m before after. AddsEntry plan before after (MarkNext w) (Marked m)) r
 
-  pub marker_requests : (r : Result (Option (PartId × Bool)) TurnHalt) → MarkerAsked r → UndecidedRequests plan old new w
+  pub marker_requests : (r : Result (Option (PartId × Bool)) TurnHalt) → MarkerAsked r → UndecidedRequests plan old new w false
   marker_requests (Ok m) k = record {
     requests = requests_by plan old new _ k w (record { request = MarkNext w; reply = Marked m } ∷ []) (ap (λ (x : ClusterView W). x.journal) k.does.journal)
         (one_of_commit w (record { request = MarkNext w; reply = Marked m }) (is_same w));
     undecided = refl;
+    fence = refl;
   }
   marker_requests (Err NoMemory) k = undecided_nothing plan old new w k
   marker_requests (Err CutOff) k = undecided_cut plan old new w k

@@ -29,13 +29,13 @@ use Rattle.ks_worker_commit.specs.declared.halt.Halt.{Halt}
 use Rattle.ks_worker_commit.specs.declared.halt.Halt.TheVariants.{OutOfMemory, Cut as IsCut, Barred as IsBarred}
 use Rattle.ks_worker_commit.specs.declared.outcome.Outcome.{Outcome}
 use Rattle.ks_worker_commit.specs.declared.outcome.Outcome.TheVariants.{Committed, Aborted, Fenced, Touched, Cut}
-use Rattle.ks_worker_commit.specs.Outcomes.{Requests, UndecidedRequests, with_cuts, cuts_in}
+use Rattle.ks_worker_commit.specs.Outcomes.{Requests, UndecidedRequests, is_fence, fence_in, with_cuts, cuts_in}
 use Rattle.ks_worker_commit.specs.Outputs.{contents_of}
 use Rattle.ks_worker_commit.specs.Underway.{Memory, IsHalted}
-use Rattle.ks_worker_commit.specs.Ends.{CameToDecision, EndsSo, HasCase, IsOutcomeOf, HasTurnedBack, IsAborted, refused_outcome, cut_of, AbortsSo, FinishesSo}
+use Rattle.ks_worker_commit.specs.Ends.{CameToDecision, EndsSo, IsEnded, HasCase, IsOutcomeOf, HasTurnedBack, IsAborted, is_fenced, fenced_in, WasUsed, refused_outcome, cut_of, AbortsSo, FinishesSo}
 use Rattle.ks_worker_commit.specs.Leaves.{KnowsProducer, LeavesTasks, LeavesProducer, HasNoMarker, LeavesNoMarker}
-use Rattle.ks_worker_commit.proofs.Requesting.{requests_both, undecided_none}
-use Rattle.ks_worker_commit.proofs.Ending.{pending_is, refused_then, touched_ends, committed_then, aborted_case, finished_case}
+use Rattle.ks_worker_commit.proofs.Requesting.{requests_both, undecided_none, fence_both, fence_first}
+use Rattle.ks_worker_commit.proofs.Ending.{pending_is, refused_then, used_then, touched_ends, committed_then, aborted_case, finished_case}
 use Rattle.ks_worker_commit.proofs.Carrying.{same_setup}
 use Rattle.ks_worker_commit.proofs.Kept.{committed_works, committed_rests, committed_remembers, remembers_later, aborted_tasks, aborted_remembers, refused_tasks, refused_remembers}
 
@@ -65,6 +65,25 @@ same_cut A OutOfMemory (Err e) is = refl
 same_cut A IsCut r is = ap cut_of is
 same_cut A (IsBarred (IsTouched place)) r is = ap cut_of is
 same_cut {E} A (IsBarred (Refusal x)) r is = ap cut_of is ∙ refused_cut E x
+
+-- the outcome of a refusal tells whether it is the fence
+fence_told : (r : Refused) → is_fence r ≡ is_fenced (refused_outcome r)
+fence_told (FencedBy epoch) = refl
+fence_told (OutOfSequence expected) = refl
+fence_told (AlreadyDecided commit) = refl
+fence_told NoTransaction = refl
+fence_told (OldGeneration now) = refl
+fence_told (NotAssigned owner) = refl
+fence_told (Unstable producer) = refl
+fence_told (MarkersWaiting left) = refl
+fence_told (BadAssignment task) = refl
+
+pub same_fence : {E : Type 0} (A : Type 0) (halt : Halt) (r : Result Outcome E) → IsOutcomeOf halt r → fenced_in r ≡ fence_in {A = A} (Err halt)
+same_fence A OutOfMemory (Ok o) is = absurd is
+same_fence A OutOfMemory (Err e) is = refl
+same_fence A IsCut r is = ap fenced_in is
+same_fence A (IsBarred (IsTouched place)) r is = ap fenced_in is
+same_fence A (IsBarred (Refusal x)) r is = ap fenced_in is ∙ sym (fence_told x)
 
 abbrev pub pending_in : List WorkView → TaskId → Option Pending
 pending_in fs t = pending_of t (pendings_of fs)
@@ -116,7 +135,13 @@ module _ {W : Type 0} (plan : W → TaskPlan) (old mid new : PassView Entry (Fra
 abbrev pub NotAborted : {E : Type 0} → Result Outcome E → Type 0
 NotAborted r = r ≡ Ok Aborted → ⊥
 
-module _ {W : Type 0} (plan : W → TaskPlan) (old mid : PassView Entry (Frame W)) (m : Member) (last : ℕ) (mem : Memory) (fs : List WorkView) (more : UndecidedRequests plan mid mid m.number) where
+module _ {W : Type 0} (plan : W → TaskPlan) (old mid : PassView Entry (Frame W)) (m : Member) (last : ℕ) (mem : Memory) (fs : List WorkView) where
+  -- refused, and nothing was made then
+  refused_alone : (x : Refused) (o : Outcome) → refused_outcome x ≡ o → (o ≡ Touched → ⊥) → IsHalted plan old mid m.number m.epoch m.generation last mem (Refusal x) → IsEnded plan old mid m.number m.epoch m.generation last (pending_in fs) o
+  refused_alone x o is other h =
+      refused_then plan old mid mid m.number m.epoch m.generation last (pending_in fs) mem x o h (undecided_none plan mid m.number)
+      (fence_first h.requests.own (undecided_none plan mid m.number).requests.own (undecided_none plan mid m.number).fence ∙ h.fence ∙ fence_told x ∙ ap is_fenced is) (λ touched. absurd (other touched))
+
   pub halted_cases : {E : Type 0} (A : Type 0) (halt : Halt) (r : Result Outcome E) → IsOutcomeOf halt r → EndsSo {A = A} plan old mid m.number m.epoch m.generation last mem fs (contents_of fs) (Err halt) → IfOk r (HasCase plan old mid m.number m.epoch m.generation last (pending_in fs))
   halted_cases A OutOfMemory (Ok o) is ends = absurd is
   halted_cases A OutOfMemory (Err e) is ends = tt
@@ -128,8 +153,8 @@ module _ {W : Type 0} (plan : W → TaskPlan) (old mid : PassView Entry (Frame W
       by : (o : Outcome) → (refused_outcome x ≡ Fenced) ⊎ (refused_outcome x ≡ Aborted) → refused_outcome x ≡ o → HasCase plan old mid m.number m.epoch m.generation last (pending_in fs) o
       by Committed (inl f) same = let k : Committed ≡ Fenced = sym same ∙ f in absurd cc
       by Committed (inr f) same = let k : Committed ≡ Aborted = sym same ∙ f in absurd cc
-      by Aborted f same = refused_then plan old mid mid m.number m.epoch m.generation last (pending_in fs) mem x ends more
-      by Fenced f same = refused_then plan old mid mid m.number m.epoch m.generation last (pending_in fs) mem x ends more
+      by Aborted f same = refused_alone x Aborted same (λ k. absurd cc) ends
+      by Fenced f same = refused_alone x Fenced same (λ k. absurd cc) ends
       by Touched (inl f) same = let k : Touched ≡ Fenced = sym same ∙ f in absurd cc
       by Touched (inr f) same = let k : Touched ≡ Aborted = sym same ∙ f in absurd cc
       by Cut f same = tt
@@ -147,22 +172,29 @@ halted_after P fenced touched cut (IsBarred (Refusal x)) r is no_abort = subst (
     by (inr f) = absurd (no_abort (is ∙ ap Ok f))
 
 -- halted by a refusal, and then aborted
-pub aborted_by : {E : Type 0} (halt : Halt) (r : Result Outcome E) → IsOutcomeOf halt r → r ≡ Ok Aborted → (x : Refused) × (halt ≡ IsBarred (Refusal x))
+pub aborted_by : {E : Type 0} (halt : Halt) (r : Result Outcome E) → IsOutcomeOf halt r → r ≡ Ok Aborted → (x : Refused) × (halt ≡ IsBarred (Refusal x)) × (is_fence x ≡ false)
 aborted_by OutOfMemory (Ok o) is same = absurd is
 aborted_by OutOfMemory (Err e) is same = absurd cc
 aborted_by IsCut r is same = absurd cc
 aborted_by (IsBarred (IsTouched place)) r is same = absurd cc
-aborted_by (IsBarred (Refusal x)) r is same = (x, refl)
+aborted_by (IsBarred (Refusal x)) r is same = (x, refl, fence_told x ∙ ap fenced_in (sym is) ∙ ap fenced_in same)
 
-module _ {W : Type 0} (A : Type 0) (plan : W → TaskPlan) (old mid new : PassView Entry (Frame W)) (m : Member) (last : ℕ) (mem next : Memory) (fs : List WorkView) (more : UndecidedRequests plan mid new m.number) (history : IsHistory (setup_in plan old.frame) new.seen)
-    (halt : Halt) (refused : (x : Refused) × (halt ≡ IsBarred (Refusal x))) (ends : EndsSo {A = A} plan old mid m.number m.epoch m.generation last mem fs (contents_of fs) (Err halt)) where
+module _ {W : Type 0} (A : Type 0) (plan : W → TaskPlan) (old mid new : PassView Entry (Frame W)) (m : Member) (last : ℕ) (mem next : Memory) (fs : List WorkView) {fenced : Bool} (more : UndecidedRequests plan mid new m.number fenced) (history : IsHistory (setup_in plan old.frame) new.seen)
+    (halt : Halt) (refused : (x : Refused) × (halt ≡ IsBarred (Refusal x)) × (is_fence x ≡ false)) (ends : EndsSo {A = A} plan old mid m.number m.epoch m.generation last mem fs (contents_of fs) (Err halt)) where
   was_halted : IsHalted plan old mid m.number m.epoch m.generation last mem (Refusal refused.0)
   was_halted = subst (λ h. EndsSo {A = A} plan old mid m.number m.epoch m.generation last mem fs (contents_of fs) (Err h)) refused.1 ends
 
-  pub abort_cases : (o : Outcome) → AbortsSo plan mid new m.number m.epoch mem next o → HasCase plan old new m.number m.epoch m.generation last (pending_in fs) o
-  abort_cases o so =
+  used_so : (o : Outcome) → AbortsSo plan mid new m.number m.epoch mem next o → o ≡ Touched →
+      WasUsed old.seen (was_halted.requests.more ++ more.requests.more) (was_halted.requests.own ++ more.requests.own) m.number last
+  used_so o so is =
+      used_then plan old mid new m.number m.epoch m.generation last (pending_in fs) mem refused.0 was_halted more
+      (subst (λ x. AbortsSo plan mid new m.number m.epoch mem next x) is so)
+
+  pub abort_cases : (o : Outcome) → fenced ≡ is_fenced o → AbortsSo plan mid new m.number m.epoch mem next o → HasCase plan old new m.number m.epoch m.generation last (pending_in fs) o
+  abort_cases o fence so =
       aborted_case plan old mid new m.number m.epoch m.generation last (pending_in fs) mem next o so
-      (refused_then plan old mid new m.number m.epoch m.generation last (pending_in fs) mem refused.0 was_halted more)
+      (refused_then plan old mid new m.number m.epoch m.generation last (pending_in fs) mem refused.0 o was_halted more
+      (fence_both was_halted.requests.own more.requests.own (was_halted.fence ∙ refused.2) ∙ more.fence ∙ fence) (used_so o so))
 
   -- as it was when the abort was decided or refused, before its markers were written
   module _ (a : IsAborted plan mid new m.number m.epoch mem next) where
@@ -240,8 +272,8 @@ module _ {W A E : Type 0} (plan : W → TaskPlan) (old mid new : PassView Entry 
   pub ok_marked : IfOk o (LeavesNoMarker (setup_in plan old.frame) new.seen m.number)
   ok_marked = if_ok _ _ o (finished_marked plan old mid new m last next fs apart came more history_new) so
 
-module _ {W A E : Type 0} (plan : W → TaskPlan) (old mid new : PassView Entry (Frame W)) (m : Member) (last : ℕ) (mem next : Memory) (fs : List WorkView) (r : Result A Halt) (halt : Halt) (is : r ≡ Err halt)
-    (ends : EndsSo plan old mid m.number m.epoch m.generation last mem fs (contents_of fs) r) (one : Requests plan old mid m.number) (more : UndecidedRequests plan mid new m.number) (history : IsHistory (setup_in plan old.frame) old.seen)
+module _ {W A E : Type 0} {fenced : Bool} (plan : W → TaskPlan) (old mid new : PassView Entry (Frame W)) (m : Member) (last : ℕ) (mem next : Memory) (fs : List WorkView) (r : Result A Halt) (halt : Halt) (is : r ≡ Err halt)
+    (ends : EndsSo plan old mid m.number m.epoch m.generation last mem fs (contents_of fs) r) (one : Requests plan old mid m.number) (more : UndecidedRequests plan mid new m.number fenced) (history : IsHistory (setup_in plan old.frame) old.seen)
     (x : Result Outcome E) (of : IsOutcomeOf halt x) (aborted : x ≡ Ok Aborted) (o : Result Outcome E) (so : IfOk o (AbortsSo plan mid new m.number m.epoch mem next)) where
   stopped : EndsSo {A = A} plan old mid m.number m.epoch m.generation last mem fs (contents_of fs) (Err halt)
   stopped = subst (λ (y : Result A Halt). EndsSo plan old mid m.number m.epoch m.generation last mem fs (contents_of fs) y) is ends
@@ -249,8 +281,12 @@ module _ {W A E : Type 0} (plan : W → TaskPlan) (old mid new : PassView Entry 
   history_then : IsHistory (setup_in plan old.frame) new.seen
   history_then = (requests_both plan old mid new m.number one more.requests).history history
 
-  pub aborted_ok_cases : IfOk o (HasCase plan old new m.number m.epoch m.generation last (pending_in fs))
-  aborted_ok_cases = if_ok _ _ o (abort_cases A plan old mid new m last mem next fs more history_then halt (aborted_by halt x of aborted) stopped) so
+  pub aborted_ok_cases : fenced ≡ fenced_in o → IfOk o (HasCase plan old new m.number m.epoch m.generation last (pending_in fs))
+  aborted_ok_cases fence = by o fence so
+    where
+      by : (r : Result Outcome E) → fenced ≡ fenced_in r → IfOk r (AbortsSo plan mid new m.number m.epoch mem next) → IfOk r (HasCase plan old new m.number m.epoch m.generation last (pending_in fs))
+      by (Ok a) is h = abort_cases A plan old mid new m last mem next fs more history_then halt (aborted_by halt x of aborted) stopped a is h
+      by (Err failed) is h = tt
 
   pub aborted_ok_producer : IfOk o (LeavesProducer (setup_in plan old.frame) new.seen m next.last next.numbers)
   aborted_ok_producer = if_ok _ _ o (abort_producer A plan old mid new m last mem next fs more history_then halt (aborted_by halt x of aborted) stopped) so
@@ -264,7 +300,7 @@ module _ {W A E : Type 0} (plan : W → TaskPlan) (old mid new : PassView Entry 
 module _ {W A E : Type 0} (plan : W → TaskPlan) (old mid : PassView Entry (Frame W)) (m : Member) (last : ℕ) (mem : Memory) (fs : List WorkView) (r : Result A Halt) (halt : Halt) (is : r ≡ Err halt)
     (ends : EndsSo plan old mid m.number m.epoch m.generation last mem fs (contents_of fs) r) (x : Result Outcome E) (of : IsOutcomeOf halt x) where
   pub halt_cases : IfOk x (HasCase plan old mid m.number m.epoch m.generation last (pending_in fs))
-  halt_cases = halted_cases plan old mid m last mem fs (undecided_none plan mid m.number) A halt x of
+  halt_cases = halted_cases plan old mid m last mem fs A halt x of
       (subst (λ (y : Result A Halt). EndsSo plan old mid m.number m.epoch m.generation last mem fs (contents_of fs) y) is ends)
 
   pub halt_after : (P : Outcome → Type 0) → P Fenced → P Touched → P Cut → NotAborted x → IfOk x P

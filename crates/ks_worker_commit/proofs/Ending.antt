@@ -1,5 +1,5 @@
 -- From the requests of a commit to its end.
-use Rattle.std.proofs.Common.{◌≡◌, ◌≢◌, ◌⊎◌, inl, inr, ℕ, suc, ◌≤◌, ◌||◌, Bool, true, false, cond, List, [], ◌∷◌, ◌++◌, length, Option, Some, None, refl, sym, ap, subst, ◌∙◌, append_assoc}
+use Rattle.std.proofs.Common.{◌≡◌, ◌≢◌, ◌⊎◌, inl, inr, ℕ, suc, ◌+◌, ◌≤◌, ◌||◌, Bool, true, false, cond, List, [], ◌∷◌, ◌++◌, length, Option, Some, None, refl, sym, ap, subst, ◌∙◌, append_assoc, arith}
 use Rattle.std.specs.Prelude.{◌==◌}
 use Rattle.std.proofs.lemmas.Bool.{eqb-true, eq-eqb, true≢false}
 use Rattle.ks_record.specs.declared.record.PartId.{PartId}
@@ -19,6 +19,7 @@ use Rattle.ks_law_sharing.specs.Refusals.{IsFencing, IsMarkersWaiting}
 use Rattle.ks_law_commit.specs.Building.{Contents, no_contents}
 use Rattle.ks_law_commit.specs.Accounts.{accepted_of}
 use Rattle.ks_law_commit.specs.Committing.{commit_entry}
+use Rattle.ks_law_commit.proofs.Counted.{accepted-append}
 use Rattle.ks_law_commit.specs.Cases.{IsTurnedDown, HasCommitted, CommitCases}
 use Rattle.ks_commit.specs.Sending.{pendings_of}
 use Rattle.ks_commit.specs.Committed.{tasks_in, AreApart}
@@ -27,13 +28,13 @@ use Rattle.ks_shared.specs.declared.state.Frame.{Frame}
 use Rattle.ks_shared.specs.declared.barred.Barred.{Barred}
 use Rattle.ks_shared.specs.declared.barred.Barred.TheVariants.{Refused as Refusal, Touched as IsTouched}
 use Rattle.ks_shared.specs.Calls.{setup_in}
-use Rattle.ks_worker_commit.specs.Outcomes.{Requests, UndecidedRequests, WhyBarred}
+use Rattle.ks_worker_commit.specs.Outcomes.{Requests, UndecidedRequests, holds_fence, WhyBarred}
 use Rattle.ks_worker_commit.specs.Outputs.{parts_in, add_all, put_all, send_all, contents_of}
 use Rattle.ks_worker_commit.specs.declared.outcome.Outcome.{Outcome}
 use Rattle.ks_worker_commit.specs.declared.outcome.Outcome.TheVariants.{Committed, Aborted, Fenced, Touched, Cut}
-use Rattle.ks_worker_commit.specs.Underway.{Memory, IsHalted}
-use Rattle.ks_worker_commit.specs.Ends.{CameToDecision, IsCommitted, IsEnded, HasCase, AbortsSo, FinishesSo}
-use Rattle.ks_worker_commit.proofs.Requesting.{requests_both, undecided_both}
+use Rattle.ks_worker_commit.specs.Underway.{Memory, IsHalted, WasNotAsked}
+use Rattle.ks_worker_commit.specs.Ends.{CameToDecision, IsCommitted, IsEnded, WasUsed, is_fenced, HasCase, AbortsSo, FinishesSo}
+use Rattle.ks_worker_commit.proofs.Requesting.{requests_both, undecided_both, accepted_most}
 use Rattle.ks_worker_commit.proofs.Filling.{IsFirst, first_of, first_pending, send_pending, put_pending}
 
 -- ---- what is pending is the works' offsets
@@ -85,12 +86,15 @@ module _ {W : Type 0} (plan : W → TaskPlan) (old mid new : PassView Entry (Fra
       by false is = no_then (λ e. true≢false (sym (eq-eqb (touched w old.seen) last e) ∙ is))
 
   -- refused, and what came then
-  pub refused_then : (mem : Memory) (r : Refused) → IsHalted plan old mid w e g last mem (Refusal r) → UndecidedRequests plan mid new w → IsEnded plan old new w e g last pending
-  refused_then mem r h more =
+  pub refused_then : {fenced : Bool} (mem : Memory) (r : Refused) (o : Outcome) (h : IsHalted plan old mid w e g last mem (Refusal r)) (more : UndecidedRequests plan mid new w fenced) →
+      holds_fence (h.requests.own ++ more.requests.own) ≡ is_fenced o → (o ≡ Touched → WasUsed old.seen (h.requests.more ++ more.requests.more) (h.requests.own ++ more.requests.own) w last) → IsEnded plan old new w e g last pending o
+  refused_then mem r o h more fence used =
       let all : Requests plan old new w = requests_both plan old mid new w h.requests more.requests in
       record {
         requests = all;
         own = undecided_both h.requests.own more.requests.own h.undecided more.undecided;
+        fence = fence;
+        used = used;
         cases = mine_or (CommitCases (setup_in plan old.frame) old.seen all.more w e g (length all.own) last pending) (λ is. by (h.why is)) (λ ne. inr (inr (inr (inr ne))));
       }
     where
@@ -100,10 +104,23 @@ module _ {W : Type 0} (plan : W → TaskPlan) (old mid new : PassView Entry (Fra
       by (inl f) = inr (inl (turned_more h.requests.more more.requests.more IsFencing f.1))
       by (inr m) = inr (inr (inl (turned_more h.requests.more more.requests.more IsMarkersWaiting m.1, m.2)))
 
-  pub touched_ends : (mem : Memory) (place : ℕ) → IsHalted plan old new w e g last mem (IsTouched place) → IsEnded plan old new w e g last pending
+  -- the abort wasn't requested, since somebody else had used the number
+  pub used_then : {fenced : Bool} (mem : Memory) (r : Refused) (h : IsHalted plan old mid w e g last mem (Refusal r)) (more : UndecidedRequests plan mid new w fenced) → WasNotAsked mid new w mem →
+      WasUsed old.seen (h.requests.more ++ more.requests.more) (h.requests.own ++ more.requests.own) w last
+  used_then mem r h more n = mine_or (WasUsed old.seen (h.requests.more ++ more.requests.more) (h.requests.own ++ more.requests.own) w last)
+      (λ mine.
+      let other : touched w (mid.seen ++ more.requests.more) ≢ mem.last = λ same. n.place (ap (touched w) more.requests.seen ∙ same) in
+      let counted : suc (accepted_of w h.requests.own) ≤ accepted_of w (h.requests.more ++ more.requests.more) = h.used more.requests.more mine other in
+      let none : new.made ≡ mid.made + length more.requests.own = ap (λ (k : PassView Entry (Frame W)). k.made) more.requests.same in
+      inl (omega (arith, counted, none, n.made, accepted-append w h.requests.own more.requests.own, accepted_most w more.requests.own)))
+      (λ ne. inr ne)
+
+  pub touched_ends : (mem : Memory) (place : ℕ) → IsHalted plan old new w e g last mem (IsTouched place) → IsEnded plan old new w e g last pending Touched
   touched_ends mem place h = record {
     requests = h.requests;
     own = h.undecided;
+    fence = h.fence;
+    used = λ is. mine_or (WasUsed old.seen h.requests.more h.requests.own w last) (λ mine. inl (omega (arith, h.why mine, accepted_most w h.requests.own))) (λ ne. inr ne);
     cases = mine_or (CommitCases (setup_in plan old.frame) old.seen h.requests.more w e g (length h.requests.own) last pending) (λ is. inr (inr (inr (inl (h.why is))))) (λ ne. inr (inr (inr (inr ne))));
   }
 
@@ -124,7 +141,7 @@ module _ {W : Type 0} (plan : W → TaskPlan) (old mid new : PassView Entry (Fra
       }
 
   -- ---- the outcomes
-  pub aborted_case : (mem next : Memory) (o : Outcome) → AbortsSo plan mid new w e mem next o → IsEnded plan old new w e g last pending → HasCase plan old new w e g last pending o
+  pub aborted_case : (mem next : Memory) (o : Outcome) → AbortsSo plan mid new w e mem next o → IsEnded plan old new w e g last pending o → HasCase plan old new w e g last pending o
   aborted_case mem next Committed so ends = absurd so
   aborted_case mem next Aborted so ends = ends
   aborted_case mem next Fenced so ends = ends

@@ -1,5 +1,5 @@
 -- What a call through the lock is to a commit that is under way.
-use Rattle.std.proofs.Common.{◌≡◌, ◌≢◌, ◌⊎◌, inl, inr, ℕ, suc, ◌+◌, ◌-◌, ◌≤◌, ◌&&◌, ◌||◌, Bool, true, false, not, List, [], ◌∷◌, ◌++◌, length, length-append, Option, Some, None, Result, Ok, Err, refl, sym, ap, ap₂, subst, ◌∙◌, arith, append_assoc, append-nil}
+use Rattle.std.proofs.Common.{◌≡◌, ◌≢◌, ◌⊎◌, inl, inr, ℕ, suc, ◌+◌, ◌-◌, ◌≤◌, ◌&&◌, ◌||◌, Bool, true, false, not, cond, List, [], ◌∷◌, ◌++◌, length, length-append, Option, Some, None, Result, Ok, Err, refl, sym, ap, ap₂, subst, ◌∙◌, arith, append_assoc, append-nil}
 use Rattle.std.proofs.lemmas.Bool.{true≢false}
 use Rattle.ks_record.specs.declared.record.TaskId.{TaskId}
 use Rattle.ks_record.specs.Parts.{same_task}
@@ -7,7 +7,7 @@ use Rattle.ks_record.specs.declared.assignment.Refused.{Refused}
 use Rattle.ks_history.specs.declared.journal.Entry.{Entry}
 use Rattle.ks_history.specs.declared.journal.Request.{Request}
 use Rattle.ks_history.specs.declared.journal.Reply.{Reply}
-use Rattle.ks_history.specs.declared.journal.Reply.TheVariants.{Refused as Refuse}
+use Rattle.ks_history.specs.declared.journal.Reply.TheVariants.{Done, Number, Truth, Mark as Marked, Refused as Refuse}
 use Rattle.ks_history.specs.Partition.{count_sent}
 use Rattle.ks_history.specs.Machine.{TaskPlan}
 use Rattle.ks_history.specs.State.{State, Setup, start, has_task}
@@ -28,6 +28,7 @@ use Rattle.ks_law_commit.specs.Building.{Contents, adds_to}
 use Rattle.ks_law_commit.specs.Accounts.{is_of_commit, accepted_of}
 use Rattle.ks_law_commit.specs.Advancing.{added_by}
 use Rattle.ks_law_commit.specs.Cases.{carries, IsTurnedDown}
+use Rattle.ks_law_commit.proofs.Counted.{accepted-append}
 use Rattle.ks_law_commit.specs.Sending.{IsSending, IsPrepared}
 use Rattle.ks_law_commit.proofs.Stages.{quiet_is, sending_keeps_active, sending_gains, sending_touched, sending_refused}
 use Rattle.ks_commit.specs.Alone.{IsNumbered}
@@ -45,7 +46,7 @@ use Rattle.ks_worker_client.specs.declared.halt.Halt.{Halt as TurnHalt}
 use Rattle.ks_worker_client.specs.declared.halt.Halt.TheVariants.{OutOfMemory as NoMemory, Cut as CutOff}
 use Rattle.ks_worker_client.specs.Turns.{GateCounts, counts_after}
 use Rattle.ks_worker_client.specs.Calls.{Answered}
-use Rattle.ks_worker_commit.specs.Outcomes.{IsAmong, are_of_commit, is_commit, holds_commit, Requests, UndecidedRequests, halted, written, with_cuts, cuts_in}
+use Rattle.ks_worker_commit.specs.Outcomes.{IsAmong, are_of_commit, is_commit, holds_commit, is_fence, fences, holds_fence, Requests, UndecidedRequests, halted, written, with_cuts, cuts_in}
 use Rattle.ks_worker_commit.proofs.Ended.{ends_stay, gained_epoch}
 use Rattle.ks_worker_commit.specs.Underway.{Memory, HasEnds, AreActiveWorks, IsUnderway, IsHalted, Puts, Halts, Carries}
 
@@ -78,6 +79,49 @@ undecided_both (x ∷ xs) ys h g = by (not (is_refused x.reply) && is_commit x.r
     by : (b : Bool) → b || holds_commit xs ≡ false → (holds_commit xs ≡ false → holds_commit (xs ++ ys) ≡ false) → b || holds_commit (xs ++ ys) ≡ false
     by true k on = absurd (true≢false k)
     by false k on = on k
+
+pub fence_both : (xs ys : List Entry) → holds_fence xs ≡ false → holds_fence (xs ++ ys) ≡ holds_fence ys
+fence_both [] ys h = refl
+fence_both (x ∷ xs) ys h = by (fences x.reply) h (λ k. fence_both xs ys k)
+  where
+    by : (b : Bool) → b || holds_fence xs ≡ false → (holds_fence xs ≡ false → holds_fence (xs ++ ys) ≡ holds_fence ys) → b || holds_fence (xs ++ ys) ≡ holds_fence ys
+    by true k on = absurd (true≢false k)
+    by false k on = on k
+
+pub fence_first : (xs ys : List Entry) → holds_fence ys ≡ false → holds_fence (xs ++ ys) ≡ holds_fence xs
+fence_first [] ys h = h
+fence_first (x ∷ xs) ys h = ap (λ b. fences x.reply || b) (fence_first xs ys h)
+
+pub or_none : (b : Bool) → b || false ≡ b
+or_none true = refl
+or_none false = refl
+
+unfenced_one : (request : Request) (reply : Reply) → is_refused reply ≡ false → holds_fence (record { request = request; reply = reply } ∷ []) ≡ false
+unfenced_one request Done h = refl
+unfenced_one request (Number n) h = refl
+unfenced_one request (Truth b) h = refl
+unfenced_one request (Marked m) h = refl
+unfenced_one request (Refuse refused) h = absurd (true≢false h)
+
+-- at most all of them are accepted
+pub accepted_most : (w : ℕ) (xs : List Entry) → accepted_of w xs ≤ length xs
+accepted_most w [] = omega arith
+accepted_most w (x ∷ xs) = by (touches w x) (accepted_most w xs)
+  where
+    by : (b : Bool) → accepted_of w xs ≤ length xs → cond b (suc (accepted_of w xs)) (accepted_of w xs) ≤ length (x ∷ xs)
+    by true h = omega (arith, h)
+    by false h = omega (arith, h)
+
+-- a refused one isn't
+refused_none : (w : ℕ) (request : Request) (refused : Refused) → accepted_of w (record { request = request; reply = Refuse refused } ∷ []) ≡ 0
+refused_none w request refused = by (is_of w request) 0
+  where
+    by : (b : Bool) (n : ℕ) → cond (b && false) (suc n) n ≡ n
+    by true n = refl
+    by false n = refl
+
+accepted_before : (w : ℕ) (own ys : List Entry) → accepted_of w ys ≡ 0 → accepted_of w (own ++ ys) ≤ length own
+accepted_before w own ys none = omega (arith, accepted-append w own ys, none, accepted_most w own)
 
 pub undecided_one : (entry : Entry) → is_commit entry.request ≡ false → holds_commit (entry ∷ []) ≡ false
 undecided_one entry is = ap (λ b. (not (is_refused entry.reply) && b) || false) is ∙ by (not (is_refused entry.reply))
@@ -117,13 +161,14 @@ module _ {W : Type 0} (plan : W → TaskPlan) where
         (g.history (subst (λ (o : Option (Frame W)). IsHistory (setup_in plan o) b.seen) (sym (ap (λ (k : PassView Entry (Frame W)). k.frame) f.same)) (f.history h)));
   }
 
-  pub undecided_none : (p : PassView Entry (Frame W)) (w : ℕ) → UndecidedRequests plan p p w
-  undecided_none p w = record { requests = requests_none p w; undecided = refl }
+  pub undecided_none : (p : PassView Entry (Frame W)) (w : ℕ) → UndecidedRequests plan p p w false
+  undecided_none p w = record { requests = requests_none p w; undecided = refl; fence = refl }
 
-  pub undecided_then : (a b c : PassView Entry (Frame W)) (w : ℕ) → UndecidedRequests plan a b w → UndecidedRequests plan b c w → UndecidedRequests plan a c w
+  pub undecided_then : {fenced : Bool} (a b c : PassView Entry (Frame W)) (w : ℕ) → UndecidedRequests plan a b w false → UndecidedRequests plan b c w fenced → UndecidedRequests plan a c w fenced
   undecided_then a b c w f g = record {
     requests = requests_both a b c w f.requests g.requests;
     undecided = undecided_both f.requests.own g.requests.own f.undecided g.undecided;
+    fence = fence_both f.requests.own g.requests.own f.fence ∙ g.fence;
   }
 
   module _ (old new : PassView Entry (Frame W)) (Does : ClusterView W → ClusterView W → Type 0) (c : Called plan old new Does) where
@@ -232,6 +277,17 @@ module _ {W : Type 0} (plan : W → TaskPlan) (from old new : PassView Entry (Fr
 
   abbrev pub requests_now : (own : List Entry) → c.after.journal ≡ c.before.journal ++ own → are_of_commit w own ≡ true → Requests plan from new w
   requests_now own is kinds = requests_both plan from old new w u.requests (requests_by plan old new Does c w own is kinds)
+
+  -- somebody else uses the number up to a later moment
+  pub used_now : (own : List Entry) (is : c.after.journal ≡ c.before.journal ++ own) (more : List Entry) → accepted_of w own ≡ 0 → touched w from.seen ≡ first → touched w (new.seen ++ more) ≢ mem.last →
+      suc (accepted_of w (u.requests.own ++ own)) ≤ accepted_of w ((u.requests.more ++ (c.others ++ own)) ++ more)
+  used_now own is more none mine other =
+      let behind : (u.requests.more ++ (c.others ++ own)) ++ more ≡ u.requests.more ++ ((c.others ++ own) ++ more) = append_assoc u.requests.more (c.others ++ own) more in
+      let there : new.seen ++ more ≡ from.seen ++ (u.requests.more ++ ((c.others ++ own) ++ more)) =
+      ap (λ l. l ++ more) (seen_is own is) ∙ append_assoc from.seen (u.requests.more ++ c.others ++ own) more ∙ ap (λ l. from.seen ++ (l ++ more)) (append_assoc u.requests.more c.others own) ∙ ap (λ l. from.seen ++ l) behind in
+      let counted : suc (length u.requests.own) ≤ accepted_of w (u.requests.more ++ ((c.others ++ own) ++ more)) =
+      sending_touched setup from.seen u.requests.more ((c.others ++ own) ++ more) w e (length u.requests.own) first mem.last contents (u.sending mine) (λ same. other (ap (touched w) there ∙ same)) in
+      omega (arith, counted, accepted_before w u.requests.own own none, ap (accepted_of w) behind)
 
   pub more_now : (own : List Entry) → u.requests.more ++ (c.others ++ own) ≡ u.requests.more ++ c.others ++ own
   more_now own = sym (append_assoc u.requests.more c.others own)
@@ -343,6 +399,7 @@ module _ {W : Type 0} (plan : W → TaskPlan) (from old new : PassView Entry (Fr
     worker = u.worker;
     requests = all;
     undecided = undecided_both u.requests.own (entry ∷ []) u.undecided (undecided_one entry open_still);
+    unfenced = fence_both u.requests.own (entry ∷ []) u.unfenced ∙ unfenced_one request reply plain;
     history = history_now plan from old new w e g first mem fs contents u Done_so c;
     seen = record {
       generation = subst (λ l. g ≤ (at here l).generation) (sym all.seen) (seen_stays here from.seen all.more w g first u.worker.seen).generation;
@@ -406,6 +463,8 @@ module _ {W : Type 0} (plan : W → TaskPlan) (from old new : PassView Entry (Fr
   request_refused ready = record {
     requests = refused_all;
     undecided = undecided_both u.requests.own (refused_entry ∷ []) u.undecided refl;
+    fence = fence_both u.requests.own (refused_entry ∷ []) u.unfenced ∙ or_none (is_fence r);
+    used = λ more mine other. used_now plan from old new w e g first mem fs contents u Refused_so c (refused_entry ∷ []) refused_journal more (refused_none w request r) mine (λ same. other (same ∙ sym c.does.same));
     why = λ mine. by (sending_refused refused_here from.seen u.requests.more c.others request r w e g (length u.requests.own) first mem.last contents u.worker.network
         (reached_history plan from old new w e g first mem fs contents u Refused_so c) (u.worker.idle mine) u.worker.past carried refused_place (ready mine refused_place) refused_why (u.sending mine));
     mid = old;
@@ -436,6 +495,8 @@ module _ {W : Type 0} (plan : W → TaskPlan) (from old new : PassView Entry (Fr
   request_touched = record {
     requests = requests_now plan from old new w e g first mem fs contents u Touched_so c [] same_journal refl;
     undecided = undecided_both u.requests.own [] u.undecided refl;
+    fence = fence_both u.requests.own [] u.unfenced;
+    used = λ more mine other. used_now plan from old new w e g first mem fs contents u Touched_so c [] same_journal more refl mine (λ same. other (same ∙ sym c.does.last_is));
     why = λ mine.
         let there = before_is plan from old new w e g first mem fs contents u Touched_so c in
         let counted = sending_touched (setup_in plan from.frame) from.seen u.requests.more c.others w e (length u.requests.own) first mem.last contents (u.sending mine)
@@ -465,11 +526,11 @@ module _ {W : Type 0} (plan : W → TaskPlan) (old new : PassView Entry (Frame W
   pub requests_cut : new ≡ old → Requests plan old new w
   requests_cut same = subst (λ (k : PassView Entry (Frame W)). Requests plan old k w) (sym same) (requests_none plan old w)
 
-  pub undecided_nothing : Called plan old new (λ b a. a ≡ b) → UndecidedRequests plan old new w
-  undecided_nothing k = record { requests = requests_by plan old new _ k w [] (ap (λ (x : ClusterView W). x.journal) k.does ∙ sym (append-nil k.before.journal)) refl; undecided = refl }
+  pub undecided_nothing : Called plan old new (λ b a. a ≡ b) → UndecidedRequests plan old new w false
+  undecided_nothing k = record { requests = requests_by plan old new _ k w [] (ap (λ (x : ClusterView W). x.journal) k.does ∙ sym (append-nil k.before.journal)) refl; undecided = refl; fence = refl }
 
-  pub undecided_cut : new ≡ old → UndecidedRequests plan old new w
-  undecided_cut same = subst (λ (k : PassView Entry (Frame W)). UndecidedRequests plan old k w) (sym same) (undecided_none plan old w)
+  pub undecided_cut : new ≡ old → UndecidedRequests plan old new w false
+  undecided_cut same = subst (λ (k : PassView Entry (Frame W)). UndecidedRequests plan old k w false) (sym same) (undecided_none plan old w)
 
 module _ {W A : Type 0} (plan : W → TaskPlan) (old new : PassView Entry (Frame W)) (w e g : ℕ) (mem next : Memory) (Ready : List WorkView → Contents → Type 0) (request : Request) (reply : A → Reply)
     (adds : adds_to w request ≡ true) (kind : is_of_commit w request ≡ true) (open_still : is_commit request ≡ false) (carried : carries w e g request ≡ true) (own : is_of w request ≡ true) (plain : (a : A) → is_refused (reply a) ≡ false)

@@ -1,10 +1,13 @@
 -- What a pass has seen and made in a commit, and what each of the commit's ends says.
 use Rattle.std.specs.Prelude.{◌≡◌, ◌≢◌, ◌⊎◌, ◌+◌, ◌≤◌, ◌&&◌, ◌||◌, ℕ, suc, Bool, true, false, not, Option, Some, None, Result, Ok, Err, List, [], ◌∷◌, ◌++◌, length}
 use Rattle.ks_record.specs.declared.record.PartId.{PartId}
+use Rattle.ks_record.specs.declared.assignment.Refused.{Refused}
+use Rattle.ks_record.specs.declared.assignment.Refused.TheVariants.{Fenced}
 use Rattle.ks_history.specs.declared.journal.Entry.{Entry}
 use Rattle.ks_history.specs.declared.journal.Request.{Request}
 use Rattle.ks_history.specs.declared.journal.Request.TheVariants.{Decide, MarkNext}
-use Rattle.ks_history.specs.declared.journal.Reply.TheVariants.{Mark as Marked}
+use Rattle.ks_history.specs.declared.journal.Reply.{Reply}
+use Rattle.ks_history.specs.declared.journal.Reply.TheVariants.{Mark as Marked, Refused as Refuse}
 use Rattle.ks_history.specs.Machine.{TaskPlan}
 use Rattle.ks_history.specs.State.{Setup}
 use Rattle.ks_history.specs.History.{at, IsHistory}
@@ -53,10 +56,24 @@ abbrev pub holds_commit : List Entry → Bool
 holds_commit [] = false
 holds_commit (x ∷ xs) = (not (is_refused x.reply) && is_commit x.request) || holds_commit xs
 
--- the same of a pass whose own requests hold no accepted commit
-pub record UndecidedRequests {W : Type 0} (plan : W → TaskPlan) (old new : PassView Entry (Frame W)) (w : ℕ) : Type 0 where
+-- one of these entries is a request that was refused by `Fenced`
+abbrev pub is_fence : Refused → Bool
+is_fence (Fenced epoch) = true
+is_fence _ = false
+
+abbrev pub fences : Reply → Bool
+fences (Refuse refused) = is_fence refused
+fences _ = false
+
+abbrev pub holds_fence : List Entry → Bool
+holds_fence [] = false
+holds_fence (x ∷ xs) = fences x.reply || holds_fence xs
+
+-- the same of a pass whose own requests hold no accepted commit, and whether one of them was refused by `Fenced`
+pub record UndecidedRequests {W : Type 0} (plan : W → TaskPlan) (old new : PassView Entry (Frame W)) (w : ℕ) (fenced : Bool) : Type 0 where
   pub requests : Requests plan old new w
   pub undecided : holds_commit requests.own ≡ false
+  pub fence : holds_fence requests.own ≡ fenced
 
 -- what a call's answer is to a commit
 abbrev pub halted : {A : Type 0} → Result (Result A Barred) TurnHalt → Result A Halt
@@ -92,3 +109,12 @@ WhyBarred setup journal more w e g made (Refusal r) =
     (IsFencing r × IsTurnedDown more w e g IsFencing)
     ⊎ (IsMarkersWaiting r × IsTurnedDown more w e g IsMarkersWaiting × ((at setup journal).producer w).waiting ≢ [])
 WhyBarred setup journal more w e g made (Touched last) = suc made ≤ accepted_of w more
+
+-- whether it was refused by `Fenced`
+abbrev pub by_fence : Barred → Bool
+by_fence (Refusal refused) = is_fence refused
+by_fence (Touched last) = false
+
+abbrev pub fence_in : {A : Type 0} → Result A Halt → Bool
+fence_in (Err (IsBarred b)) = by_fence b
+fence_in _ = false

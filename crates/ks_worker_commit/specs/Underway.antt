@@ -1,5 +1,5 @@
 -- A commit under way: what its loops carry, from the pass as it was when the commit began to the pass as it is now.
-use Rattle.std.specs.Prelude.{◌≡◌, ◌≢◌, ◌≤◌, ◌+◌, ◌&&◌, if◌then◌else◌, ℕ, true, false, Result, Ok, Err, Some, None, List, [], ◌∷◌, ◌++◌, length}
+use Rattle.std.specs.Prelude.{◌≡◌, ◌≢◌, ◌≤◌, ◌+◌, ◌&&◌, if◌then◌else◌, ℕ, suc, true, false, Result, Ok, Err, Some, None, List, [], ◌∷◌, ◌++◌, length}
 use Rattle.ks_record.specs.Records.{Record as Rec}
 use Rattle.ks_record.specs.declared.record.PartId.{PartId}
 use Rattle.ks_record.specs.declared.record.TaskId.{TaskId}
@@ -17,6 +17,7 @@ use Rattle.ks_history.specs.History.{at, IsHistory}
 use Rattle.ks_history.specs.Touched.{touched}
 use Rattle.ks_law_restore.specs.Views.{WorkView, IsFrozen, are_topics_once}
 use Rattle.ks_law_sharing.specs.Tasks.{IsActive, HasSeen}
+use Rattle.ks_law_commit.specs.Accounts.{accepted_of}
 use Rattle.ks_law_commit.specs.Building.{Contents}
 use Rattle.ks_law_commit.specs.Committing.{commit_entry, open_end}
 use Rattle.ks_law_commit.specs.Sending.{IsSending}
@@ -26,10 +27,10 @@ use Rattle.ks_growing.specs.Passes.{PassView}
 use Rattle.ks_shared.specs.declared.state.Frame.{Frame}
 use Rattle.ks_shared.specs.Calls.{setup_in}
 use Rattle.ks_shared.specs.declared.barred.Barred.{Barred}
-use Rattle.ks_shared.specs.declared.barred.Barred.TheVariants.{Refused as Refusal}
+use Rattle.ks_shared.specs.declared.barred.Barred.TheVariants.{Refused as Refusal, Touched}
 use Rattle.ks_worker_commit.specs.declared.halt.Halt.{Halt}
 use Rattle.ks_worker_commit.specs.declared.halt.Halt.TheVariants.{OutOfMemory, Cut, Barred as IsBarred}
-use Rattle.ks_worker_commit.specs.Outcomes.{Requests, holds_commit, WhyBarred}
+use Rattle.ks_worker_commit.specs.Outcomes.{Requests, holds_commit, holds_fence, by_fence, WhyBarred}
 
 -- the work of one of the worker's active tasks, since its last commit
 pub record IsActiveWork (setup : Setup) (journal : List Entry) (w g last : ℕ) (f : WorkView) : Type 0 where
@@ -87,6 +88,7 @@ pub record IsUnderway {W : Type 0} (plan : W → TaskPlan) (from now : PassView 
   pub worker : IsWorker plan from w e g first fs
   pub requests : Requests plan from now w
   pub undecided : holds_commit requests.own ≡ false
+  pub unfenced : holds_fence requests.own ≡ false
   pub history : IsHistory (setup_in plan from.frame) now.seen
   pub seen : HasSeen (setup_in plan from.frame) now.seen w g mem.last
   -- if nobody else has used the number up to now, nobody had when the commit began
@@ -99,6 +101,9 @@ pub record IsUnderway {W : Type 0} (plan : W → TaskPlan) (from now : PassView 
 pub record IsHalted {W : Type 0} (plan : W → TaskPlan) (from now : PassView Entry (Frame W)) (w e g first : ℕ) (mem : Memory) (b : Barred) : Type 0 where
   pub requests : Requests plan from now w
   pub undecided : holds_commit requests.own ≡ false
+  pub fence : holds_fence requests.own ≡ by_fence b
+  -- where somebody else uses the number up to a later moment, more of its requests are accepted than these
+  pub used : (more : List Entry) → touched w from.seen ≡ first → touched w (now.seen ++ more) ≢ mem.last → suc (accepted_of w requests.own) ≤ accepted_of w (requests.more ++ more)
   pub why : touched w from.seen ≡ first → WhyBarred (setup_in plan from.frame) from.seen requests.more w e g (length requests.own) b
   pub mid : PassView Entry (Frame W)
   pub fs : List WorkView
@@ -192,7 +197,14 @@ pub record HasNotAborted {W : Type 0} (plan : W → TaskPlan) (old new : PassVie
   pub seen : new.seen ≡ old.seen ++ (others ++ record { request = Decide w e false; reply = Refuse r } ∷ [])
   pub same : next ≡ mem
 
+-- the abort wasn't requested, since somebody else had used the number
+pub record WasNotAsked {W : Type 0} (old new : PassView Entry (Frame W)) (w : ℕ) (mem : Memory) : Type 0 where
+  pub made : new.made ≡ old.made
+  pub place : touched w new.seen ≢ mem.last
+
 abbrev pub Aborts : {W A : Type 0} → (W → TaskPlan) → PassView Entry (Frame W) → PassView Entry (Frame W) → ℕ → ℕ → Memory → Memory → Result A Halt → Type 0
 Aborts plan old new w e mem next (Ok a) = HasAborted plan old new w e mem next
 Aborts plan old new w e mem next (Err (IsBarred (Refusal r))) = HasNotAborted plan old new w e mem next r
-Aborts plan old new w e mem next (Err _) = Unit {0}
+Aborts plan old new w e mem next (Err (IsBarred (Touched place))) = WasNotAsked old new w mem
+Aborts plan old new w e mem next (Err OutOfMemory) = Unit {0}
+Aborts plan old new w e mem next (Err Cut) = Unit {0}

@@ -1,5 +1,5 @@
 //! A commit, from its first request to its end.
-ghost use Rattle.std.specs.Prelude.{◌≡◌, ◌≢◌, ◌≤◌, [], IfOk, OnOk};
+ghost use Rattle.std.specs.Prelude.{◌≡◌, ◌≢◌, ◌≤◌, false, [], IfOk, OnOk};
 ghost use Rattle.ks_history.specs.State.{pending_of};
 ghost use Rattle.ks_history.specs.History.{at};
 ghost use Rattle.ks_history.specs.Touched.{touched};
@@ -14,7 +14,7 @@ ghost use Rattle.ks_worker_commit.specs.Outcomes.{Requests, UndecidedRequests, w
 ghost use Rattle.ks_worker_commit.specs.Outputs.{contents_of};
 ghost use Rattle.ks_worker_commit.specs.Underway.{memory, IsWorker, AreActiveWorks};
 ghost use Rattle.ks_worker_commit.specs.Leaves.{LeavesTasks, LeavesProducer, LeavesNoMarker};
-ghost use Rattle.ks_worker_commit.specs.Ends.{EndsSo, HasCase, IsOutcomeOf, cut_of, NeverBarred, TurnsBackSo, AbortsSo, FinishesSo};
+ghost use Rattle.ks_worker_commit.specs.Ends.{EndsSo, HasCase, IsOutcomeOf, cut_of, fenced_in, NeverBarred, TurnsBackSo, AbortsSo, FinishesSo};
 
 use crate::halt::Halt;
 use crate::outcome::Outcome;
@@ -82,7 +82,7 @@ fn write_markers<R: Wait, W: Work, G: Gate>(
 ) -> Result<(), Halt>
     requires may { MayRequest shared.now.growing.id member.number session.old }
     ensures requests { UndecidedRequests W.plan session.old.client.pass session.new.client.pass
-        member.number }
+        member.number false }
     ensures none { OnOk result (((at (setup_in W.plan session.old.client.pass.frame)
         session.new.client.pass.seen).producer member.number).waiting ≡ []) }
     ensures done { NeverBarred result }
@@ -123,7 +123,7 @@ fn turn_back<R: Wait, W: Work, G: Gate>(
 ) -> Result<Outcome, AllocError>
     requires may { MayRequest shared.now.growing.id member.number session.old }
     ensures requests { UndecidedRequests W.plan session.old.client.pass session.new.client.pass
-        member.number }
+        member.number (fenced_in result) }
     ensures so { IfOk result (TurnsBackSo W.plan session.old.client.pass session.new.client.pass
         member.number member.epoch
         (memory session.old.last session.old.numbers.items session.old.ends.items)
@@ -147,7 +147,7 @@ fn abort<R: Wait, W: Work, G: Gate>(
 ) -> Result<Outcome, AllocError>
     requires may { MayRequest shared.now.growing.id member.number session.old }
     ensures requests { UndecidedRequests W.plan session.old.client.pass session.new.client.pass
-        member.number }
+        member.number (fenced_in result) }
     ensures so { IfOk result (AbortsSo W.plan session.old.client.pass session.new.client.pass
         member.number member.epoch
         (memory session.old.last session.old.numbers.items session.old.ends.items)
@@ -197,9 +197,10 @@ fn finish<R: Wait, W: Work, G: Gate>(
 ///
 /// Before each of these steps the gate is asked whether the worker is cut off. After a refusal that isn't the
 /// fence, the transaction is aborted and its markers are written as well, so that the next one can begin. What
-/// it came to says the journal: one of the five cases, unless the worker was cut off. After `Committed` and `Aborted` the session is right for a next commit, and its `ends`
-/// are those of the records that were sent (`ends_of_task`); after any other end it is to be given up with the
-/// worker's tasks. Want of memory is the one error, and ends the commit wherever it comes: the same holds then.
+/// it came to says the journal: one of the five cases, unless the worker was cut off; `Fenced` where one of its
+/// requests was refused so, and only there, `Touched` only where somebody else used its number. After
+/// `Committed` and `Aborted` the session is right for a next commit, and its `ends` are those of the records
+/// that were sent (`ends_of_task`); after any other end it is to be given up with the worker's tasks. Want of memory is the one error, and ends the commit wherever it comes: the same holds then.
 pub fn commit<R: Wait, W: Work, G: Gate>(
     rt: &R,
     alloc: Global,

@@ -5,10 +5,10 @@
 pub enum Outcome {
     /// The works are committed, and no marker of the worker waits.
     Committed,
-    /// A request was refused, though the worker isn't fenced; what it had sent is aborted, and no marker of the
+    /// A request was refused, though none by `Fenced`; what it had sent is aborted, and no marker of the
     /// worker waits. The works are to be dropped, with the tasks that made them.
     Aborted,
-    /// The worker is fenced: its producer's epoch is over, and with it all that the worker has.
+    /// A request was refused by `Fenced`: its producer's epoch is over, and with it all that the worker has.
     Fenced,
     /// Somebody else used the worker's number, so all that the worker has is over.
     Touched,

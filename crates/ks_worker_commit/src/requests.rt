@@ -9,7 +9,7 @@ ghost use Rattle.ks_law_restore.specs.Views.{pending_work};
 ghost use Rattle.ks_law_commit.specs.Building.{with_part, with_records, with_pending_offsets};
 ghost use Rattle.ks_commit.specs.Work.{work_view};
 ghost use Rattle.ks_worker_commit.specs.Premises.{MayRequest};
-ghost use Rattle.ks_worker_commit.specs.Outcomes.{Requests, UndecidedRequests, with_cuts, cuts_in, halted, written, WroteMarker};
+ghost use Rattle.ks_worker_commit.specs.Outcomes.{Requests, UndecidedRequests, with_cuts, cuts_in, fence_in, halted, written, WroteMarker};
 ghost use Rattle.ks_worker_commit.specs.Ends.{NeverBarred};
 ghost use Rattle.ks_worker_commit.specs.Underway.{memory, with_end, Carries, Decides, Aborts, always, has_added, has_work};
 
@@ -211,7 +211,7 @@ pub fn decide_abort<R: Wait, W: Work, G: Gate>(
 ) -> Result<(), Halt>
     requires may { MayRequest shared.now.growing.id member.number session.old }
     ensures requests { UndecidedRequests W.plan session.old.client.pass session.new.client.pass
-        member.number }
+        member.number (fence_in result) }
     ensures aborts { Aborts W.plan session.old.client.pass session.new.client.pass member.number
         member.epoch
         (memory session.old.last session.old.numbers.items session.old.ends.items)
@@ -232,7 +232,7 @@ pub fn write_marker<R: Wait, W: Work, G: Gate>(
 ) -> Result<bool, Halt>
     requires may { MayRequest shared.now.growing.id member.number session.old }
     ensures requests { UndecidedRequests W.plan session.old.client.pass session.new.client.pass
-        member.number }
+        member.number false }
     ensures same { memory session.new.last session.new.numbers.items session.new.ends.items
         ≡ memory session.old.last session.old.numbers.items session.old.ends.items }
     ensures done { NeverBarred result }

@@ -1,4 +1,4 @@
-use Rattle.std.proofs.Common.{Ok, ap, ◌∙◌}
+use Rattle.std.proofs.Common.{Ok, ap, ◌∙◌, refl}
 use Rattle.ks_commit.specs.Committed.{works_of}
 use Rattle.ks_worker_commit.specs.Underway.{memory}
 use Rattle.ks_worker_commit.proofs.Requesting.{requests_both}
@@ -27,7 +27,7 @@ pub returns-in-Aborted-clause-requests : goal.returns-in-Aborted-clause-requests
 returns-in-Aborted-clause-requests g c = requests_both g.W.Work.plan _ _ _ _ c.send_and_decide.ensures.requests c.abort.ensures.requests.requests
 
 pub returns-in-Aborted-clause-cases : goal.returns-in-Aborted-clause-cases
-returns-in-Aborted-clause-cases g c = aborted_ok_cases g.W.Work.plan _ _ _ c.args.member c.args.session.now.last (memory c.send_and_decide.new.session.last c.send_and_decide.new.session.numbers.items c.send_and_decide.new.session.ends.items) (memory c.abort.new.session.last c.abort.new.session.numbers.items c.abort.new.session.ends.items) (works_of c.args.works.now) c.send_and_decide.result c.in-Err.halt c.in-Err.is c.send_and_decide.ensures.ends c.send_and_decide.ensures.requests c.abort.ensures.requests c.requires.may.history c.outcome_of.result c.outcome_of.ensures (c.in-Ok-outcome_of.is ∙ ap Ok c.in-Aborted.is) c.abort.result c.abort.ensures.so
+returns-in-Aborted-clause-cases g c = aborted_ok_cases g.W.Work.plan _ _ _ c.args.member c.args.session.now.last (memory c.send_and_decide.new.session.last c.send_and_decide.new.session.numbers.items c.send_and_decide.new.session.ends.items) (memory c.abort.new.session.last c.abort.new.session.numbers.items c.abort.new.session.ends.items) (works_of c.args.works.now) c.send_and_decide.result c.in-Err.halt c.in-Err.is c.send_and_decide.ensures.ends c.send_and_decide.ensures.requests c.abort.ensures.requests c.requires.may.history c.outcome_of.result c.outcome_of.ensures (c.in-Ok-outcome_of.is ∙ ap Ok c.in-Aborted.is) c.abort.result c.abort.ensures.so refl
 
 pub returns-in-Aborted-clause-producer : goal.returns-in-Aborted-clause-producer
 returns-in-Aborted-clause-producer g c = aborted_ok_producer g.W.Work.plan _ _ _ c.args.member c.args.session.now.last (memory c.send_and_decide.new.session.last c.send_and_decide.new.session.numbers.items c.send_and_decide.new.session.ends.items) (memory c.abort.new.session.last c.abort.new.session.numbers.items c.abort.new.session.ends.items) (works_of c.args.works.now) c.send_and_decide.result c.in-Err.halt c.in-Err.is c.send_and_decide.ensures.ends c.send_and_decide.ensures.requests c.abort.ensures.requests c.requires.may.history c.outcome_of.result c.outcome_of.ensures (c.in-Ok-outcome_of.is ∙ ap Ok c.in-Aborted.is) c.abort.result c.abort.ensures.so
