@@ -2,7 +2,7 @@
 use Rattle.std.proofs.Common.{◌≡◌, ◌⊎◌, inl, inr, ℕ, zero, suc, ◌+◌, ◌<◌, ◌≤◌, ◌||◌, Bool, true, false, cond, add-one, List, [], ◌∷◌, ◌++◌, length, take, get_or, map, refl, sym, ap, ap₂, subst, ◌∙◌, arith}
 use Rattle.std.specs.Prelude.{◌==◌, nat_lt}
 use Rattle.std.proofs.Math.Seq.{take-suc}
-use Rattle.std.proofs.lemmas.Bool.{true≢false, eq-eqb, eqb-true, ltb-false}
+use Rattle.std.proofs.lemmas.Bool.{true≢false, eq-eqb, eqb-true, ltb-true, ltb-false}
 use Rattle.ks_record.specs.Records.{Record as Rec}
 use Rattle.ks_record.specs.declared.record.TaskId.{TaskId}
 use Rattle.ks_history.specs.declared.journal.Entry.{Entry}
@@ -26,7 +26,7 @@ use Rattle.ks_worker_client.specs.Calls.{Later, state_seen}
 use Rattle.ks_worker_client.proofs.Moments.{same_frame}
 use Rattle.ks_standby.specs.declared.replica.Replica.{Replica}
 use Rattle.ks_standby.specs.Replicas.{replica_view, changelogs_of}
-use Rattle.ks_worker_state.specs.Standbys.{IsStandby, IsFedStandby, HasReadStable}
+use Rattle.ks_worker_state.specs.Standbys.{IsStandby, IsFedStandby, HasMoved, HasReadStable}
 
 module _ (setup : Setup) where
   -- it may be fed where it stands
@@ -174,6 +174,31 @@ some_topic u (x ∷ xs) ys h = by (u == x) h (some_topic u xs ys)
     by true g more = inl refl
     by false g more = more g
 
+-- ---- what moves it
+-- it goes on where the fetch does
+placed : (old fed : ReplicaView) (topic next : ℕ) (recs : List (ℕ × Rec)) → fed ≡ fed_replica old topic recs next → fed.position topic ≡ next
+placed old fed topic next recs view = ap (λ (v : ReplicaView). v.position topic) view ∙ ap (λ b. cond b next (old.position topic)) (eq-eqb topic topic refl)
+
+pub moves_by : (old fed : ReplicaView) (topic from next : ℕ) (recs : List (ℕ × Rec)) → from ≡ old.position topic → fed ≡ fed_replica old topic recs next → nat_lt from next ≡ true → old.position topic < fed.position topic
+moves_by old fed topic from next recs at_it view moves = omega (arith, at_it, placed old fed topic next recs view, ltb-true from next moves)
+
+last_topic : (u : ℕ) (xs : List ℕ) → has_topic u (xs ++ u ∷ []) ≡ true
+last_topic u [] = ap (λ b. b || false) (eq-eqb u u refl)
+last_topic u (x ∷ xs) = by (u == x) (last_topic u xs)
+  where
+    by : (b : Bool) → has_topic u (xs ++ u ∷ []) ≡ true → b || has_topic u (xs ++ u ∷ []) ≡ true
+    by true more = refl
+    by false more = more
+
+-- one of the changelogs so far moved it, or the next one does
+pub moves_more : (a b c : ReplicaView) (xs : List ℕ) (topic : ℕ) (moved moves : Bool) → moved || moves ≡ true → (moved ≡ true → HasMoved xs a b) → (moves ≡ true → b.position topic < c.position topic) →
+    ((u : ℕ) → a.position u ≤ b.position u) → ((u : ℕ) → b.position u ≤ c.position u) → HasMoved (xs ++ topic ∷ []) a c
+moves_more a b c xs topic true moves either before now early late =
+    let m : HasMoved xs a b = before refl in
+    record { topic = m.topic; own = front_topic m.topic xs (topic ∷ []) m.own; rose = omega (arith, m.rose, late m.topic) }
+moves_more a b c xs topic false moves either before now early late =
+    record { topic = topic; own = last_topic topic xs; rose = omega (arith, early topic, now either) }
+
 module _ (setup : Setup) (h : List Entry) where
   -- a fetch that doesn't move it leaves nothing stable
   still : (stable old new next : ℕ) → IsMoved stable old new → new ≡ next → next ≤ old → stable ≤ new
@@ -185,13 +210,10 @@ module _ (setup : Setup) (h : List Entry) where
   stops_by old fed topic from next recs f at_it view stays u there =
       subst (λ n. stable_of (at setup h) (part_of n (replica_view fed).task) ≤ (replica_view fed).position n) (sym (only_one u topic there)) here
     where
-      placed : (replica_view fed).position topic ≡ next
-      placed = ap (λ (v : ReplicaView). v.position topic) view ∙ ap (λ b. cond b next ((replica_view old).position topic)) (eq-eqb topic topic refl)
-
       here : stable_of (at setup h) (part_of topic (replica_view fed).task) ≤ (replica_view fed).position topic
       here = subst (λ (t : TaskId). stable_of (at setup h) (part_of topic t) ≤ (replica_view fed).position topic) (sym f.task)
           (still (stable_of (at setup h) (part_of topic (replica_view old).task)) ((replica_view old).position topic) ((replica_view fed).position topic) next
-          (f.moved topic (ap (λ b. b || false) (eq-eqb topic topic refl))) placed (omega (arith, at_it, ltb-false from next stays)))
+          (f.moved topic (ap (λ b. b || false) (eq-eqb topic topic refl))) (placed (replica_view old) (replica_view fed) topic next recs view) (omega (arith, at_it, ltb-false from next stays)))
 
 module _ {W : Type 0} (plan : W → TaskPlan) (old mid : PassView Entry (Frame W)) (l : Later plan old mid) (net : IsNetwork (setup_in plan old.frame).plan) where
   pub read_since : (topics : List ℕ) (r : ReplicaView) → HasReadStable (setup_in plan mid.frame) mid.seen topics r → HasReadStable (setup_in plan old.frame) old.seen topics r

@@ -1,5 +1,5 @@
 -- A worker's replicas (KIP-441: standby replicas).
-use Rattle.std.specs.Prelude.{◌≡◌, ◌≤◌, ℕ, true, List}
+use Rattle.std.specs.Prelude.{◌≡◌, ◌≤◌, ◌<◌, ℕ, true, List}
 use Rattle.ks_history.specs.declared.journal.Entry.{Entry}
 use Rattle.ks_history.specs.Machine.{part_of, has_topic}
 use Rattle.ks_history.specs.State.{Setup, has_task}
@@ -21,6 +21,12 @@ pub record IsFedStandby (setup : Setup) (h now : List Entry) (topics : List ℕ)
   pub standby : IsStandby setup now new
   pub changelogs : changelogs_of new ≡ changelogs_of old
   pub fed : IsFed setup h topics (replica_view old) (replica_view new)
+
+-- its position in one of these changelogs rose
+pub record HasMoved (topics : List ℕ) (old new : ReplicaView) : Type 0 where
+  pub topic : ℕ
+  pub own : has_topic topic topics ≡ true
+  pub rose : old.position topic < new.position topic
 
 -- nothing stable in the journal `h` is left of these changelogs
 abbrev pub HasReadStable : Setup → List Entry → List ℕ → ReplicaView → Type 0

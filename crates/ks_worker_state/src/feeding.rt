@@ -1,12 +1,12 @@
 //! A worker's replicas are fed. This writes no entry.
-ghost use Rattle.std.specs.Prelude.{◌≡◌, ◌≤◌, ◌⊎◌, ◌∷◌, ◌||◌, [], true, false, map, OnOk, IfOk};
+ghost use Rattle.std.specs.Prelude.{◌≡◌, ◌≤◌, ◌<◌, ◌⊎◌, ◌∷◌, ◌||◌, [], true, false, map, OnOk, IfOk};
 ghost use Rattle.ks_history.specs.Machine.{has_topic, part_of};
 ghost use Rattle.ks_history.specs.Reads.{ends_of};
 ghost use Rattle.ks_standby.specs.Replicas.{replica_view, changelogs_of};
 ghost use Rattle.ks_shared.specs.Calls.{setup_in};
 ghost use Rattle.ks_worker_client.specs.Turns.{counts_after};
 ghost use Rattle.ks_worker_client.specs.Calls.{MayCall, Later, state_seen};
-ghost use Rattle.ks_worker_state.specs.Standbys.{IsStandby, IsFedStandby, HasReadStable};
+ghost use Rattle.ks_worker_state.specs.Standbys.{IsStandby, IsFedStandby, HasMoved, HasReadStable};
 
 use ks_cluster::Work;
 use ks_edge::Gate;
@@ -36,6 +36,8 @@ pub fn feed_from<R: Wait, W: Work, G: Gate>(
     ensures made { client.new.pass.made ≡ client.old.pass.made }
     ensures fed { OnOk result (IsFedStandby (setup_in W.plan client.old.pass.frame)
         client.old.pass.seen client.new.pass.seen (topic ∷ []) replica.old replica.new) }
+    ensures moves { IfOk result (λ moved. moved ≡ true → (replica_view replica.old).position topic
+        < (replica_view replica.new).position topic) }
     ensures stops { IfOk result (λ moved. moved ≡ false
         → HasReadStable (setup_in W.plan client.old.pass.frame) client.old.pass.seen (topic ∷ [])
         (replica_view replica.new)) }
@@ -75,6 +77,8 @@ pub fn feed_once<R: Wait, W: Work, G: Gate>(
     ensures made { client.new.pass.made ≡ client.old.pass.made }
     ensures fed { OnOk result (IsFedStandby (setup_in W.plan client.old.pass.frame)
         client.old.pass.seen client.new.pass.seen changelogs.now replica.old replica.new) }
+    ensures moves { IfOk result (λ moved. moved ≡ true
+        → HasMoved changelogs.now (replica_view replica.old) (replica_view replica.new)) }
     ensures stops { IfOk result (λ moved. moved ≡ false
         → HasReadStable (setup_in W.plan client.old.pass.frame) client.old.pass.seen changelogs.now
         (replica_view replica.new)) }

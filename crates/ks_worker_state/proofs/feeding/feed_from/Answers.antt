@@ -1,8 +1,9 @@
 use Rattle.std.proofs.Common.{sym, ap, ◌∙◌}
 use Rattle.ks_record.specs.declared.record.TaskId.{TaskId}
 use Rattle.ks_shared.specs.Calls.{setup_in}
+use Rattle.ks_standby.specs.Replicas.{replica_view}
 use Rattle.ks_worker_client.proofs.Halting.{was_ok}
-use Rattle.ks_worker_state.proofs.Fed.{may_feed, fed_by, stops_by}
+use Rattle.ks_worker_state.proofs.Fed.{may_feed, fed_by, moves_by, stops_by}
 use Rattle.ks_worker_state.proofs.feeding.feed_from.Goals as goal
 
 pub fetch-requires-clause-fetch : goal.fetch-requires-clause-fetch
@@ -16,6 +17,11 @@ returns-clause-fed g c =
     c.requires.may.network c.requires.standby c.requires.topic (ap (λ (t : TaskId). t.part) c.id.ensures) c.position-from.ensures c.in_ok-recs.ensures.records c.in_ok-recs.ensures.next
     (was_ok c.feed.result _ _ (sym c.or_halt.ensures ∙ c.in_ok-or_halt.was) c.feed.ensures.view)
     (was_ok c.feed.result _ _ (sym c.or_halt.ensures ∙ c.in_ok-or_halt.was) c.feed.ensures.changelogs)
+
+pub returns-clause-moves : goal.returns-clause-moves
+returns-clause-moves g c = λ e.
+    moves_by (replica_view c.args.replica.now) (replica_view c.feed.new.self) c.args.topic c.position-from.result c.in_ok-recs.next c.in_ok-recs.recs.items c.position-from.ensures
+    (was_ok c.feed.result _ _ (sym c.or_halt.ensures ∙ c.in_ok-or_halt.was) c.feed.ensures.view) e
 
 pub returns-clause-stops : goal.returns-clause-stops
 returns-clause-stops g c = λ e.

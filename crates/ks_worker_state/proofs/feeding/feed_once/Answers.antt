@@ -4,8 +4,8 @@ use Rattle.ks_shared.specs.Calls.{setup_in}
 use Rattle.ks_worker_client.proofs.Halting.{same_counts}
 use Rattle.ks_worker_client.proofs.Moments.{may_later, later_twice, not_later}
 use Rattle.ks_standby.specs.Replicas.{replica_view}
-use Rattle.ks_worker_state.specs.Standbys.{IsFedStandby, HasReadStable}
-use Rattle.ks_worker_state.proofs.Fed.{own_topic, standby_at, not_fed, fed_more, one_more_topic, read_more}
+use Rattle.ks_worker_state.specs.Standbys.{IsFedStandby, HasMoved, HasReadStable}
+use Rattle.ks_worker_state.proofs.Fed.{own_topic, standby_at, not_fed, fed_more, one_more_topic, moves_more, read_more}
 use Rattle.ks_worker_state.proofs.feeding.feed_once.Goals as goal
 
 pub feed_from-requires-clause-may : goal.feed_from-requires-clause-may
@@ -23,6 +23,7 @@ loop-i-init g c = record {
   made = refl;
   gate = refl;
   fed = not_fed g.W.Work.plan _ _ c.args.client.now.pass (not_later g.W.Work.plan c.args.client.now.pass c.requires.may.history) c.args.replica.now c.requires.may.network c.requires.standby;
+  moves = λ e. absurd cc;
   stops = λ e u none. absurd cc;
 }
 
@@ -34,11 +35,19 @@ loop-i-preserved g c = record {
   fed = subst (λ l. IsFedStandby (setup_in g.W.Work.plan c.args.client.now.pass.frame) c.args.client.now.pass.seen c.feed_from.new.client.pass.seen l c.args.replica.now c.feed_from.new.replica)
       (one_more_topic c.args.changelogs.now c.loop-i.i c.loop-i-test.true)
       (fed_more g.W.Work.plan _ _ _ c.loop-i.invariant.later c.feed_from.ensures.later c.requires.may.network _ _ _ _ _ c.loop-i.invariant.fed c.in_ok-moves.ensures.fed);
+  moves = λ e. subst (λ l. HasMoved l (replica_view c.args.replica.now) (replica_view c.feed_from.new.replica)) (one_more_topic c.args.changelogs.now c.loop-i.i c.loop-i-test.true)
+      (moves_more (replica_view c.args.replica.now) (replica_view c.loop-i.replica) (replica_view c.feed_from.new.replica) _ _ c.loop-i.moved c.in_ok-moves.moves (sym c.is_either-moved.ensures ∙ e)
+      c.loop-i.invariant.moves c.in_ok-moves.ensures.moves c.loop-i.invariant.fed.fed.later c.in_ok-moves.ensures.fed.fed.later);
   stops = λ e. subst (λ l. HasReadStable (setup_in g.W.Work.plan c.args.client.now.pass.frame) c.args.client.now.pass.seen l (replica_view c.feed_from.new.replica))
       (one_more_topic c.args.changelogs.now c.loop-i.i c.loop-i-test.true)
       (read_more g.W.Work.plan c.args.client.now.pass c.loop-i.client.pass c.loop-i.invariant.later c.requires.may.network c.loop-i.replica c.feed_from.new.replica _ _ c.loop-i.moved c.in_ok-moves.moves (sym c.is_either-moved.ensures ∙ e)
       c.loop-i.invariant.stops c.in_ok-moves.ensures.fed.fed c.in_ok-moves.ensures.stops);
 }
+
+pub returns-clause-moves : goal.returns-clause-moves
+returns-clause-moves g c = λ e.
+    subst (λ l. HasMoved l (replica_view c.args.replica.now) (replica_view c.loop-i.replica)) (take_all c.loop-i.i c.args.changelogs.now c.loop-i-test.false)
+    (c.loop-i.invariant.moves e)
 
 pub returns-clause-stops : goal.returns-clause-stops
 returns-clause-stops g c = λ e.
