@@ -39,7 +39,7 @@ use Rattle.ks_task.specs.declared.task.Task.{Task}
 use Rattle.ks_worker_client.specs.declared.member.Member.{Member}
 use Rattle.ks_worker_client.specs.Members.{MemberHasSeen}
 use Rattle.ks_worker_state.specs.Tasks.{IsHeldTask}
-use Rattle.ks_worker_state.specs.Restoring.{reached_in, IsMadeAtTheEnds, IsShortOfTheEnds, IsRefused, IsGivenBack}
+use Rattle.ks_worker_state.specs.Restoring.{reached_in, IsMadeAtTheEnds, IsRestoredAtTheEnds, IsShortOfTheEnds, IsRefused, IsGivenBack}
 
 -- ---- the partitions of a task's changelogs
 pub parts_are : (setup : Setup) (t : TaskId) (topics : List ℕ) → IsSetup setup → has_task t setup.tasks ≡ true → ((n : ℕ) → has_topic n topics ≡ true → has_topic n (setup.plan.changelogs t.sub) ≡ true) → All (IsPart setup) (map (λ n. part_of n t) topics)
@@ -108,7 +108,25 @@ module _ {W : Type 0} (plan : W → TaskPlan) (old asked new : PassView Entry (F
     cache = cached;
   }
 
+  -- the group answered the offsets that it was made of
+  pub made_restored : (d : DraftView) (w generation : ℕ) (t u : TaskId) (offsets : List (ℕ × ℕ)) (made : Task) → u ≡ t →
+      committed_refusal (state_seen plan asked) w generation u ≡ None → offsets ≡ committed_offsets (setup_in plan old.frame) (state_seen plan asked) u →
+      IsMadeAtTheEnds plan d asked new t offsets made → IsRestoredAtTheEnds plan d old new w generation t made
+  made_restored d w generation t u offsets made named free listing k = record {
+    asked = asked;
+    asked_since = one;
+    answered = subst (λ v. committed_refusal (state_seen plan asked) w generation v ≡ None) named free;
+    offsets = offsets;
+    offsets_are = listing ∙ ap (committed_offsets (setup_in plan old.frame) (state_seen plan asked)) named;
+    ends = k;
+  }
+
 -- of an answer within an answer
+pub both_ok : {A B E : Type 0} (r : Result (Result A B) E) (P Q : A → Type 0) → ((x : A) → P x → Q x) → IfOk r (λ x. IfOk x P) → IfOk r (λ x. IfOk x Q)
+both_ok (Ok (Ok x)) P Q f h = f x h
+both_ok (Ok (Err y)) P Q f h = tt
+both_ok (Err z) P Q f h = tt
+
 pub both_ok_with : {A B E : Type 0} (r : Result (Result A B) E) (P Q R : A → Type 0) → ((x : A) → P x → Q x → R x) → IfOk r (λ x. IfOk x P) → IfOk r (λ x. IfOk x Q) → IfOk r (λ x. IfOk x R)
 both_ok_with (Ok (Ok x)) P Q R f h i = f x h i
 both_ok_with (Ok (Err y)) P Q R f h i = tt

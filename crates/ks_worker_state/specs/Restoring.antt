@@ -5,7 +5,7 @@ use Rattle.ks_plan.specs.Drafts.{DraftView}
 use Rattle.ks_history.specs.declared.journal.Entry.{Entry}
 use Rattle.ks_history.specs.Machine.{TaskPlan, part_of}
 use Rattle.ks_history.specs.State.{offset_in}
-use Rattle.ks_history.specs.Reads.{committed_refusal, ends_of}
+use Rattle.ks_history.specs.Reads.{committed_refusal, committed_offsets, ends_of}
 use Rattle.ks_law_restore.specs.Replicas.{restored_view}
 use Rattle.ks_growing.specs.Passes.{PassView}
 use Rattle.ks_shared.specs.declared.state.Frame.{Frame}
@@ -36,6 +36,16 @@ pub record IsMadeAtTheEnds {W : Type 0} (plan : W → TaskPlan) (d : DraftView) 
   pub before : Later plan told new
   pub reached : let topics = (setup_in plan old.frame).plan.changelogs t.sub in
       reached_in (replica_view replica).position topics (ends_of (state_seen plan told) (map (λ topic. part_of topic t) topics)) ≡ true
+
+-- the group answered worker `w` in this generation the task's committed offsets, at a moment since `old`; then the ends were told, and the
+-- task was made at these
+pub record IsRestoredAtTheEnds {W : Type 0} (plan : W → TaskPlan) (d : DraftView) (old new : PassView Entry (Frame W)) (w generation : ℕ) (t : TaskId) (made : Task) : Type 0 where
+  pub asked : PassView Entry (Frame W)
+  pub asked_since : Later plan old asked
+  pub answered : committed_refusal (state_seen plan asked) w generation t ≡ None
+  pub offsets : List (ℕ × ℕ)
+  pub offsets_are : offsets ≡ committed_offsets (setup_in plan old.frame) (state_seen plan asked) t
+  pub ends : IsMadeAtTheEnds plan d asked new t offsets made
 
 -- a replica was given back short of the ends: they were told at a moment since `old`, it has read all that was stable then, and an end
 -- stands past it

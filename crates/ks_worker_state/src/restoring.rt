@@ -18,7 +18,7 @@ ghost use Rattle.ks_worker_state.specs.Standbys.{IsStandby};
 ghost use Rattle.ks_worker_client.specs.Members.{MemberHasSeen};
 ghost use Rattle.ks_worker_state.specs.Tasks.{IsHeldTask};
 ghost use Rattle.ks_worker_state.specs.Topology.{RunsTopology};
-ghost use Rattle.ks_worker_state.specs.Restoring.{reached_in, IsMadeAtTheEnds, IsShortOfTheEnds, IsGivenBack};
+ghost use Rattle.ks_worker_state.specs.Restoring.{reached_in, IsMadeAtTheEnds, IsRestoredAtTheEnds, IsShortOfTheEnds, IsGivenBack};
 
 use crate::feeding::feed_to_ends;
 use crate::topics::changelogs_in;
@@ -190,6 +190,9 @@ pub fn restore<H: Hash128, R: Wait, W: Work, G: Gate>(
     ensures task { IfOk result (λ r. IfOk r (λ t. IsHeldTask (draft_of topology.now)
         (setup_in W.plan session.old.client.pass.frame) session.new.client.pass.seen member
         session.old.last t)) }
+    ensures ends { IfOk result (λ r. IfOk r (IsRestoredAtTheEnds W.plan (draft_of topology.now)
+        session.old.client.pass session.new.client.pass member.number member.generation
+        replica.id)) }
     ensures named { IfOk result (λ r. IfOk r (λ t. (task_view t).task ≡ replica.id)) }
     ensures standby { IfOk result (λ r. IfErr r (λ b. IsStandby
         (setup_in W.plan session.old.client.pass.frame) session.new.client.pass.seen b)) }

@@ -10,7 +10,7 @@ use Rattle.ks_task.proofs.Restoring.{listed_topics}
 use Rattle.ks_worker_client.specs.Calls.{state_seen}
 use Rattle.ks_worker_client.proofs.Moments.{later_twice}
 use Rattle.ks_worker_state.proofs.Fed.{standby_later, standby_at}
-use Rattle.ks_worker_state.proofs.Restored.{both_ok_with, both_err, made_held, ok_said, free_said, refused_said, short_since, is_refused}
+use Rattle.ks_worker_state.proofs.Restored.{both_ok, both_ok_with, both_err, made_held, made_restored, ok_said, free_said, refused_said, short_since, is_refused}
 use Rattle.ks_worker_state.proofs.restoring.restore.Goals as goal
 
 pub committed-requires-clause-task : goal.committed-requires-clause-task
@@ -43,6 +43,14 @@ returns-clause-task g c =
     (c.as_slice.ensures.value ∙ ok_said _ _ _ c.in-Ok.is c.in_ok-answer.ensures.offsets
     ∙ ap (λ u. committed_offsets (setup_in g.W.Work.plan c.args.session.now.client.pass.frame) (state_seen g.W.Work.plan c.committed.new.self.pass) u) c.id-task.ensures) k same)
     c.restore_with.ensures.task c.restore_with.ensures.cache
+
+pub returns-clause-ends : goal.returns-clause-ends
+returns-clause-ends g c =
+    both_ok c.restore_with.result _ _
+    (λ made k. made_restored g.W.Work.plan c.args.session.now.client.pass c.committed.new.self.pass c.restore_with.new.client.pass c.committed.ensures.later (draft_of c.args.topology.now) c.args.member.number c.args.member.generation
+    c.args.replica.id c.id-task.result c.as_slice.result.now made c.id-task.ensures (free_said _ _ _ c.in-Ok.is c.in_ok-answer.ensures.refused)
+    (c.as_slice.ensures.value ∙ ok_said _ _ _ c.in-Ok.is c.in_ok-answer.ensures.offsets) k)
+    c.restore_with.ensures.task
 
 pub returns-in_default-clause-back : goal.returns-in_default-clause-back
 returns-in_default-clause-back g c =
