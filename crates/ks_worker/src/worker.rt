@@ -1,7 +1,7 @@
 //! A worker.
 ghost use Rattle.std.specs.Prelude.{◌≡◌, ◌≤◌, IfOk, OnOk};
 ghost use Rattle.ks_worker.specs.Beginning.{IsNew};
-ghost use Rattle.ks_worker.specs.Left.{LeavesStandbys};
+ghost use Rattle.ks_worker.specs.Left.{LeavesStandbys, PutsBehind};
 
 use ks_assign::Placing;
 use ks_cluster::Work;
@@ -83,9 +83,10 @@ impl<W: Work, G: Gate> Worker<W, G> {
         }
     }
 
-    /// Its pass; its replicas, and those that its clean tasks leave, are put behind others; all else is let go.
+    /// Its pass; its replicas, and then those that its clean tasks leave, are put behind others; all else is let go.
     pub fn into_pass(self, replicas: &mut Vec<Replica>) -> Result<Pass<SharedState<W>>, AllocError>
         ensures pass { IfOk result (λ p. p ≡ self.state.session.client.pass) }
+        ensures behind { OnOk result (PutsBehind self.state replicas.old.items replicas.new.items) }
         ensures replicas { OnOk result (LeavesStandbys W.plan self.state replicas.old.items
             replicas.new.items) }
     {
