@@ -108,11 +108,7 @@ begun_as plan threads tasks s gate new waiting same h =
     subst (λ (k : GateCounts). HasBegun plan threads tasks (record s { session = record s.session { client = record s.session.client { gate = k } } }) new waiting) same h
 
 pub begun_with : {A E : Type 0} (r : Result A E) (x : A) (P : A → Type 0) → r ≡ Ok x → IfOk r P → P x
-begun_with (Ok y) x P is h = subst P (same y x is) h
-  where
-    same : {A E : Type 0} (a b : A) → Ok {A} {E} a ≡ Ok b → a ≡ b
-    same a b e = cc
-begun_with (Err e) x P is h = absurd cc
+begun_with r x P is h = subst (λ q. IfOk q P) is h
 
 -- ---- a worker goes on
 -- its placing serves on
