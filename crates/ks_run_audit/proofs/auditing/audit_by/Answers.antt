@@ -1,4 +1,4 @@
-use Rattle.std.proofs.Common.{◌≡◌, refl, sym, ap, subst, ◌∙◌}
+use Rattle.std.proofs.Common.{◌≡◌, refl, sym, ap, subst, ◌∙◌, rules}
 use Rattle.ks_topo.specs.Topologies.{draft_of}
 use Rattle.ks_def_tasks.specs.Rules.{rules_of}
 use Rattle.ks_run_audit.proofs.Sources.{none_begun, none_faulty}

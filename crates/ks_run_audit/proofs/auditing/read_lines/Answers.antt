@@ -1,4 +1,4 @@
-use Rattle.std.proofs.Common.{◌≡◌, refl, sym, ap, subst, ◌∙◌, arith}
+use Rattle.std.proofs.Common.{◌≡◌, refl, sym, ap, subst, ◌∙◌, arith, rules}
 use Rattle.ks_topo.specs.Topologies.{draft_of}
 use Rattle.ks_audit_source.specs.Opened.{IsReady}
 use Rattle.ks_run_audit.specs.Feeding.{HasLost, Loses, LosesFault, draft_in}

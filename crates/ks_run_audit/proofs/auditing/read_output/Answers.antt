@@ -1,4 +1,4 @@
-use Rattle.std.proofs.Common.{◌≡◌, ◌+◌, length, refl, sym, ap, subst, ◌∙◌, arith}
+use Rattle.std.proofs.Common.{◌≡◌, ◌+◌, length, refl, sym, ap, subst, ◌∙◌, arith, rules}
 use Rattle.ks_topo.specs.Topologies.{draft_of}
 use Rattle.ks_def_tasks.specs.Rules.{rules_of}
 use Rattle.ks_audit_verdict.specs.Texts.{no_text}
