@@ -1,5 +1,5 @@
-"""What tests/plant and tests/wrong-bodies/run keep as data, and the page that is made of it, docs/planted.md. It has no command of its
-own: `tests/plant --page` makes the page.
+"""What tests/plant, tests/wrong-bodies/run and tests/wrong-programs/run keep as data, and the page that is made of it, docs/planted.md. It
+has no command of its own: `tests/plant --page` makes the page.
 
 planted.jsonl has a line for each crate that was planted whole, and for each part of one that was planted since: crate, only (the part, "":
 the whole), refused, not_judged, not_tried (null: not counted), let_through, commit (with +: of a tree with changes; `told`: the one that
@@ -16,13 +16,15 @@ import tree
 
 PLANTED = tree.ROOT / "tests/planted.jsonl"
 TRIED = tree.ROOT / "tests/wrong-bodies/results.jsonl"
+SEEN = tree.ROOT / "tests/wrong-programs/results.jsonl"
 PAGE = tree.ROOT / "docs/planted.md"
 WIDTH = 132
 LET_THROUGH = re.compile(r"proves +(src/\S+):\d+ (.+?): \{ (.*?) ?\}(?:  \(and in (\d+) more impls\))?$")
 COUNTS = re.compile(r"plants crate=\w+ .*untested=(\d+) .* refused=(\d+) .* not-judged=(\d+) .* not-run=(\d+)$")
 
-HEAD = """**This page is made, by `tests/plant` and `tests/wrong-bodies/run`, of what they keep in `tests/planted.jsonl` and
-`tests/wrong-bodies/results.jsonl`. Change those (notes in them are by hand), and then run `tests/plant --page`.**"""
+HEAD = """**This page is made, by `tests/plant`, `tests/wrong-bodies/run` and `tests/wrong-programs/run`, of what they keep in
+`tests/planted.jsonl`, `tests/wrong-bodies/results.jsonl` and `tests/wrong-programs/results.jsonl`. Change those (notes in them are by
+hand), and then run `tests/plant --page`.**"""
 PLANTED_HEAD = """`rt plant` puts wrong bodies under the contracts of a crate's public functions: bodies that give up, and the real call with
 an argument, its result or its state changed. `tests/plant CRATE` does so over libraries that stand. Refused: the prover doesn't prove it. Not
 judged: the search met its limit. Not tried: constructors and functions whose values may not be let go, which can't be judged at all, and
@@ -31,6 +33,9 @@ with `told`, of an older row, the one that told of it."""
 HAND_HEAD = """Each changes a line or two of one crate, and is named in words. The check tries those of `crates/*/must-fail/`, and
 `tests/wrong-bodies/run CRATE` those of `tests/wrong-bodies/` (with `--all` the check's too). The goals are those that the prover didn't
 prove when the script tried it last."""
+SEEN_HEAD = """No clause speaks of ending, of waking and resting, of the status with which the process ends, or of when records are fed: no
+contract refuses what is wrong in that alone. `tests/wrong-programs/run` compiles the program that each of these bodies makes, without
+proofs, and runs tests of `tests/run` over it, which pass over the right program: one at least has to fail."""
 
 # How many letters of two goals stand side by side in a row of the page.
 MOST_GOALS = 50
@@ -120,14 +125,23 @@ def is_by_limit(row):
     return row["outcome"] == "refused" and all("limit" in goal for goal in row["told"])
 
 
-def goals_shown(row):
-    """What refused a wrong body, or why it failed, in a cell."""
-    told = [f"`{goal.partition(' (')[0]}`" for goal in row["told"]]
-    if row["outcome"] != "refused":
-        return "**FAILED**: " + row["told"][0].replace("|", "/")[:60]
+def failure_shown(row):
+    return "**FAILED**: " + row["told"][0].replace("|", "/")[:60]
+
+
+def first_shown(told):
+    """One of these in code, or two where they are short, and how many more there are; without what stands behind them in brackets."""
+    told = [f"`{one.partition(' (')[0]}`" for one in told]
     shown = told[:2] if sum(map(len, told[:2])) <= MOST_GOALS else told[:1]
     more = f" and {len(told) - len(shown)} more" if len(told) > len(shown) else ""
-    return ", ".join(shown) + more + " (a search met its limit)" * is_by_limit(row)
+    return ", ".join(shown) + more
+
+
+def goals_shown(row):
+    """What refused a wrong body, or why it failed, in a cell."""
+    if row["outcome"] != "refused":
+        return failure_shown(row)
+    return first_shown(row["told"]) + " (a search met its limit)" * is_by_limit(row)
 
 
 def hand_part():
@@ -148,7 +162,29 @@ def hand_part():
     return ["", "## Written by hand", "", paragraph(HAND_HEAD), "", whole, "", *lines]
 
 
+def tests_shown(row):
+    """The tests that saw a wrong body, or why it failed, in a cell."""
+    if row["outcome"] != "seen":
+        return failure_shown(row)
+    return first_shown(row["told"]) + " (past its time)" * all("(past" in test for test in row["told"])
+
+
+def seen_part():
+    """The wrong bodies that no contract refuses: a line for each, with the tests that saw it when it was tried last."""
+    tried = {row["edit"]: row for row in read_rows(SEEN)}
+    lines, counts = ["| Crate | Wrong body | Seen by | Commit |", "|---|---|---|---|"], collections.Counter()
+    for path in sorted((tree.ROOT / "tests/wrong-programs").glob("*.edit")):
+        crate = re.search(r"^file: crates/(\w+)/", path.read_text(encoding="utf-8"), re.MULTILINE)[1]
+        row = tried.get(path.stem)
+        counts[row["outcome"] if row else "not tried"] += 1
+        last = [tests_shown(row), row["commit"]] if row else ["not tried since it is kept", ""]
+        lines.append(f"| `{crate}` | {path.stem.replace('_', ' ')} | {' | '.join(last)} |")
+    sums = [f"{counts[outcome]} {outcome}" for outcome in ("seen", "failed", "not tried")]
+    whole = f"{sum(counts.values())} wrong bodies: {', '.join(sums)}."
+    return ["", "## Seen by tests alone", "", paragraph(SEEN_HEAD), "", whole, "", *lines]
+
+
 def write_page():
     """Makes docs/planted.md."""
-    lines = ["# Wrong bodies", "", paragraph(HEAD), "", *planted_part(), *hand_part()]
+    lines = ["# Wrong bodies", "", paragraph(HEAD), "", *planted_part(), *hand_part(), *seen_part()]
     PAGE.write_text("\n".join(lines) + "\n", encoding="utf-8")
