@@ -38,7 +38,7 @@ contract refuses what is wrong in that alone. `tests/wrong-programs/run` compile
 proofs, and runs tests of `tests/run` over it, which pass over the right program: one at least has to fail."""
 
 # How many letters of two goals stand side by side in a row of the page.
-MOST_GOALS = 50
+MOST_GOALS = 36
 
 
 def read_rows(path):
