@@ -20,12 +20,14 @@ use ks_job_source::{JobStop, SourceError};
 use ks_topo::{Draft, Topology};
 use std::alloc::{AllocError, Global};
 
-/// A topology, the number of its line, how many bytes were taken, and those of them that stand behind the line.
+/// A topology, the number of its line, how many bytes were taken up to that line's end, and those that were taken beside them.
 #[derive(Drop)]
 pub struct OpenAudit {
     pub topology: Topology,
     pub line: u64,
+    /// At most 2^26 + 2^16 bytes. Where the line has no end, this bound is all that is said of it.
     pub taken: u64,
+    /// What stands behind the line's end.
     pub rest: Vec<u8>,
     /// Whether the line has its end.
     pub has_end: bool,

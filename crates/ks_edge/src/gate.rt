@@ -36,9 +36,9 @@ pub enum Act {
     Crash,
     /// Leave the group.
     Leave,
-    /// Write the markers that wait.
+    /// Feed the worker's replicas, and write the markers that wait.
     Pump,
-    /// Begin a new generation.
+    /// Tell the worker's positions, and begin a new generation.
     Probe,
     /// Throw a worker out of the group.
     Evict(u8),

@@ -12,8 +12,9 @@ use std::marker::Model;
 // After how many changes a new gate commits; a reset sets it.
 const INTERVAL: u32 = 100;
 
-/// Works, commits where that is due, and ends when there is nothing to do. With a seed one act of 8 is an accident or another
-/// act that the group sees, and one step of 128 is cut off; the same seed, worker and views give the same acts.
+/// Works, commits where that is due, and ends when there is nothing to do. With a seed 9 acts of 64 are drawn in place of the rule's:
+/// three pumps, and one each of crash, abort, evict, probe, leave and commit; and one step of 128 is cut off. The same seed, worker and
+/// views give the same acts.
 #[derive(Drop)]
 pub struct SteadyGate {
     generator: Option<Lcg64Xsh32>,

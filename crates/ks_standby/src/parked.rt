@@ -76,8 +76,8 @@ impl Parked {
         }
     }
 
-    /// Puts a replica on the shelf, under its own task, in place of one that stood there; then no memory is taken. On want of memory
-    /// the replica comes back, and the shelf is as before.
+    /// Puts a replica on the shelf, under its own task, in place of one that stood there. On want of memory the replica comes back, and
+    /// the shelf is as before.
     pub fn put(&mut self, instance: u8, replica: Replica) -> Result<(), AllocFailed<Replica>>
         ensures ok { OnOk result ((i : ℕ) (t : Task) → parked self.new i t
             ≡ with_replica instance replica.id (Some replica) (parked self.old) i t) }
