@@ -1,18 +1,16 @@
 -- A worker that goes on, with one turn less.
-use Rattle.std.proofs.Common.{◌≡◌, ◌≤◌, ◌+◌, ℕ, List, inl, inr, refl, sym, ap, subst, arith}
+use Rattle.std.proofs.Common.{◌≡◌, ◌≤◌, ◌+◌, ℕ, List, inl, inr, ap, arith}
 use Rattle.atomic_table.specs.Seated.{TableId}
 use Rattle.ks_plan.specs.Drafts.{DraftView}
 use Rattle.ks_history.specs.Machine.{TaskPlan}
 use Rattle.ks_cluster.specs.Placed.{PlacementTest}
 use Rattle.ks_assign.specs.declared.clients.Placing.{Placing}
-use Rattle.ks_worker_turn.specs.Placing.{PlacesBy}
 use Rattle.ks_worker_client.specs.Turns.{GateCounts}
-use Rattle.ks_worker_client.proofs.Moments.{may_later, same_frame}
 use Rattle.ks_worker_state.specs.declared.state.WorkerState.{WorkerState}
 use Rattle.ks_worker_state.specs.State.{IsWorkerState, LaterState}
-use Rattle.ks_worker_state.proofs.States.{runs_later}
 use Rattle.ks_worker.specs.Beginning.{MayRun}
 use Rattle.ks_worker.specs.Running.{HasCounted, IsCutOnce}
+use Rattle.ks_worker.proofs.Turning.{may_run_on}
 
 pub counted_cut : (a b : GateCounts) → IsCutOnce a b → HasCounted a b 1
 counted_cut a b (inl same) =
@@ -44,32 +42,4 @@ module _ {W G : Type 0} (plan : W → TaskPlan) (good : W → PlacementTest) (ha
 
   pub goes_on : (left : ℕ) (new : WorkerState W G) (now : Placing) → left + 1 ≡ turns → now ≡ placing → LaterState plan old new → IsWorkerState plan d new → HasCounted old.session.client.gate new.session.client.gate 1 →
       MayRun plan good hash lock d now left new
-  goes_on left new now e same l worker counts =
-      let m = may_later plan lock old.session.client.pass new.session.client.pass old.session.client.gate old.session.client.gate l.later refl may.act.call in
-      record {
-        act = record {
-          call = record {
-            lock_is = m.lock_is;
-            free = m.free;
-            history = m.history;
-            network = m.network;
-            setup = m.setup;
-            room = record {
-              asked_fits = omega (arith, counts.asked_most, may.room.asked, some);
-              stops_fit = omega (arith, counts.stops_most, may.room.stops, some);
-              calls_fit = omega (arith, counts.calls_most, may.room.calls, some);
-              cuts_fit = omega (arith, counts.cuts_most, may.room.cuts, some);
-            };
-          };
-          topology = runs_later plan hash d old new l may.act.topology;
-          worker = worker;
-        };
-        serves = subst (λ p. PlacesBy good p d new.session.client.pass.frame) (sym same)
-            (subst (PlacesBy good placing d) (sym (same_frame plan old.session.client.pass new.session.client.pass l.later)) may.serves);
-        room = record {
-          asked = omega (arith, counts.asked_most, may.room.asked, e);
-          stops = omega (arith, counts.stops_most, may.room.stops, e);
-          calls = omega (arith, counts.calls_most, may.room.calls, e);
-          cuts = omega (arith, counts.cuts_most, may.room.cuts, e);
-        };
-      }
+  goes_on left new now e same l worker counts = may_run_on plan good hash lock d placing now turns 1 left old new may l same worker counts (omega (arith, e))

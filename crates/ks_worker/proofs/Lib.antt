@@ -3,5 +3,6 @@ pub mod Crashing
 pub mod Performed
 pub mod Shown
 pub mod Turning
+pub mod Taken
 pub mod Summing
 pub mod Left

@@ -19,21 +19,22 @@ module _ {W G : Type 0} (plan : W → TaskPlan) (old new : WorkerState W G) wher
   -- the tasks read, where one moved or none
   pub has_worked : (pick : ℕ) (moved : Bool) → KnowsTheSame old new → new.session.client.pass.made ≡ old.session.client.pass.made → new.replicas ≡ old.replicas → task_names new.tasks.items ≡ task_names old.tasks.items →
       HaveReadOn old.tasks.items new.tasks.items → (moved ≡ true → HasMoved old.tasks.items new.tasks.items) → (moved ≡ true → HasPicked plan pick old new) →
-      (moved ≡ false → HaveReadAll (setup_in plan old.session.client.pass.frame) old.session.client.pass.seen new.tasks.items) → HasWorked plan pick old new
-  has_worked pick moved same made replicas names read moves first dry = record {
+      (moved ≡ false → new.tasks.items ≡ old.tasks.items) → (moved ≡ false → HaveReadAll (setup_in plan old.session.client.pass.frame) old.session.client.pass.seen new.tasks.items) → HasWorked plan pick old new
+  has_worked pick moved same made replicas names read moves first stays dry = record {
     same = same;
     made = made;
     replicas = replicas;
     names = names;
     read = read;
-    either = by moved moves first dry;
+    either = by moved moves first stays dry;
   }
     where
       by : (b : Bool) → (b ≡ true → HasMoved old.tasks.items new.tasks.items) → (b ≡ true → HasPicked plan pick old new) →
-          (b ≡ false → HaveReadAll (setup_in plan old.session.client.pass.frame) old.session.client.pass.seen new.tasks.items) →
-          (HasMoved old.tasks.items new.tasks.items × HasPicked plan pick old new) ⊎ HaveReadAll (setup_in plan old.session.client.pass.frame) old.session.client.pass.seen new.tasks.items
-      by true m f d = inl (m refl, f refl)
-      by false m f d = inr (d refl)
+          (b ≡ false → new.tasks.items ≡ old.tasks.items) → (b ≡ false → HaveReadAll (setup_in plan old.session.client.pass.frame) old.session.client.pass.seen new.tasks.items) →
+          (HasMoved old.tasks.items new.tasks.items × HasPicked plan pick old new)
+          ⊎ ((new.tasks.items ≡ old.tasks.items) × HaveReadAll (setup_in plan old.session.client.pass.frame) old.session.client.pass.seen new.tasks.items)
+      by true m f s d = inl (m refl, f refl)
+      by false m f s d = inr (s refl, d refl)
 
   -- the replicas were fed
   pub has_pumped : {A E : Type 0} (waiting : ℕ) (r : Result A E) → KnowsTheSame old new → new.tasks ≡ old.tasks → OnOk r (replica_names new.replicas.items ≡ replica_names old.replicas.items) →

@@ -117,9 +117,9 @@ pub serves_on : {W G : Type 0} (plan : W → TaskPlan) (good : W → PlacementTe
 serves_on plan good placing now d old new l same serves =
     subst (λ (p : Placing). PlacesBy good p d new.session.client.pass.frame) (sym same) (serves_later plan good placing d old.session.client.pass new.session.client.pass l.later serves)
 
-pub may_run_on : {W G : Type 0} (plan : W → TaskPlan) (good : W → PlacementTest) (hash : List ℕ → ℕ) (lock : TableId) (d : DraftView) (placing now : Placing) (turns i : ℕ) (old new : WorkerState W G) → MayRun plan good hash lock d placing turns old → LaterState plan old new → now ≡ placing →
-    IsWorkerState plan d new → HasCounted old.session.client.gate new.session.client.gate i → i + 1 ≤ turns → MayRun plan good hash lock d now 1 new
-may_run_on plan good hash lock d placing now turns i old new may l same worker counts le =
+pub may_run_on : {W G : Type 0} (plan : W → TaskPlan) (good : W → PlacementTest) (hash : List ℕ → ℕ) (lock : TableId) (d : DraftView) (placing now : Placing) (turns i left : ℕ) (old new : WorkerState W G) → MayRun plan good hash lock d placing turns old → LaterState plan old new → now ≡ placing →
+    IsWorkerState plan d new → HasCounted old.session.client.gate new.session.client.gate i → i + left ≤ turns → MayRun plan good hash lock d now left new
+may_run_on plan good hash lock d placing now turns i left old new may l same worker counts le =
     let m = may_later plan lock old.session.client.pass new.session.client.pass old.session.client.gate old.session.client.gate l.later refl may.act.call in
     record {
       act = record {

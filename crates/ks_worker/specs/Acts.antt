@@ -21,7 +21,7 @@ use Rattle.ks_worker_acts.specs.Telling.{is_clean_task, outside, parks, position
 use Rattle.ks_worker_acts.specs.declared.commit.commit_end.CommitEnd.{CommitEnd}
 use Rattle.ks_worker_acts.specs.Ends.{HasEnded}
 
--- it read, and wrote nothing: an input position rose, or nothing stable of what its pass had seen is left
+-- it read, and wrote nothing: an input position rose, or its tasks stayed as they were, and nothing stable of what its pass had seen is left
 pub record HasWorked {W G : Type 0} (plan : W → TaskPlan) (pick : ℕ) (old new : WorkerState W G) : Type 0 where
   pub same : KnowsTheSame old new
   pub made : new.session.client.pass.made ≡ old.session.client.pass.made
@@ -29,7 +29,7 @@ pub record HasWorked {W G : Type 0} (plan : W → TaskPlan) (pick : ℕ) (old ne
   pub names : task_names new.tasks.items ≡ task_names old.tasks.items
   pub read : HaveReadOn old.tasks.items new.tasks.items
   pub either : (HasMoved old.tasks.items new.tasks.items × HasPicked plan pick old new)
-      ⊎ HaveReadAll (setup_in plan old.session.client.pass.frame) old.session.client.pass.seen new.tasks.items
+      ⊎ ((new.tasks.items ≡ old.tasks.items) × HaveReadAll (setup_in plan old.session.client.pass.frame) old.session.client.pass.seen new.tasks.items)
 
 -- it fed its replicas, and where so many markers waited it wrote one of each producer: each position rose, or nothing stable of what
 -- its pass had seen is left

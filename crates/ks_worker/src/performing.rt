@@ -1,11 +1,12 @@
 //! A worker's acts.
-ghost use Rattle.std.specs.Prelude.{◌≡◌, ◌≢◌, OnOk};
+ghost use Rattle.std.specs.Prelude.{◌≡◌, ◌≢◌, OnOk, OnErr};
 ghost use Rattle.ks_edge.specs.declared.gate.Act.TheVariants.{Work as Working, Commit as Committing};
 ghost use Rattle.ks_topo.specs.Topologies.{draft_of};
 ghost use Rattle.ks_worker_client.specs.Turns.{counts_after};
 ghost use Rattle.ks_worker_state.specs.State.{MayAct, LaterState, IsWorkerState};
 ghost use Rattle.ks_worker.specs.Acts.{HasLostAll, Does};
 ghost use Rattle.ks_worker.specs.Running.{IsCutOnce};
+ghost use Rattle.ks_worker.specs.Turns.{CountsDry, dry_after};
 
 use crate::worker::Worker;
 use ks_cluster::Work;
@@ -19,7 +20,9 @@ use std::alloc::{AllocError, Global};
 use std::sync::Wait;
 
 // How many acts `Work` in a row moved nothing, with one more, of which it is told whether it moved something.
-fn count_dry(dry: u32, moved: bool) -> u32 {
+fn count_dry(dry: u32, moved: bool) -> u32
+    ensures { result ≡ dry_after dry moved }
+{
     if moved { 0 } else { dry.saturating_add(1) }
 }
 
@@ -40,9 +43,12 @@ impl<W: Work, G: Gate> Worker<W, G> {
         ensures later { LaterState W.plan self.old.state self.new.state }
         ensures placing { self.new.placing ≡ self.old.placing }
         ensures waiting { self.new.waiting ≡ self.old.waiting }
+        ensures turn { self.new.turn ≡ self.old.turn }
         ensures worker { OnOk result (IsWorkerState W.plan (draft_of topology.now) self.new.state) }
         ensures does { OnOk result (Does W.plan (draft_of topology.now) self.old.waiting
             (Working pick) self.old.state self.new.state) }
+        ensures dry { OnOk result (CountsDry (Working pick) self.old self.new) }
+        ensures dry_cut { OnErr result (self.new.dry ≡ self.old.dry) }
     {
         let moved = work::<H, R, W, G>(rt, alloc, topology, shared, &mut self.state, pick)?;
         self.dry = count_dry(self.dry, moved);
@@ -64,9 +70,11 @@ impl<W: Work, G: Gate> Worker<W, G> {
         ensures later { LaterState W.plan self.old.state self.new.state }
         ensures placing { self.new.placing ≡ self.old.placing }
         ensures waiting { self.new.waiting ≡ self.old.waiting }
+        ensures turn { self.new.turn ≡ self.old.turn }
         ensures worker { OnOk result (IsWorkerState W.plan (draft_of topology.now) self.new.state) }
         ensures does { OnOk result (Does W.plan (draft_of topology.now) self.old.waiting
             Committing self.old.state self.new.state) }
+        ensures dry { self.new.dry ≡ self.old.dry }
     {
         commit_tasks::<H, R, W, G>(rt, alloc, topology, shared, &mut self.state)?;
         Ok(())
@@ -88,9 +96,12 @@ impl<W: Work, G: Gate> Worker<W, G> {
         ensures later { LaterState W.plan self.old.state self.new.state }
         ensures placing { self.new.placing ≡ self.old.placing }
         ensures waiting { self.new.waiting ≡ self.old.waiting }
+        ensures turn { self.new.turn ≡ self.old.turn }
         ensures worker { OnOk result (IsWorkerState W.plan (draft_of topology.now) self.new.state) }
         ensures does { OnOk result (Does W.plan (draft_of topology.now) self.old.waiting act
             self.old.state self.new.state) }
+        ensures dry { OnOk result (CountsDry act self.old self.new) }
+        ensures dry_cut { OnErr result (self.new.dry ≡ self.old.dry) }
     {
         let state = &mut self.state;
         match act {
@@ -145,6 +156,7 @@ impl<W: Work, G: Gate> Worker<W, G> {
         ensures later { LaterState W.plan self.old.state self.new.state }
         ensures placing { self.new.placing ≡ self.old.placing }
         ensures waiting { self.new.waiting ≡ self.old.waiting }
+        ensures turn { self.new.turn ≡ self.old.turn }
         ensures worker { OnOk result (IsWorkerState W.plan (draft_of topology.now) self.new.state) }
         ensures does { OnOk result (self.new.state.session.client.gate
             ≡ self.old.state.session.client.gate
@@ -153,6 +165,12 @@ impl<W: Work, G: Gate> Worker<W, G> {
         ensures cut { OnOk result (self.new.state.session.client.gate
             ≢ self.old.state.session.client.gate
             → HasLostAll self.old.state self.new.state) }
+        ensures dry { OnOk result (self.new.state.session.client.gate
+            ≡ self.old.state.session.client.gate
+            → CountsDry act self.old self.new) }
+        ensures dry_cut { OnOk result (self.new.state.session.client.gate
+            ≢ self.old.state.session.client.gate
+            → self.new.dry ≡ self.old.dry) }
     {
         match self.act::<H, R>(rt, alloc, topology, shared, act) {
             Ok(()) => Ok(()),

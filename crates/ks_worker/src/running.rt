@@ -1,13 +1,12 @@
 //! A worker's turns.
 ghost use Rattle.std.specs.Prelude.{◌≡◌, ◌≤◌, ◌+◌, true, false, OnOk, IfOk};
 ghost use Rattle.ks_edge.specs.Counts.{one_if};
-ghost use Rattle.ks_plan.specs.Layout.{tasks};
-ghost use Rattle.ks_topo.specs.Topologies.{draft_of, plan_in};
+ghost use Rattle.ks_topo.specs.Topologies.{draft_of};
 ghost use Rattle.ks_worker_state.specs.State.{MayAct, LaterState, IsWorkerState};
-ghost use Rattle.ks_worker_turn.specs.Beginning.{HasBegun};
 ghost use Rattle.ks_worker_turn.specs.Placing.{PlacesBy};
 ghost use Rattle.ks_worker.specs.Beginning.{MayRun};
 ghost use Rattle.ks_worker.specs.Running.{HasCounted, ShowsCalls, IsCutOnce, HasEndedBy};
+ghost use Rattle.ks_worker.specs.Turns.{BeginsTurn, IsCutBefore, ObeysGate, TakesTurn, HasTakenTurns};
 
 use crate::worker::Worker;
 use ks_cluster::Work;
@@ -45,9 +44,9 @@ impl<W: Work, G: Gate> Worker<W, G> {
             self.new.state.session.client.gate }
         ensures goes_on { IfOk result (λ is_cut. is_cut ≡ false
             → self.new.state.session.client.gate ≡ self.old.state.session.client.gate) }
-        ensures begun { IfOk result (λ is_cut. is_cut ≡ false
-            → HasBegun W.plan self.old.placing.threads (tasks (plan_in topology.now))
-            self.old.state self.new.state self.new.waiting) }
+        ensures begins { IfOk result (λ is_cut. is_cut ≡ false
+            → BeginsTurn W.plan (draft_of topology.now) self.old self.new) }
+        ensures cut { IfOk result (λ is_cut. is_cut ≡ true → IsCutBefore self.old self.new) }
         ensures is_cut { IfOk result (λ is_cut. is_cut ≡ true
             → self.new.state.session.client.gate.cuts
             ≡ self.old.state.session.client.gate.cuts + 1) }
@@ -82,6 +81,7 @@ impl<W: Work, G: Gate> Worker<W, G> {
         ensures placing { self.new.placing ≡ self.old.placing }
         ensures later { LaterState W.plan self.old.state self.new.state }
         ensures worker { OnOk result (IsWorkerState W.plan (draft_of topology.now) self.new.state) }
+        ensures obeys { OnOk result (ObeysGate W.plan (draft_of topology.now) self.old self.new) }
         ensures counts { HasCounted self.old.state.session.client.gate
             self.new.state.session.client.gate 1 }
         ensures asked { self.new.state.session.client.gate.asked
@@ -116,6 +116,7 @@ impl<W: Work, G: Gate> Worker<W, G> {
         ensures placing { self.new.placing ≡ self.old.placing }
         ensures later { LaterState W.plan self.old.state self.new.state }
         ensures worker { OnOk result (IsWorkerState W.plan (draft_of topology.now) self.new.state) }
+        ensures turn { OnOk result (TakesTurn W.plan (draft_of topology.now) self.old self.new) }
         ensures counts { OnOk result (HasCounted self.old.state.session.client.gate
             self.new.state.session.client.gate 1) }
         ensures stops { IfOk result (λ stopped. self.new.state.session.client.gate.stops
@@ -151,6 +152,8 @@ impl<W: Work, G: Gate> Worker<W, G> {
         ensures placing { self.new.placing ≡ self.old.placing }
         ensures later { LaterState W.plan self.old.state self.new.state }
         ensures worker { OnOk result (IsWorkerState W.plan (draft_of topology.now) self.new.state) }
+        ensures turns { OnOk result (HasTakenTurns W.plan (draft_of topology.now) turns
+            self.old self.new) }
         ensures counts { OnOk result (HasCounted self.old.state.session.client.gate
             self.new.state.session.client.gate turns) }
         ensures ended { OnOk result (HasEndedBy turns self.old.state.session.client.gate

@@ -151,6 +151,8 @@ pub fn work<H: Processing, R: Wait, W: Work, G: Gate>(
         → HasMoved state.old.tasks.items state.new.tasks.items) }
     ensures first { IfOk result (λ moved. moved ≡ true
         → HasPicked W.plan pick state.old state.new) }
+    ensures stays { IfOk result (λ moved. moved ≡ false
+        → state.new.tasks.items ≡ state.old.tasks.items) }
     ensures dry { IfOk result (λ moved. moved ≡ false
         → HaveReadAll (setup_in W.plan state.old.session.client.pass.frame)
         state.old.session.client.pass.seen state.new.tasks.items) }

@@ -3,11 +3,12 @@ use Rattle.ks_topo.specs.Topologies.{draft_of}
 use Rattle.ks_worker_state.proofs.States.{state_later_twice, same_state}
 use Rattle.ks_worker.specs.Running.{ShowsCalls}
 use Rattle.ks_worker.proofs.Turning.{counted_none, counted_then, counted_more, shown_none, shown_then, went_on, stopped_then, may_run_on}
+use Rattle.ks_worker.proofs.Taken.{one_turn_more}
 use Rattle.ks_worker.proofs.worker.Worker.run.Goals as goal
 
 pub take_turn-requires : goal.take_turn-requires
 take_turn-requires g c = record {
-  may = may_run_on g.W.Work.plan g.W.Work.good _ _ (draft_of c.args.topology.now) c.args.self.now.placing c.loop.self.placing c.args.turns c.loop.counter c.args.self.now.state c.loop.self.state c.requires.may c.loop.invariant.later c.loop.invariant.placing c.loop.invariant.worker c.loop.invariant.counts
+  may = may_run_on g.W.Work.plan g.W.Work.good _ _ (draft_of c.args.topology.now) c.args.self.now.placing c.loop.self.placing c.args.turns c.loop.counter 1 c.args.self.now.state c.loop.self.state c.requires.may c.loop.invariant.later c.loop.invariant.placing c.loop.invariant.worker c.loop.invariant.counts
       (omega (arith, c.loop-test.true));
 }
 
@@ -29,7 +30,15 @@ loop-preserved g c = record {
   counts = counted_then c.args.self.now.state.session.client.gate c.loop.self.state.session.client.gate c.take_turn.new.self.state.session.client.gate c.loop.counter 1 c.loop.invariant.counts c.in_ok-take_turn.ensures.counts;
   stops = went_on c.args.self.now.state.session.client.gate.stops c.loop.self.state.session.client.gate.stops c.take_turn.new.self.state.session.client.gate.stops c.in_ok-take_turn.field-0 c.loop.invariant.stops c.in_ok-take_turn.ensures.stops c.if-branch.false;
   took = omega (arith, c.loop.invariant.took, c.in_ok-take_turn.ensures.took);
+  turns = one_turn_more g.W.Work.plan (draft_of c.args.topology.now) c.loop.counter c.args.self.now c.loop.self c.take_turn.new.self c.loop.invariant.turns c.in_ok-take_turn.ensures.turn;
   shown = shown_then c.args.self.now.state.member.number c.args.self.now.state.session.client.pass c.loop.self.state.session.client.pass c.take_turn.new.self.state.session.client.pass
       c.args.self.now.state.session.client.gate c.loop.self.state.session.client.gate c.take_turn.new.self.state.session.client.gate c.loop.invariant.shown
       (subst (λ n. ShowsCalls n c.loop.self.state.session.client.pass c.take_turn.new.self.state.session.client.pass c.loop.self.state.session.client.gate c.take_turn.new.self.state.session.client.gate) c.loop.invariant.later.number c.in_ok-take_turn.ensures.shown);
+}
+
+pub returns-then-branch-clause-turns : goal.returns-then-branch-clause-turns
+returns-then-branch-clause-turns g c = record {
+  count = c.loop.counter + 1;
+  few = omega (arith, c.loop-test.true);
+  taken = one_turn_more g.W.Work.plan (draft_of c.args.topology.now) c.loop.counter c.args.self.now c.loop.self c.take_turn.new.self c.loop.invariant.turns c.in_ok-take_turn.ensures.turn;
 }
