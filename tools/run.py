@@ -163,7 +163,7 @@ def tell_before(words):
     if words[0] in ("run", "ask", "audit") and is_terminal(0):
         tell("reading a job from the terminal, end it with Ctrl-D")
     if has_option(words, "--chaos") and not has_option(words, "--stop-after"):
-        tell("--chaos without --stop-after may run very long from a few thousand records on; --stop-after 2000 bounds it")
+        tell("--chaos without --stop-after may run very long from tens of thousands of records on; --stop-after 2000 bounds it")
 
 
 def place_in_input():

@@ -15,7 +15,7 @@ MEANS = {
     7: "standard output could not be written (its reader closed it, or the disk is full): what stands there is a part",
     8: "there was not enough memory, and nothing is printed; take fewer records, or raise the limit (docs/formats.md, \"All limits\")",
     9: "no table has this name, or --start is missing for a windowed count or given for another node; ./streams describe JOB names the nodes",
-    10: "this is not the output of a right run of this job: the line says where and why",
+    10: "this is not the output of a right run of this job, or it is too long to be judged (47): the line says where and why",
 }
 QUIET_SIGNALS = (signal.SIGINT, signal.SIGTERM, signal.SIGHUP, signal.SIGPIPE, signal.SIGQUIT)
 
