@@ -7,10 +7,11 @@ use Rattle.atomic_table.specs.Seated.{TableId}
 use Rattle.ks_plan.specs.Drafts.{DraftView}
 use Rattle.ks_history.specs.Machine.{TaskPlan}
 use Rattle.ks_cluster.specs.Placed.{PlacementTest}
-use Rattle.ks_worker_state.specs.declared.state.WorkerState.{WorkerState}
 use Rattle.ks_worker_state.specs.State.{IsWorkerState}
 use Rattle.ks_worker.specs.Beginning.{MayRun}
 use Rattle.ks_worker.specs.Running.{HasCounted, HasEndedBy, ShowsCalls}
+use Rattle.ks_worker.specs.Turns.{HasTakenTurns}
+use Rattle.ks_worker.specs.declared.worker.Worker.{Worker}
 use Rattle.ks_run_workers.specs.declared.asking.Asker.{Asker}
 use Rattle.ks_run_workers.specs.declared.working.Crew.{Crew}
 use Rattle.ks_run_workers.specs.declared.working.WorkerThread.{WorkerThread}
@@ -28,11 +29,11 @@ none_starved (m ∷ ms) e = let both = neither m.is_starved (is_one_starved ms) 
 
 module _ {W G : Type 0} (plan : W → TaskPlan) (d : DraftView) (turns : ℕ) where
   -- by how its turns ended
-  pub has_turned : {A E : Type 0} (old new : WorkerState W G) (r : Result A E) (starved : Bool) → starved ≡ is_err r → OnOk r (IsWorkerState plan d new) →
-      OnOk r (HasCounted old.session.client.gate new.session.client.gate turns) → OnOk r (HasEndedBy turns old.session.client.gate new.session.client.gate) →
-      OnOk r (ShowsCalls old.member.number old.session.client.pass new.session.client.pass old.session.client.gate new.session.client.gate) → starved ≡ false → HasTurned plan d turns old new
-  has_turned old new (Ok a) starved is worker counts ended shown fed = record { worker = worker; counts = counts; ended = ended; shown = shown }
-  has_turned old new (Err e) starved is worker counts ended shown fed = absurd cc
+  pub has_turned : {A E : Type 0} (old new : Worker W G) (r : Result A E) (starved : Bool) → starved ≡ is_err r → OnOk r (IsWorkerState plan d new.state) → OnOk r (HasTakenTurns plan d turns old new) →
+      OnOk r (HasCounted old.state.session.client.gate new.state.session.client.gate turns) → OnOk r (HasEndedBy turns old.state.session.client.gate new.state.session.client.gate) →
+      OnOk r (ShowsCalls old.state.member.number old.state.session.client.pass new.state.session.client.pass old.state.session.client.gate new.state.session.client.gate) → starved ≡ false → HasTurned plan d turns old new
+  has_turned old new (Ok a) starved is worker taken counts ended shown fed = record { worker = worker; taken = taken; counts = counts; ended = ended; shown = shown }
+  has_turned old new (Err e) starved is worker taken counts ended shown fed = absurd cc
 
   -- where none is starved, each took its turns
   pub have_turned : (old new : List (WorkerThread W G)) → length new ≡ length old → AllTurnedUnlessStarved plan d turns old new → is_one_starved new ≡ false → HaveTurned plan d turns old new

@@ -61,6 +61,10 @@ pub stopped_then : (turns : ℕ) (first before after : GateCounts) (stopped : Bo
 stopped_then turns first before after true same turn is = inl (omega (arith, same, turn))
 stopped_then turns first before after false same turn is = absurd cc
 
+pub stopped_once : (first before after : ℕ) (stopped : Bool) → before ≡ first → after ≡ before + one_if stopped → stopped ≡ true → after ≡ first + 1
+stopped_once first before after true same turn is = omega (arith, same, turn)
+stopped_once first before after false same turn is = absurd cc
+
 -- ---- what shows
 none_more : (n : ℕ) → n ≡ 0 + n
 none_more n = omega arith
@@ -109,6 +113,9 @@ begun_as plan threads tasks s gate new waiting same h =
 
 pub begun_with : {A E : Type 0} (r : Result A E) (x : A) (P : A → Type 0) → r ≡ Ok x → IfOk r P → P x
 begun_with r x P is h = subst (λ q. IfOk q P) is h
+
+pub ok_so : {A E P : Type 0} (r : Result A E) (x : A) → r ≡ Ok x → OnOk r P → P
+ok_so {P = P} r x is h = subst (λ q. OnOk q P) is h
 
 -- ---- a worker goes on
 -- its placing serves on

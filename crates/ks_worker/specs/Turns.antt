@@ -10,6 +10,7 @@ use Rattle.ks_history.specs.Machine.{TaskPlan}
 use Rattle.ks_worker_client.specs.Turns.{GateCounts}
 use Rattle.ks_worker_acts.specs.Inputs.{HasMoved}
 use Rattle.ks_worker_turn.specs.Beginning.{HasBegun}
+use Rattle.ks_worker_turn.specs.Requests.{MakesTurn}
 use Rattle.ks_worker.specs.declared.worker.Worker.{Worker}
 use Rattle.ks_worker.specs.Acts.{Does, HasLostAll}
 
@@ -38,13 +39,15 @@ pub record IsCutOff {W G : Type 0} (old new : Worker W G) : Type 0 where
   pub lost : HasLostAll old.state new.state
   pub dry : new.dry ≡ old.dry
 
--- it began its next turn, was told its group's status, with the markers that waited, and did what that asks
+-- it began its next turn, was told its group's status, with the markers that waited, and did what that asks, by requests of a turn's
+-- beginning alone
 pub record BeginsTurn {W G : Type 0} (plan : W → TaskPlan) (d : DraftView) (old new : Worker W G) : Type 0 where
   pub placing : new.placing ≡ old.placing
   pub turn : new.turn ≡ min (old.turn + 1) (2 ^ 64 - 1)
   pub dry : new.dry ≡ old.dry
   pub gate : new.state.session.client.gate ≡ old.state.session.client.gate
   pub begun : HasBegun plan old.placing.threads (tasks (plan_of d)) old.state new.state new.waiting
+  pub made : MakesTurn old.state new.state
 
 -- it was cut off in its next turn before its act
 pub record IsCutBefore {W G : Type 0} (old new : Worker W G) : Type 0 where
@@ -88,8 +91,9 @@ abbrev pub TakesTurns : {W G : Type 0} → (W → TaskPlan) → DraftView → �
 TakesTurns plan d zero old new = new ≡ old
 TakesTurns {W} {G} plan d (suc count) old new = (mid : Worker W G) × TakesTurns plan d count old mid × TakesTurn plan d mid new
 
--- so many turns at most
+-- so many turns, or fewer where its gate said stop in the last one
 pub record HasTakenTurns {W G : Type 0} (plan : W → TaskPlan) (d : DraftView) (most : ℕ) (old new : Worker W G) : Type 0 where
   pub count : ℕ
   pub few : count ≤ most
   pub taken : TakesTurns plan d count old new
+  pub ended : (count ≡ most) ⊎ (new.state.session.client.gate.stops ≡ old.state.session.client.gate.stops + 1)

@@ -139,8 +139,8 @@ impl<W: Work, G: Gate> Worker<W, G> {
     /// | `Evict(w)` | removes worker `w`, 0 to 15, from the group; does nothing for another |
     /// | `Stop` | nothing |
     ///
-    /// Before each call its gate is asked whether it is cut off; if it is, it crashes, and nothing else is done. Want of memory is the
-    /// one error: the worker ends then, and the lock is free.
+    /// Before each call its gate is asked whether it is cut off; if it is, it crashes. Want of memory is the one error: the worker ends
+    /// then, and the lock is free.
     pub fn perform<H: Processing, R: Wait>(
         &mut self,
         rt: &R,

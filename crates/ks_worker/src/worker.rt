@@ -53,6 +53,9 @@ impl<W: Work, G: Gate> Worker<W, G> {
         ensures new { IsNew number instance result.state }
         ensures cache { result.state.member.cache ≡ cache }
         ensures placing { result.placing ≡ placing }
+        ensures turn { result.turn ≡ 0 }
+        ensures dry { result.dry ≡ 0 }
+        ensures waiting { result.waiting ≡ 0 }
     {
         Worker {
             state: WorkerState {

@@ -1,6 +1,6 @@
 -- That a worker's active tasks are restored.
 use Rattle.std.proofs.Common.{◌≡◌, inl, inr, ℕ, ◌+◌, ◌<◌, ◌≤◌, ◌||◌, Bool, true, false, List, [], ◌∷◌, length, take, refl, sym, ap, subst, ◌∙◌, arith, add-one}
-use Rattle.std.specs.Prelude.{slice_index_or}
+use Rattle.std.specs.Prelude.{max, slice_index_or}
 use Rattle.std.proofs.Math.Seq.{take-suc}
 use Rattle.std.proofs.lemmas.Bool.{true≢false}
 use Rattle.std.proofs.lemmas.List.{take_all}
@@ -16,29 +16,27 @@ use Rattle.ks_shared.specs.declared.state.Frame.{Frame}
 use Rattle.ks_standby.specs.declared.replica.Replica.{Replica}
 use Rattle.ks_task.specs.declared.task.Task.{Task}
 use Rattle.ks_task.specs.Tasks.{task_view}
+use Rattle.ks_worker_client.specs.declared.client.ClusterClient.{ClusterClient}
 use Rattle.ks_worker_client.specs.declared.member.Member.{Member}
 use Rattle.ks_worker_client.specs.Calls.{Later}
 use Rattle.ks_worker_client.proofs.Moments.{later_twice}
 use Rattle.ks_worker_state.specs.declared.state.WorkerState.{WorkerState}
 use Rattle.ks_worker_state.specs.Names.{task_names}
 use Rattle.ks_worker_state.specs.Restoring.{IsGivenBack}
-use Rattle.ks_worker_state.proofs.Names.{times-some, is_there}
-use Rattle.ks_worker_turn.specs.Lists.{HasPut}
+use Rattle.ks_worker_state.proofs.Names.{is_there}
+use Rattle.ks_worker_turn.specs.Held.{HasTakenPlaces}
+use Rattle.ks_worker_turn.specs.Lists.{HasPut, AreAmong}
 use Rattle.ks_worker_turn.specs.Places.{has_place, is_placed}
-use Rattle.ks_worker_turn.specs.Restored.{KeepsTasks, IsRestored, HasRestored}
+use Rattle.ks_worker_turn.specs.Restored.{KeepsTasks, IsRestored, HasRestored, HasTakenAll}
 use Rattle.ks_worker_turn.proofs.Holding.{tasks_put, times_same, has-append}
+use Rattle.ks_worker_turn.proofs.Listing.{names_among, among_then}
+use Rattle.ks_worker_turn.proofs.Taken.{taken_from}
 
 -- ---- a task that was put among the others
-pub task_kept : (ts now : List Task) (x : Task) → HasPut ts x now → (u : TaskId) → has_task u (task_names ts) ≡ true → has_task u (task_names now) ≡ true
-task_kept ts now x put u there = is_there u (task_names now) (omega (arith, tasks_put u ts now x put, times-some u (task_names ts) there))
-
 pub task_added : (ts now : List Task) (x : Task) (t : TaskId) → (task_view x).task ≡ t → HasPut ts x now → has_task t (task_names now) ≡ true
 task_added ts now x t named put =
     let own : same_task t (task_view x).task ≡ true = ap (same_task t) named ∙ same_task-refl t in
     is_there t (task_names now) (omega (arith, tasks_put t ts now x put, times_same t (task_view x).task own))
-
-pub same_tasks : (ts now : List Task) → now ≡ ts → (u : TaskId) → has_task u (task_names ts) ≡ true → has_task u (task_names now) ≡ true
-same_tasks ts now same u there = ap (λ l. has_task u (task_names l)) same ∙ there
 
 -- ---- why a replica was given back
 module _ {W : Type 0} (plan : W → TaskPlan) (old mid new : PassView Entry (Frame W)) (w generation : ℕ) (r : Replica) where
@@ -52,7 +50,7 @@ module _ {W : Type 0} (plan : W → TaskPlan) (old mid new : PassView Entry (Fra
 
 module _ {W G : Type 0} (plan : W → TaskPlan) where
   restored_on : (old mid new : WorkerState W G) (t : TaskId) → Later plan mid.session.client.pass new.session.client.pass → new.member ≡ mid.member → KeepsTasks mid new → IsRestored plan t old mid → IsRestored plan t old new
-  restored_on old mid new t l same kept (inl there) = inl (kept t there)
+  restored_on old mid new t l same kept (inl there) = inl (names_among mid.tasks.items new.tasks.items kept t there)
   restored_on old mid new t l same kept (inr k) = inr (record {
     replica = k.replica;
     named = k.named;
@@ -107,7 +105,7 @@ module _ {W G : Type 0} (plan : W → TaskPlan) where
           restored_since old mid new t l (g t (ap (λ b. b || has_task t (slice_index_or ts i d ∷ [])) (sym e) ∙ h) (ap (λ (m : Member). has_place t m.number a.active) same ∙ placed) (ap (λ (m : Member). m.is_member) same ∙ inside))
 
   pub tasks_on : (old mid new : WorkerState W G) → KeepsTasks old mid → KeepsTasks mid new → KeepsTasks old new
-  tasks_on old mid new f g u there = g u (f u there)
+  tasks_on old mid new f g = among_then old.tasks.items mid.tasks.items new.tasks.items f g
 
   -- all of a list
   pub restored_whole : (old new : WorkerState W G) (a : Assignment) (ts all : List TaskId) (i : ℕ) → ts ≡ all → length ts ≤ i → HasRestored plan a (take i ts) old new → HasRestored plan a all old new
@@ -118,3 +116,14 @@ module _ {W G : Type 0} (plan : W → TaskPlan) where
       HasRestored plan a ts mid new → HasRestored plan a ts old new
   all_since old mid new a ts l number inside h t there placed is =
       restored_since old mid new t l (h t there (ap (λ w. has_place t w a.active) number ∙ placed) (inside ∙ is))
+
+  -- all that it took, over what its client did before
+  pub taken_all : (tasks : List TaskId) (generation : ℕ) (a : Assignment) (old new : WorkerState W G) (client : ClusterClient W G) → Later plan old.session.client.pass client.pass →
+      new.member ≡ record old.member { generation = max old.member.generation generation } → HasTakenPlaces tasks generation a (record old { session = record old.session { client = client } }) new →
+      AreAmong old.tasks.items new.tasks.items → HasRestored plan a tasks (record old { session = record old.session { client = client } }) new → HasTakenAll plan tasks generation a old new
+  taken_all tasks generation a old new client l member taken kept restored = record {
+    member = member;
+    taken = taken_from plan tasks generation a old new client l taken;
+    kept = kept;
+    restored = all_since old (record old { session = record old.session { client = client } }) new a tasks l refl refl restored;
+  }

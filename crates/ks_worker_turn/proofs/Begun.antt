@@ -22,7 +22,7 @@ use Rattle.ks_worker_client.specs.Calls.{Later, Wrote, state_seen}
 use Rattle.ks_worker_client.proofs.Moments.{later_twice}
 use Rattle.ks_worker_state.specs.declared.state.WorkerState.{WorkerState}
 use Rattle.ks_worker_state.specs.State.{LaterState}
-use Rattle.ks_worker_turn.specs.Beginning.{HasOffered, HasPlaced, HasBegun, seen_by}
+use Rattle.ks_worker_turn.specs.Beginning.{HasOffered, HasPlaced, HasBegun, IsAsBefore, at_moment, seen_by}
 use Rattle.ks_worker_turn.specs.Requests.{HasJoined}
 use Rattle.ks_worker_turn.specs.Resting.{is_generation_over, HaveRested}
 use Rattle.ks_worker_turn.specs.Restored.{HasTakenAll}
@@ -32,8 +32,12 @@ module _ {W G : Type 0} (plan : W → TaskPlan) (threads : ℕ) (tasks : List Ta
     (same : new.member ≡ record old.member { generation = new.member.generation })
     (free : offer ≡ None → (s.assignment ≢ None) ⊎ (clients_of threads s.members ≡ []))
     (given : s.assignment ≢ None → answer ≡ s.assignment)
-    (offered : s.assignment ≡ None → IfSome offer (λ a. HasOffered plan old.session.client.pass mid old.member.number s.generation a (answer ≡ Some a)))
-    (took : (a : Assignment) → answer ≡ Some a → HasTakenAll plan tasks s.generation a old new) where
+    (some : offer ≢ None → clients_of threads s.members ≢ [])
+    (idle : s.assignment ≡ None → offer ≡ None → answer ≡ None)
+    (offered : s.assignment ≡ None → IfSome offer (λ a. HasOffered plan old.session.client.pass mid old.member.number s.generation a (λ moment. answer ≡ Some a) (answer ≡ None)))
+    (took : (a : Assignment) → answer ≡ Some a → HasTakenAll plan tasks s.generation a old new)
+    (took_at : (moment : PassView Entry (Frame W)) → Later plan moment mid → (a : Assignment) → answer ≡ Some a → HasTakenAll plan tasks s.generation a (at_moment old moment) new)
+    (stays : answer ≡ None → IsAsBefore old new) where
   generation_is : s.generation ≡ (seen_by plan old).generation
   generation_is = ap (λ (x : Status). x.generation) is
 
@@ -49,29 +53,38 @@ module _ {W G : Type 0} (plan : W → TaskPlan) (threads : ℕ) (tasks : List Ta
   took_there : (a : Assignment) → answer ≡ Some a → HasTakenAll plan tasks (seen_by plan old).generation a old new
   took_there a e = subst (λ (g : ℕ). HasTakenAll plan tasks g a old new) generation_is (took a e)
 
-  then_offered : (a : Assignment) → HasOffered plan old.session.client.pass mid old.member.number s.generation a (answer ≡ Some a) →
-      HasOffered plan old.session.client.pass new.session.client.pass old.member.number (seen_by plan old).generation a (HasTakenAll plan tasks (seen_by plan old).generation a old new)
+  took_since : (moment : PassView Entry (Frame W)) → Later plan moment mid → (a : Assignment) → answer ≡ Some a → HasTakenAll plan tasks (seen_by plan old).generation a (at_moment old moment) new
+  took_since moment k a e = subst (λ (g : ℕ). HasTakenAll plan tasks g a (at_moment old moment) new) generation_is (took_at moment k a e)
+
+  then_offered : (a : Assignment) → HasOffered plan old.session.client.pass mid old.member.number s.generation a (λ moment. answer ≡ Some a) (answer ≡ None) →
+      HasOffered plan old.session.client.pass new.session.client.pass old.member.number (seen_by plan old).generation a (λ moment. HasTakenAll plan tasks (seen_by plan old).generation a (at_moment old moment) new) (IsAsBefore old new)
   then_offered a h = record {
     moment = h.moment;
     reply = h.reply;
     wrote = subst (λ (g : ℕ). Wrote plan old.session.client.pass h.moment (Assign old.member.number g a) h.reply) generation_is h.wrote;
     before = later_twice plan h.moment mid new.session.client.pass h.before l;
-    taken = λ e. took_there a (h.taken e);
+    taken = λ e. took_since h.moment h.before a (h.taken e);
+    refused = λ e. stays (h.refused e);
   }
 
   pub placed : HasPlaced plan threads tasks old new
   placed = record {
     member = same;
     given = λ a e. took_there a (given (some_apart s.assignment a (assignment_is ∙ e)) ∙ assignment_is ∙ e);
-    offered = λ none some. by none some offer refl;
+    offered = λ none clients. by none clients offer refl;
+    alone = λ none empty. stays (idle (assignment_is ∙ none) (nothing offer refl empty));
   }
     where
       by : (seen_by plan old).assignment ≡ None → clients_of threads (seen_by plan old).members ≢ [] → (o : Option Assignment) → offer ≡ o →
-          (a : Assignment) × HasOffered plan old.session.client.pass new.session.client.pass old.member.number (seen_by plan old).generation a (HasTakenAll plan tasks (seen_by plan old).generation a old new)
-      by none some None e =
-          absurd (⊎_elim (λ (t : s.assignment ≢ None). t (assignment_is ∙ none)) (λ (c : clients_of threads s.members ≡ []). some (ap (clients_of threads) (sym members_are) ∙ c)) (free e))
-      by none some (Some a) e =
-          (a, then_offered a (subst (λ o. IfSome o (λ a. HasOffered plan old.session.client.pass mid old.member.number s.generation a (answer ≡ Some a))) e (offered (assignment_is ∙ none))))
+          (a : Assignment) × HasOffered plan old.session.client.pass new.session.client.pass old.member.number (seen_by plan old).generation a (λ moment. HasTakenAll plan tasks (seen_by plan old).generation a (at_moment old moment) new) (IsAsBefore old new)
+      by none clients None e =
+          absurd (⊎_elim (λ (t : s.assignment ≢ None). t (assignment_is ∙ none)) (λ (c : clients_of threads s.members ≡ []). clients (ap (clients_of threads) (sym members_are) ∙ c)) (free e))
+      by none clients (Some a) e =
+          (a, then_offered a (subst (λ o. IfSome o (λ a. HasOffered plan old.session.client.pass mid old.member.number s.generation a (λ moment. answer ≡ Some a) (answer ≡ None))) e (offered (assignment_is ∙ none))))
+
+      nothing : (o : Option Assignment) → offer ≡ o → clients_of threads (seen_by plan old).members ≡ [] → offer ≡ None
+      nothing None e empty = e
+      nothing (Some a) e empty = absurd (some (λ none. some_apart offer a e none) (ap (clients_of threads) members_are ∙ empty))
 
 -- the one that was answered, if one was
 pub nothing_took : (answer : Option Assignment) (P : Assignment → Type 0) → answer ≡ None → (a : Assignment) → answer ≡ Some a → P a
@@ -79,6 +92,10 @@ nothing_took answer P none a e = absurd cc
 
 pub took_it : (answer : Option Assignment) (b : Assignment) (P : Assignment → Type 0) → answer ≡ Some b → P b → (a : Assignment) → answer ≡ Some a → P a
 took_it answer b P is h a e = let same : b ≡ a = cc in subst P same h
+
+-- there was one
+pub none_stays : {P : Type 0} (answer : Option Assignment) (b : Assignment) → answer ≡ Some b → answer ≡ None → P
+none_stays answer b is none = absurd cc
 
 -- the same member, but for its generation
 pub only_newer : (old new : Member) (generation : ℕ) → new ≡ record old { generation = generation } → new ≡ record old { generation = new.generation }
@@ -88,7 +105,7 @@ only_newer old new generation is = is ∙ ap (λ (g : ℕ). record old { generat
 pub begun : {W G : Type 0} (plan : W → TaskPlan) (threads : ℕ) (tasks : List TaskId) (old one two new : WorkerState W G) (s : Status) → LaterState plan old two → LaterState plan two new → one.member.generation ≡ old.member.generation → one.member.number ≡ old.member.number →
     one.tasks.items ≡ old.tasks.items → one.replicas.items ≡ old.replicas.items → s ≡ status (setup_in plan two.session.client.pass.frame) (state_seen plan two.session.client.pass) →
     HaveRested (is_generation_over one.member.generation s.generation (has_number one.member.number s.members)) one.tasks.items one.replicas.items two.tasks.items two.replicas.items →
-    two.member ≡ record one.member { is_member = has_number one.member.number s.members } → HasJoined old two → HasPlaced plan threads tasks two new → HasBegun plan threads tasks old new s.waiting
+    two.member ≡ record one.member { is_member = has_number one.member.number s.members } → HasJoined plan old two → HasPlaced plan threads tasks two new → HasBegun plan threads tasks old new s.waiting
 begun plan threads tasks old one two new s since before generation number same_tasks same_replicas is rested member joined placed = record {
   told = two;
   since = since;

@@ -1,9 +1,9 @@
 -- Lists with one more, or one less.
 use Rattle.std.proofs.Common.{◌≡◌, ◌≤◌, ◌<◌, ℕ, zero, suc, ◌+◌, ◌||◌, Bool, true, false, List, [], ◌∷◌, ◌++◌, length, get_or, take, drop, add-one, refl, sym, ap, subst, ◌∙◌, arith}
-use Rattle.std.specs.List.{All, insert}
+use Rattle.std.specs.List.{All, Contains, insert}
 use Rattle.std.proofs.Math.Seq.{take-suc}
-use Rattle.std.proofs.lemmas.List.{take_all}
-use Rattle.std.proofs.lemmas.List.Elements.{All-append, All-take, All-drop, All-cons, All-nil}
+use Rattle.std.proofs.lemmas.List.{take_all, take-append-drop}
+use Rattle.std.proofs.lemmas.List.Elements.{All-append, All-take, All-drop, All-cons, All-nil, All-contains, All-contains_itself, Contains-append_left, Contains-append_right}
 use Rattle.ks_record.specs.declared.record.TaskId.{TaskId}
 use Rattle.ks_record.specs.Parts.{same_task}
 use Rattle.ks_history.specs.State.{has_task}
@@ -13,7 +13,7 @@ use Rattle.ks_task.specs.Tasks.{task_view}
 use Rattle.ks_worker_state.specs.Worker.{IsNoneOf, HaveOwnNames}
 use Rattle.ks_standby.specs.declared.replica.Replica.{Replica}
 use Rattle.ks_worker_state.specs.Names.{task_names, replica_names}
-use Rattle.ks_worker_turn.specs.Lists.{HasPut, HasTaken}
+use Rattle.ks_worker_turn.specs.Lists.{HasPut, HasTaken, AreAmong}
 
 module _ {A : Type 0} (P : A → Type 0) where
   all_insert : (xs : List A) (i : ℕ) (x : A) → All P xs → P x → All P (insert xs i x)
@@ -33,6 +33,33 @@ module _ {A : Type 0} (P : A → Type 0) where
 
   pub all_head : (x : A) (xs : List A) → All P (x ∷ xs) → P x
   all_head x xs all = all 0 x (omega arith)
+
+-- ---- each is one of those
+module _ {A : Type 0} where
+  one_later : (x : A) (xs : List A) (y : A) → Contains xs y → Contains (x ∷ xs) y
+  one_later x xs y h = let lt = h.1 in (suc h.0, omega arith, h.2)
+
+  among_insert : (xs : List A) (i : ℕ) (x : A) → AreAmong xs (insert xs i x)
+  among_insert xs i x =
+      subst (All (Contains (insert xs i x))) (take-append-drop i xs)
+      (All-append (Contains (insert xs i x)) (take i xs) (drop i xs)
+      (λ k d lt. Contains-append_left (take i xs) (x ∷ drop i xs) (get_or (take i xs) k d) (All-contains_itself (take i xs) k d lt))
+      (λ k d lt. Contains-append_right (take i xs) (x ∷ drop i xs) (get_or (drop i xs) k d) (one_later x (drop i xs) (get_or (drop i xs) k d) (All-contains_itself (drop i xs) k d lt))))
+
+  pub among_put : (old new : List A) (x : A) → HasPut old x new → AreAmong old new
+  among_put old new x h = subst (AreAmong old) (sym h.is) (among_insert old h.place x)
+
+  pub among_itself : (xs : List A) → AreAmong xs xs
+  among_itself xs = All-contains_itself xs
+
+  pub among_same : (old new : List A) → new ≡ old → AreAmong old new
+  among_same old new is = subst (AreAmong old) (sym is) (among_itself old)
+
+  pub among_then : (xs ys zs : List A) → AreAmong xs ys → AreAmong ys zs → AreAmong xs zs
+  among_then xs ys zs f g k d lt = All-contains (Contains zs) ys (get_or xs k d) g (f k d lt)
+
+  pub among_from : (was xs zs : List A) → xs ≡ was → AreAmong xs zs → AreAmong was zs
+  among_from was xs zs is h = subst (λ l. AreAmong l zs) is h
 
 -- ---- names of their own
 abbrev name_of : Task → TaskId
@@ -57,6 +84,24 @@ none_of t (u ∷ us) none = All-cons (λ (other : Task). same_task t (name_of ot
     right : (a b : Bool) → (a || b) ≡ false → b ≡ false
     right false b e = e
     right true b e = absurd cc
+
+named_there : (u : TaskId) (t : Task) (now : List Task) (k : ℕ) → same_task u (name_of t) ≡ true → k < length now → get_or now k t ≡ t → has_task u (task_names now) ≡ true
+named_there u t [] k same lt e = absurd (omega (arith, lt))
+named_there u t (x ∷ xs) zero same lt e = ap (λ b. b || has_task u (task_names xs)) (ap (λ y. same_task u (name_of y)) e ∙ same)
+named_there u t (x ∷ xs) (suc k) same lt e = other (same_task u (name_of x)) (has_task u (task_names xs)) (named_there u t xs k same (omega (arith, lt)) e)
+  where
+    other : (a b : Bool) → b ≡ true → (a || b) ≡ true
+    other true b h = refl
+    other false b h = h
+
+-- tasks that are among others have their names
+pub names_among : (ts now : List Task) → AreAmong ts now → (u : TaskId) → has_task u (task_names ts) ≡ true → has_task u (task_names now) ≡ true
+names_among [] now all u there = absurd cc
+names_among (t ∷ ts) now all u there = by (same_task u (name_of t)) refl there (names_among ts now (all_tail (Contains now) t ts all) u)
+  where
+    by : (b : Bool) → same_task u (name_of t) ≡ b → (b || has_task u (task_names ts)) ≡ true → (has_task u (task_names ts) ≡ true → has_task u (task_names now) ≡ true) → has_task u (task_names now) ≡ true
+    by true e h others = let one = all_head (Contains now) t ts all in named_there u t now one.0 e one.1 one.2
+    by false e h others = others h
 
 names_insert : (ts : List Task) (i : ℕ) (t : Task) → HaveOwnNames ts → IsNoneOf (name_of t) ts → HaveOwnNames (insert ts i t)
 names_insert [] zero t own none = (none, tt)

@@ -72,14 +72,15 @@ pub has_none : (o : Option Assignment) → is_some o ≡ false → o ≡ None
 has_none None e = refl
 has_none (Some a) e = absurd cc
 
-pub offered_now : {W : Type 0} (plan : W → TaskPlan) (old new : PassView Entry (Frame W)) (w generation : ℕ) (a : Assignment) (reply : Reply) (Then : Type 0) → Later plan old new → Wrote plan old new (Assign w generation a) reply →
-    (reply ≡ Truth true → Then) → HasOffered plan old new w generation a Then
-offered_now plan old new w generation a reply Then l wrote taken = record {
+pub offered_now : {W : Type 0} (plan : W → TaskPlan) (old new : PassView Entry (Frame W)) (w generation : ℕ) (a : Assignment) (reply : Reply) (Then : PassView Entry (Frame W) → Type 0) (Else : Type 0) → Later plan old new → Wrote plan old new (Assign w generation a) reply →
+    (reply ≡ Truth true → Then new) → (reply ≢ Truth true → Else) → HasOffered plan old new w generation a Then Else
+offered_now plan old new w generation a reply Then Else l wrote taken refused = record {
   moment = new;
   reply = reply;
   wrote = wrote;
   before = not_later plan new (subst (λ f. IsHistory (setup_in plan f) new.seen) (sym (same_frame plan old new l)) (subst (IsHistory (setup_in plan old.frame)) (sym l.seen) l.history));
   taken = taken;
+  refused = refused;
 }
 
 -- what wasn't taken wasn't answered true
@@ -91,6 +92,13 @@ not_taken (Err r) b is e t = cc
 pub was_refused : (n : Result Bool Refused) → ((b : Bool) → n ≡ Ok b → ⊥) → truth_or n ≡ Truth true → ⊥
 was_refused (Ok b) never t = never b refl
 was_refused (Err r) never t = cc
+
+pub some_not_none : (o : Option Assignment) (a : Assignment) → o ≡ Some a → o ≢ None
+some_not_none o a is none = absurd cc
+
+-- what was taken was
+pub was_taken : {P : Type 0} (n : Result Bool Refused) (b : Bool) → n ≡ Ok b → b ≡ true → truth_or n ≢ Truth true → P
+was_taken n b is e never = absurd (never (ap truth_or (is ∙ ap Ok e)))
 
 -- what is said of an offer
 pub of_offer : (o : Option Assignment) (a : Assignment) (P : Assignment → Type 0) → o ≡ Some a → P a → IfSome o P

@@ -67,6 +67,10 @@ pub ok_three : {A E P Q R S : Type 0} (r : Result A E) → (P → Q → R → S)
 ok_three (Ok x) f p q k = f p q k
 ok_three (Err e) f p q k = tt
 
+pub ok_four : {A E P Q R S T : Type 0} (r : Result A E) → (P → Q → R → S → T) → OnOk r P → OnOk r Q → OnOk r R → OnOk r S → OnOk r T
+ok_four (Ok x) f p q k l = f p q k l
+ok_four (Err e) f p q k l = tt
+
 -- with one more name, which none has
 once_more : (ts : List Task) (rs : List Replica) (t : TaskId) → AreHeldOnce ts rs → has_task t (task_names ts) ≡ false → has_task t (replica_names rs) ≡ false → (u : TaskId) →
     times u (t ∷ []) + (times u (task_names ts) + times u (replica_names rs)) ≤ 1

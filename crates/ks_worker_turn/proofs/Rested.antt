@@ -1,10 +1,10 @@
 -- Tasks that rest leave their replicas.
-use Rattle.std.proofs.Common.{◌≡◌, ◌<◌, ℕ, ◌+◌, ◌||◌, Bool, true, false, cond, List, [], ◌∷◌, ◌++◌, Option, Some, refl, sym, ap, subst, ◌∙◌, arith}
+use Rattle.std.proofs.Common.{◌≡◌, ◌<◌, ◌⊎◌, inl, inr, ℕ, ◌+◌, ◌||◌, Bool, true, false, cond, List, [], ◌∷◌, ◌++◌, get_or, Option, Some, refl, sym, ap, subst, ◌∙◌, arith}
 use Rattle.std.specs.Prelude.{not, nat_lt}
 use Rattle.std.specs.Option.{option_to_list}
-use Rattle.std.specs.List.{All, filter}
+use Rattle.std.specs.List.{All, Contains, filter}
 use Rattle.std.proofs.lemmas.Bool.{lt-ltb}
-use Rattle.std.proofs.lemmas.List.Elements.{All-nil, All-cons, filter-append}
+use Rattle.std.proofs.lemmas.List.Elements.{All-nil, All-cons, All-contains, All-contains_itself, filter-append}
 use Rattle.ks_plan.specs.Plan.{plan_of}
 use Rattle.ks_plan.specs.Infos.{changelog_numbers}
 use Rattle.ks_plan.specs.Drafts.{DraftView}
@@ -30,8 +30,8 @@ use Rattle.ks_worker_state.proofs.Clean.{task_clean, dirty_task}
 use Rattle.ks_worker_state.proofs.Names.{times-append, times-filter}
 use Rattle.ks_worker_state.specs.Topology.{RunsTopology}
 use Rattle.ks_worker_state.specs.Worker.{IsWorker}
-use Rattle.ks_worker_turn.specs.Lists.{HasPut}
-use Rattle.ks_worker_turn.specs.Resting.{KeepsStandbys, HaveLeft, is_generation_over, HaveRested}
+use Rattle.ks_worker_turn.specs.Lists.{HasPut, AreAmong}
+use Rattle.ks_worker_turn.specs.Resting.{KeepsStandbys, IsLeftBy, HaveLeft, is_generation_over, HaveRested}
 use Rattle.ks_worker_turn.proofs.Holding.{replicas_put}
 use Rattle.ks_worker_turn.proofs.Listing.{all_put, all_head, all_tail}
 
@@ -62,6 +62,13 @@ clean_both u xs ys =
     ap (λ l. times u (task_names l)) (filter-append is_clean_task xs ys) ∙ ap (times u) (names_both (filter is_clean_task xs) (filter is_clean_task ys))
     ∙ times-append u (clean_names xs) (clean_names ys)
 
+-- an old replica, or one that these tasks left
+abbrev pub IsLeft : List Task → List Replica → Replica → Type 0
+IsLeft ts old r = Contains old r ⊎ IsLeftBy ts r
+
+pub left_before : (ts : List Task) (old : List Replica) → All (IsLeft ts old) old
+left_before ts old k d lt = inl (All-contains_itself old k d lt)
+
 -- a clean task's replica is one of them
 pub one_rested : (t : Task) (r : Replica) (old new : List Replica) → replica_view r ≡ rested_view (task_view t) → ((d : DraftView) → IsTaskOf d t → changelogs_of r ≡ changelog_numbers (plan_of d) r.id.sub) → IsClean (task_view t) →
     HasPut old r new → HaveLeft (t ∷ []) old new
@@ -73,6 +80,7 @@ one_rested t r old new view own clean put = record {
   standbys = λ hash d setup journal m last runs held all.
       all_put (IsStandby setup journal) old new r put all
       (let h = all_head (IsHeldTask d setup journal m last) t [] held in rested_standby hash d setup journal m last t r runs h view (own d h.of) clean);
+  are = all_put (IsLeft (t ∷ []) old) old new r put (left_before (t ∷ []) old) (inr (record { task = t; among = All-contains_itself (t ∷ []) 0 t (omega arith); clean = clean; view = view }));
 }
 
 -- a dirty one leaves none
@@ -82,6 +90,7 @@ none_rested t old dirty = record {
       let none : times u (clean_names (t ∷ [])) ≡ 0 = ap (times u) (name_alone t false (dirty_task t dirty)) in
       omega (arith, none);
   standbys = λ hash d setup journal m last runs held all. all;
+  are = left_before (t ∷ []) old;
 }
 
 -- those of the tasks that are left are to come
@@ -93,12 +102,13 @@ names_rested was left t mid new k is so more u =
 
 -- when none is left, all have rested
 pub all_rested : (ts left : List Task) (rs new : List Replica) → left ≡ [] → ((u : TaskId) → times u (replica_names new) + times u (task_names (filter is_clean_task left)) ≡ times u (replica_names rs) + times u (task_names (filter is_clean_task ts))) →
-    KeepsStandbys ts rs new → HaveLeft ts rs new
-all_rested ts left rs new none names kept = record {
+    KeepsStandbys ts rs new → All (IsLeft ts rs) new → HaveLeft ts rs new
+all_rested ts left rs new none names kept are = record {
   names = λ u.
       let empty : times u (clean_names left) ≡ 0 = ap (λ l. times u (clean_names l)) none in
       omega (arith, names u, empty);
   standbys = kept;
+  are = are;
 }
 
 -- ---- the last of a list
@@ -110,6 +120,27 @@ module _ {A : Type 0} (P : A → Type 0) where
   pub front_of : (xs : List A) (x : A) → All P (xs ++ x ∷ []) → All P xs
   front_of [] x all = All-nil P
   front_of (y ∷ ys) x all = All-cons P y ys (all_head P y (ys ++ x ∷ []) all) (front_of ys x (all_tail P y (ys ++ x ∷ []) all))
+
+-- the last of those that are left is one of the tasks
+pub last_among : (ts was left : List Task) (t : Task) → was ≡ left ++ t ∷ [] → AreAmong was ts → Contains ts t
+last_among ts was left t is among = last_of (Contains ts) left t (subst (All (Contains ts)) is among)
+
+pub front_among : (ts was left : List Task) (t : Task) → was ≡ left ++ t ∷ [] → AreAmong was ts → AreAmong left ts
+front_among ts was left t is among = front_of (Contains ts) left t (subst (All (Contains ts)) is among)
+
+-- what it left with the others is one of theirs
+pub left_more : (ts was left : List Task) (t : Task) (rs mid new : List Replica) → was ≡ left ++ t ∷ [] → AreAmong was ts → All (IsLeft ts rs) mid → HaveLeft (t ∷ []) mid new → All (IsLeft ts rs) new
+left_more ts was left t rs mid new is among before more k d lt = by (get_or new k d) (more.are k d lt)
+  where
+    by : (r : Replica) → IsLeft (t ∷ []) mid r → IsLeft ts rs r
+    by r (inl there) = All-contains (IsLeft ts rs) mid r before there
+    by r (inr h) =
+        inr (record {
+          task = h.task;
+          among = All-contains (Contains ts) (t ∷ []) h.task (All-cons (Contains ts) t [] (last_among ts was left t is among) (All-nil (Contains ts))) h.among;
+          clean = h.clean;
+          view = h.view;
+        })
 
 pub popped : {A : Type 0} (old new : List A) (o : Option A) (x : A) → o ≡ Some x → old ≡ new ++ option_to_list o → old ≡ new ++ x ∷ []
 popped old new o x is e = e ∙ ap (λ p. new ++ option_to_list p) is

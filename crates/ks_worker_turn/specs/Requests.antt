@@ -2,6 +2,13 @@
 use Rattle.std.specs.Prelude.{◌≡◌, ℕ, ◌==◌, Bool, true, false, List, [], ◌∷◌, ◌++◌, replicate}
 use Rattle.ks_history.specs.declared.journal.Request.{Request}
 use Rattle.ks_history.specs.declared.journal.Request.TheVariants.{Init, MarkNext, Join, Assign, Park, Unpark}
+use Rattle.ks_history.specs.declared.journal.Entry.{Entry}
+use Rattle.ks_history.specs.declared.journal.Reply.TheVariants.{Number}
+use Rattle.ks_history.specs.Machine.{TaskPlan}
+use Rattle.ks_history.specs.Touched.{touched}
+use Rattle.ks_growing.specs.Passes.{PassView}
+use Rattle.ks_shared.specs.declared.state.Frame.{Frame}
+use Rattle.ks_worker_client.specs.Calls.{Later, Wrote}
 use Rattle.ks_worker_state.specs.Gained.{HasMade, HasMadeOnly}
 use Rattle.ks_worker_state.specs.declared.state.WorkerState.{WorkerState}
 
@@ -23,8 +30,18 @@ MakesTurn old new = HasMadeOnly (is_of_turn old.member.number old.member.instanc
 abbrev pub joining : ℕ → ℕ → List Request
 joining w marks = Init w ∷ replicate marks (MarkNext w) ++ Join w ∷ []
 
+-- its producer began an epoch at a moment, and the worker remembers that epoch, that moment's last use of its number, and that nothing
+-- was sent in it
+pub record HasBegunEpoch {W G : Type 0} (plan : W → TaskPlan) (old new : WorkerState W G) : Type 0 where
+  pub moment : PassView Entry (Frame W)
+  pub wrote : Wrote plan old.session.client.pass moment (Init old.member.number) (Number new.member.epoch)
+  pub before : Later plan moment new.session.client.pass
+  pub last : new.session.last ≡ touched old.member.number moment.seen
+  pub sent : new.session.numbers.items ≡ []
+
 -- it joined where it was no member, by these requests alone; who was one made none
-pub record HasJoined {W G : Type 0} (old new : WorkerState W G) : Type 0 where
+pub record HasJoined {W G : Type 0} (plan : W → TaskPlan) (old new : WorkerState W G) : Type 0 where
   pub member : old.member.is_member ≡ true → new.session.client.pass.made ≡ old.session.client.pass.made
   pub joined : old.member.is_member ≡ false →
       (marks : ℕ) × HasMade old.session.client.pass new.session.client.pass (joining old.member.number marks)
+  pub epoch : old.member.is_member ≡ false → HasBegunEpoch plan old new

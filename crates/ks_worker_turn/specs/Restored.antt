@@ -9,11 +9,12 @@ use Rattle.ks_worker_state.specs.declared.state.WorkerState.{WorkerState}
 use Rattle.ks_worker_state.specs.Names.{task_names}
 use Rattle.ks_worker_state.specs.Restoring.{IsGivenBack}
 use Rattle.ks_worker_turn.specs.Held.{HasTakenPlaces}
+use Rattle.ks_worker_turn.specs.Lists.{AreAmong}
 use Rattle.ks_worker_turn.specs.Places.{has_place}
 
--- each task that it had it has
+-- each task that it had it has, with what is in it
 abbrev pub KeepsTasks : {W G : Type 0} → WorkerState W G → WorkerState W G → Type 0
-KeepsTasks old new = (u : TaskId) → has_task u (task_names old.tasks.items) ≡ true → has_task u (task_names new.tasks.items) ≡ true
+KeepsTasks old new = AreAmong old.tasks.items new.tasks.items
 
 -- its replica of this task was given back since
 pub record IsKeptBack {W G : Type 0} (plan : W → TaskPlan) (old new : WorkerState W G) (t : TaskId) : Type 0 where
@@ -29,9 +30,10 @@ IsRestored plan t old new = (has_task t (task_names new.tasks.items) ≡ true) �
 abbrev pub HasRestored : {W G : Type 0} → (W → TaskPlan) → Assignment → List TaskId → WorkerState W G → WorkerState W G → Type 0
 HasRestored plan a tasks old new = (t : TaskId) → has_task t tasks ≡ true → has_place t old.member.number a.active ≡ true → old.member.is_member ≡ true → IsRestored plan t old new
 
--- it took its places of a generation's assignment, which is its own now if it is newer, and each task that is active with it is one, or
--- can't be yet
+-- it took its places of a generation's assignment, which is its own now if it is newer: it has the tasks that it had, and each task that
+-- is active with it, or that can't be one yet
 pub record HasTakenAll {W G : Type 0} (plan : W → TaskPlan) (tasks : List TaskId) (generation : ℕ) (a : Assignment) (old new : WorkerState W G) : Type 0 where
   pub member : new.member ≡ record old.member { generation = max old.member.generation generation }
   pub taken : HasTakenPlaces tasks generation a old new
+  pub kept : KeepsTasks old new
   pub restored : HasRestored plan a tasks old new

@@ -41,6 +41,8 @@ pub fn new_assignment(
         (tasks (plan_in topology.now)) placing.now told.now)) }
     ensures none { IfOk result (λ o. o ≡ None → (told.now.assignment ≢ None)
         ⊎ (clients_of placing.now.threads told.now.members ≡ [])) }
+    ensures some { IfOk result (λ o. o ≢ None → clients_of placing.now.threads
+        told.now.members ≢ []) }
 {
     if told.assignment.is_some() {
         return Ok(None);
@@ -73,7 +75,7 @@ fn offer_assignment<R: Wait, W: Work, G: Gate>(
     ensures told { IfOk result (λ o. IfSome o (λ a. WasAssigned W.plan client.old.pass
         client.new.pass generation)) }
     ensures offered { IfOk result (λ o. HasOffered W.plan client.old.pass client.new.pass
-        number generation assignment (o ≡ Some assignment)) }
+        number generation assignment (λ moment. o ≡ Some assignment) (o ≡ None)) }
 {
     let answer = client.assign(rt, alloc, shared, number, generation, &assignment)?;
     let Ok(taken) = answer else {
@@ -112,7 +114,9 @@ pub fn assignment_of<R: Wait, W: Work, G: Gate>(
     ensures given { IfOk result (λ o. told.assignment ≢ None → o ≡ told.assignment) }
     ensures offered { IfOk result (λ o. told.assignment ≡ None
         → IfSome offer (λ a. HasOffered W.plan
-        client.old.pass client.new.pass number told.generation a (o ≡ Some a))) }
+        client.old.pass client.new.pass number told.generation a
+        (λ moment. o ≡ Some a) (o ≡ None))) }
+    ensures idle { IfOk result (λ o. told.assignment ≡ None → offer ≡ None → o ≡ None) }
 {
     if told.assignment.is_some() {
         return Ok(told.assignment);

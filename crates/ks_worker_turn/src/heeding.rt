@@ -94,6 +94,8 @@ pub fn heed_status<R: Wait, W: Work, G: Gate>(
         ≡ counts_after state.old.session.client.gate result }
     ensures later { LaterState W.plan state.old state.new }
     ensures made { state.new.session.client.pass.made ≡ state.old.session.client.pass.made }
+    ensures last { state.new.session.last ≡ state.old.session.last }
+    ensures numbers { state.new.session.numbers ≡ state.old.session.numbers }
     ensures worker { OnOk result (KeepsWorker W.plan state.old state.new) }
     ensures status { IfOk result (λ s. s ≡ status
         (setup_in W.plan state.old.session.client.pass.frame)

@@ -6,7 +6,7 @@ ghost use Rattle.ks_worker_client.specs.Calls.{MayCall, Later};
 ghost use Rattle.ks_worker_state.specs.Gained.{HasMade};
 ghost use Rattle.ks_worker_state.specs.State.{LaterState};
 ghost use Rattle.ks_worker_turn.specs.Acting.{KeepsWorker};
-ghost use Rattle.ks_worker_turn.specs.Requests.{MakesTurn, joining};
+ghost use Rattle.ks_worker_turn.specs.Requests.{MakesTurn, joining, HasBegunEpoch};
 
 use ks_cluster::Work;
 use ks_edge::Gate;
@@ -33,6 +33,7 @@ fn begin_epoch<R: Wait, W: Work, G: Gate>(
     ensures made { OnOk result (HasMade state.old.session.client.pass
         state.new.session.client.pass (Init state.old.member.number ∷ [])) }
     ensures worker { OnOk result (KeepsWorker W.plan state.old state.new) }
+    ensures begun { OnOk result (HasBegunEpoch W.plan state.old state.new) }
     ensures outside { state.new.member.is_member ≡ state.old.member.is_member }
     ensures generation { state.new.member.generation ≡ state.old.member.generation }
     ensures tasks { state.new.tasks ≡ state.old.tasks }
@@ -115,6 +116,8 @@ pub fn join_group<R: Wait, W: Work, G: Gate>(
     ensures joined { OnOk result (state.old.member.is_member ≡ false
         → (marks : ℕ) × HasMade state.old.session.client.pass state.new.session.client.pass
         (joining state.old.member.number marks)) }
+    ensures begun { OnOk result (state.old.member.is_member ≡ false
+        → HasBegunEpoch W.plan state.old state.new) }
     ensures nothing { state.old.member.is_member ≡ true → state.new ≡ state.old }
 {
     if state.member.is_member {

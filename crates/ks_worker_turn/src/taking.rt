@@ -244,6 +244,7 @@ fn take_all<H: Hash128, R: Wait, W: Work, G: Gate>(
     ensures member { state.new.member ≡ state.old.member }
     ensures held { OnOk result (HoldsPlaced assignment.now state.old.member.number
         (tasks (plan_in topology.now)) state.old state.new) }
+    ensures kept { OnOk result (KeepsTasks state.old state.new) }
     ensures restored { OnOk result (HasRestored W.plan assignment.now (tasks (plan_in topology.now))
         state.old state.new) }
 {
@@ -272,6 +273,7 @@ fn take_missing<H: Hash128, R: Wait, W: Work, G: Gate>(
     ensures member { state.new.member ≡ state.old.member }
     ensures held { OnOk result (HoldsPlaced assignment.now state.old.member.number
         (tasks (plan_in topology.now)) state.old state.new) }
+    ensures kept { OnOk result (KeepsTasks state.old state.new) }
     ensures restored { OnOk result (HasRestored W.plan assignment.now (tasks (plan_in topology.now))
         state.old state.new) }
 {
@@ -346,6 +348,7 @@ pub fn take_places<H: Hash128, R: Wait, W: Work, G: Gate>(
         ≡ record state.old.member { generation = max state.old.member.generation generation }) }
     ensures taken { OnOk result (HasTakenPlaces (tasks (plan_in topology.now)) generation
         assignment.now state.old state.new) }
+    ensures kept { OnOk result (KeepsTasks state.old state.new) }
     ensures restored { OnOk result (HasRestored W.plan assignment.now (tasks (plan_in topology.now))
         state.old state.new) }
 {

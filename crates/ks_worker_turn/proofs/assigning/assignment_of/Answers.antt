@@ -1,6 +1,6 @@
 use Rattle.ks_worker_client.proofs.Moments.{not_later}
 use Rattle.ks_worker_turn.proofs.Assigned.{told_so}
-use Rattle.ks_worker_turn.proofs.Offered.{good_at, has_one, has_none, of_offer, of_none}
+use Rattle.ks_worker_turn.proofs.Offered.{good_at, has_one, has_none, of_offer, of_none, some_not_none}
 use Rattle.ks_worker_turn.proofs.Placed.{some_said, if_ok_with}
 use Rattle.ks_worker_turn.specs.Placing.{MayOffer}
 use Rattle.std.proofs.Common.{refl, sym, ◌∙◌}
@@ -42,3 +42,12 @@ returns-clause-given g c = if_ok_with c.offer_assignment.result (λ o some. absu
 
 pub returns-clause-offered : goal.returns-clause-offered
 returns-clause-offered g c = IfOk-weaker c.offer_assignment.result _ _ (λ o h none. of_offer c.args.offer c.in-Some.assignment _ c.in-Some.is h) c.offer_assignment.ensures.offered
+
+pub returns-then-is_some-clause-idle : goal.returns-then-is_some-clause-idle
+returns-then-is_some-clause-idle g c = λ none idle. absurd (has_one c.args.told.assignment (sym c.is_some.ensures ∙ c.if-is_some.true) none)
+
+pub returns-in_default-clause-idle : goal.returns-in_default-clause-idle
+returns-in_default-clause-idle g c = λ none idle. refl
+
+pub returns-clause-idle : goal.returns-clause-idle
+returns-clause-idle g c = if_ok_with c.offer_assignment.result (λ o none idle. absurd (some_not_none c.args.offer c.in-Some.assignment c.in-Some.is idle))

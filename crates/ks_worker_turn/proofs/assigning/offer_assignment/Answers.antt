@@ -6,7 +6,7 @@ use Rattle.ks_worker_turn.proofs.Assigned.{taken_so}
 use Rattle.std.proofs.lemmas.Bool.{eq-eqb}
 use Rattle.ks_worker_state.proofs.Gains.{only_one}
 use Rattle.ks_worker_turn.specs.Requests.{is_of_turn}
-use Rattle.ks_worker_turn.proofs.Offered.{offered_now, not_taken, was_refused}
+use Rattle.ks_worker_turn.proofs.Offered.{offered_now, not_taken, was_refused, was_taken}
 use Rattle.ks_worker_turn.proofs.assigning.offer_assignment.Goals as goal
 
 pub returns-clause-told : goal.returns-clause-told
@@ -20,7 +20,8 @@ returns-clause-made g c = λ instance.
 
 pub returns-clause-offered : goal.returns-clause-offered
 returns-clause-offered g c =
-    offered_now g.W.Work.plan c.args.client.now.pass c.assign.new.self.pass c.args.number c.args.generation c.args.assignment (truth_or c.in_ok-answer.answer) _ c.assign.ensures.later c.in_ok-answer.ensures.wrote (λ e. refl)
+    offered_now g.W.Work.plan c.args.client.now.pass c.assign.new.self.pass c.args.number c.args.generation c.args.assignment (truth_or c.in_ok-answer.answer) _ _ c.assign.ensures.later c.in_ok-answer.ensures.wrote (λ e. refl)
+    (was_taken c.in_ok-answer.answer c.in-Ok.taken c.in-Ok.is c.if-not-taken.false)
 
 pub returns-then-not-taken-clause-made : goal.returns-then-not-taken-clause-made
 returns-then-not-taken-clause-made g c = λ instance.
@@ -28,7 +29,7 @@ returns-then-not-taken-clause-made g c = λ instance.
 
 pub returns-then-not-taken-clause-offered : goal.returns-then-not-taken-clause-offered
 returns-then-not-taken-clause-offered g c =
-    offered_now g.W.Work.plan c.args.client.now.pass c.assign.new.self.pass c.args.number c.args.generation c.args.assignment (truth_or c.in_ok-answer.answer) _ c.assign.ensures.later c.in_ok-answer.ensures.wrote (λ e. absurd (not_taken c.in_ok-answer.answer c.in-Ok.taken c.in-Ok.is c.if-not-taken.true e))
+    offered_now g.W.Work.plan c.args.client.now.pass c.assign.new.self.pass c.args.number c.args.generation c.args.assignment (truth_or c.in_ok-answer.answer) _ _ c.assign.ensures.later c.in_ok-answer.ensures.wrote (λ e. absurd (not_taken c.in_ok-answer.answer c.in-Ok.taken c.in-Ok.is c.if-not-taken.true e)) (λ e. refl)
 
 pub returns-in_default-clause-made : goal.returns-in_default-clause-made
 returns-in_default-clause-made g c = λ instance.
@@ -36,4 +37,4 @@ returns-in_default-clause-made g c = λ instance.
 
 pub returns-in_default-clause-offered : goal.returns-in_default-clause-offered
 returns-in_default-clause-offered g c =
-    offered_now g.W.Work.plan c.args.client.now.pass c.assign.new.self.pass c.args.number c.args.generation c.args.assignment (truth_or c.in_ok-answer.answer) _ c.assign.ensures.later c.in_ok-answer.ensures.wrote (λ e. absurd (was_refused c.in_ok-answer.answer c.in_default.not-Ok e))
+    offered_now g.W.Work.plan c.args.client.now.pass c.assign.new.self.pass c.args.number c.args.generation c.args.assignment (truth_or c.in_ok-answer.answer) _ _ c.assign.ensures.later c.in_ok-answer.ensures.wrote (λ e. absurd (was_refused c.in_ok-answer.answer c.in_default.not-Ok e)) (λ e. refl)

@@ -77,4 +77,5 @@ returns-clause-begun g c =
     (ap (λ v. v.items) c.join_group.ensures.tasks) (ap (λ v. v.items) c.join_group.ensures.replicas)
     (told_state g.W.Work.plan one two c.in_ok-status.status c.heed_status.ensures.later.later c.in_ok-status.ensures.status)
     c.in_ok-status.ensures.rested c.in_ok-status.ensures.member
-    (has_joined g.W.Work.plan s one two c.heed_status.ensures.later.later c.join_group.ensures.nothing c.in_ok-join_group.ensures.joined c.heed_status.ensures.made) c.in_ok-place_tasks.ensures.placed
+    (has_joined g.W.Work.plan s one two c.heed_status.ensures.later.later c.join_group.ensures.nothing c.in_ok-join_group.ensures.joined c.heed_status.ensures.made
+    c.in_ok-join_group.ensures.begun (ap (λ (m : Member). m.epoch) c.in_ok-status.ensures.member) c.heed_status.ensures.last (ap (λ v. v.items) c.heed_status.ensures.numbers)) c.in_ok-place_tasks.ensures.placed

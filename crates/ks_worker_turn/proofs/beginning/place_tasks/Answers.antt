@@ -13,13 +13,13 @@ use Rattle.ks_worker_turn.proofs.Keeping.{acts_on, later_still}
 use Rattle.ks_worker_turn.proofs.Offered.{may_offers}
 use Rattle.ks_worker_turn.proofs.Assigned.{own_or_told, told_past}
 use Rattle.ks_worker_turn.specs.Acting.{WasAssigned}
-use Rattle.ks_worker_turn.proofs.Placed.{generation_later, some_said, ok_three}
-use Rattle.ks_worker_turn.proofs.Activated.{all_since}
+use Rattle.ks_worker_turn.proofs.Placed.{generation_later, some_said, ok_four}
+use Rattle.ks_worker_turn.proofs.Activated.{taken_all}
 use Rattle.ks_worker_state.proofs.Gains.{only_then}
 use Rattle.ks_worker_turn.specs.Requests.{is_of_turn}
+use Rattle.ks_worker_turn.specs.Beginning.{at_moment}
 use Rattle.ks_worker_turn.specs.Restored.{HasTakenAll}
-use Rattle.ks_worker_turn.proofs.Begun.{placed, only_newer, nothing_took, took_it}
-use Rattle.ks_worker_turn.proofs.Taken.{taken_from}
+use Rattle.ks_worker_turn.proofs.Begun.{placed, only_newer, nothing_took, took_it, none_stays}
 use Rattle.ks_worker_turn.proofs.beginning.place_tasks.Goals as goal
 
 pub assignment_of-requires-clause-offer : goal.assignment_of-requires-clause-offer
@@ -74,11 +74,16 @@ returns-in_default-clause-made g c = c.in_ok-answer.ensures.made c.args.state.no
 pub returns-in_default-clause-placed : goal.returns-in_default-clause-placed
 returns-in_default-clause-placed g c =
     let s = c.args.state.now in
+    let none = c.in_default.is in
     placed g.W.Work.plan c.args.placing.now.threads (tasks (plan_in c.args.topology.now)) s (record s { session = record s.session { client = c.assignment_of.new.client } }) c.args.told c.requires.status c.in_ok-offer.offer c.in_ok-answer.answer
     c.assignment_of.new.client.pass (later_still g.W.Work.plan s.session.client.pass c.assignment_of.new.client.pass c.assignment_of.ensures.later)
     refl
     (was_ok_with c.new_assignment.result _ c.in_ok-offer.offer (sym c.or_halt.ensures ∙ c.in_ok-offer.was) c.new_assignment.ensures.none)
-    c.in_ok-answer.ensures.given c.in_ok-answer.ensures.offered (nothing_took c.in_ok-answer.answer _ c.in_default.is)
+    c.in_ok-answer.ensures.given
+    (was_ok_with c.new_assignment.result _ c.in_ok-offer.offer (sym c.or_halt.ensures ∙ c.in_ok-offer.was) c.new_assignment.ensures.some)
+    c.in_ok-answer.ensures.idle c.in_ok-answer.ensures.offered (nothing_took c.in_ok-answer.answer _ none)
+    (λ moment later. nothing_took c.in_ok-answer.answer _ none)
+    (λ stays. record { member = refl; tasks = refl; replicas = refl })
 
 pub returns-clause-made : goal.returns-clause-made
 returns-clause-made g c =
@@ -91,16 +96,19 @@ pub returns-clause-placed : goal.returns-clause-placed
 returns-clause-placed g c =
     let s = c.args.state.now in
     let n = c.take_places.new.state in
-    ok_three c.take_places.result
-    (λ h restored member. placed g.W.Work.plan c.args.placing.now.threads (tasks (plan_in c.args.topology.now)) s n c.args.told c.requires.status c.in_ok-offer.offer c.in_ok-answer.answer
-    c.assignment_of.new.client.pass c.take_places.ensures.later.later
+    let client = c.assignment_of.new.client in
+    let ts = tasks (plan_in c.args.topology.now) in
+    ok_four c.take_places.result
+    (λ h kept restored member. placed g.W.Work.plan c.args.placing.now.threads ts s n c.args.told c.requires.status c.in_ok-offer.offer c.in_ok-answer.answer
+    client.pass c.take_places.ensures.later.later
     (only_newer s.member n.member (max s.member.generation c.args.told.generation) member)
     (was_ok_with c.new_assignment.result _ c.in_ok-offer.offer (sym c.or_halt.ensures ∙ c.in_ok-offer.was) c.new_assignment.ensures.none)
-    c.in_ok-answer.ensures.given c.in_ok-answer.ensures.offered
-    (took_it c.in_ok-answer.answer c.in-Some.assignment (λ a. HasTakenAll g.W.Work.plan (tasks (plan_in c.args.topology.now)) c.args.told.generation a s n) c.in-Some.is
-    (record {
-      member = member;
-      taken = taken_from g.W.Work.plan (tasks (plan_in c.args.topology.now)) c.args.told.generation c.in-Some.assignment s n c.assignment_of.new.client c.assignment_of.ensures.later h;
-      restored = all_since g.W.Work.plan s (record s { session = record s.session { client = c.assignment_of.new.client } }) n c.in-Some.assignment (tasks (plan_in c.args.topology.now)) c.assignment_of.ensures.later refl refl restored;
-    })))
-    c.take_places.ensures.taken c.take_places.ensures.restored c.take_places.ensures.member
+    c.in_ok-answer.ensures.given
+    (was_ok_with c.new_assignment.result _ c.in_ok-offer.offer (sym c.or_halt.ensures ∙ c.in_ok-offer.was) c.new_assignment.ensures.some)
+    c.in_ok-answer.ensures.idle c.in_ok-answer.ensures.offered
+    (took_it c.in_ok-answer.answer c.in-Some.assignment (λ a. HasTakenAll g.W.Work.plan ts c.args.told.generation a s n) c.in-Some.is
+    (taken_all g.W.Work.plan ts c.args.told.generation c.in-Some.assignment s n client c.assignment_of.ensures.later member h kept restored))
+    (λ moment later. took_it c.in_ok-answer.answer c.in-Some.assignment (λ a. HasTakenAll g.W.Work.plan ts c.args.told.generation a (at_moment s moment) n) c.in-Some.is
+    (taken_all g.W.Work.plan ts c.args.told.generation c.in-Some.assignment (at_moment s moment) n client later member h kept restored))
+    (none_stays c.in_ok-answer.answer c.in-Some.assignment c.in-Some.is))
+    c.take_places.ensures.taken c.take_places.ensures.kept c.take_places.ensures.restored c.take_places.ensures.member

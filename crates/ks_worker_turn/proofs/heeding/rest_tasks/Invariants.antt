@@ -7,7 +7,9 @@ use Rattle.ks_history.specs.State.{Setup}
 use Rattle.ks_worker_client.specs.declared.member.Member.{Member}
 use Rattle.ks_worker_state.specs.Names.{task_names, replica_names, times}
 use Rattle.ks_worker_state.specs.Tasks.{IsHeldTask, is_clean_task}
+use Rattle.ks_worker_turn.specs.Lists.{AreAmong}
 use Rattle.ks_worker_turn.specs.Resting.{KeepsStandbys}
+use Rattle.ks_worker_turn.proofs.Rested.{IsLeft}
 use Rattle.ks_worker_turn.proofs.heeding.rest_tasks.Given as goal
 
 -- what is left is the worker's, the replicas follow, and with the clean ones that are left they have the names that they are to have
@@ -17,6 +19,8 @@ invariant-loop-task l = record {
   names : (t : TaskId) → times t (replica_names l.replicas.items) + times t (task_names (filter is_clean_task l.tasks.items))
       ≡ times t (replica_names l.fn.replicas.items) + times t (task_names (filter is_clean_task l.fn.tasks.items));
   kept : KeepsStandbys l.fn.tasks.items l.fn.replicas.items l.replicas.items;
+  among : AreAmong l.tasks.items l.fn.tasks.items;
+  are : All (IsLeft l.fn.tasks.items l.fn.replicas.items) l.replicas.items;
 }
 
 abbrev pub decreases-loop-task : goal.decreases-loop-task

@@ -2,7 +2,7 @@ use Rattle.std.proofs.Common.{true}
 use Rattle.ks_worker_state.proofs.Workers.{worker_later}
 use Rattle.ks_worker_turn.proofs.Keeping.{network_later}
 use Rattle.ks_worker_turn.proofs.Joined.{now_listed}
-use Rattle.ks_worker_turn.proofs.Requests.{joined_on, joined_only}
+use Rattle.ks_worker_turn.proofs.Requests.{joined_on, joined_only, epoch_then}
 use Rattle.ks_worker_turn.proofs.joining.join_group.Goals as goal
 
 pub returns-clause-worker : goal.returns-clause-worker
@@ -21,3 +21,6 @@ returns-clause-made g c =
 pub returns-clause-joined : goal.returns-clause-joined
 returns-clause-joined g c = λ outside.
     joined_on g.W.Work.plan c.args.state.now c.begin_epoch.new.state c.enter_group.new.client.pass c.begin_epoch.ensures.later c.in_ok-begin_epoch.ensures.made c.in_ok-enter_group.ensures.made
+
+pub returns-clause-begun : goal.returns-clause-begun
+returns-clause-begun g c = λ outside. epoch_then g.W.Work.plan c.args.state.now c.begin_epoch.new.state c.enter_group.new.client true c.enter_group.ensures.later c.in_ok-begin_epoch.ensures.begun

@@ -6,7 +6,8 @@ use Rattle.ks_worker_state.proofs.Gains.{only_none}
 use Rattle.ks_worker_state.specs.Names.{task_names, replica_names}
 use Rattle.ks_worker_turn.specs.Requests.{is_of_turn}
 use Rattle.ks_worker_turn.proofs.Taken.{one_replica_more, one_task_more}
-use Rattle.ks_worker_turn.proofs.Activated.{task_kept, task_added, given_back}
+use Rattle.ks_worker_turn.proofs.Activated.{task_added, given_back}
+use Rattle.ks_worker_turn.proofs.Listing.{among_put, among_itself}
 use Rattle.ks_worker_turn.proofs.taking.activate.Goals as goal
 
 pub returns-in-Ok-clause-worker : goal.returns-in-Ok-clause-worker
@@ -57,10 +58,10 @@ returns-in-Err-clause-held g c =
 
 pub returns-in-Ok-clause-kept : goal.returns-in-Ok-clause-kept
 returns-in-Ok-clause-kept g c =
-    halted_ok c.or_halt.result c.put_task.result c.or_halt.ensures (λ put. task_kept c.args.state.now.tasks.items c.put_task.new.tasks.items c.in-Ok.task put) c.put_task.ensures
+    halted_ok c.or_halt.result c.put_task.result c.or_halt.ensures (λ put. among_put c.args.state.now.tasks.items c.put_task.new.tasks.items c.in-Ok.task put) c.put_task.ensures
 
 pub returns-in-Err-clause-kept : goal.returns-in-Err-clause-kept
-returns-in-Err-clause-kept g c = where_ok c.or_halt-in-Err.result (λ u there. there)
+returns-in-Err-clause-kept g c = where_ok c.or_halt-in-Err.result (among_itself c.args.state.now.tasks.items)
 
 pub returns-in-Ok-clause-restored : goal.returns-in-Ok-clause-restored
 returns-in-Ok-clause-restored g c =

@@ -6,7 +6,8 @@ use Rattle.ks_worker_turn.proofs.Placed.{known_later}
 use Rattle.ks_worker_client.proofs.Moments.{not_later}
 use Rattle.ks_worker_turn.proofs.Requests.{turn_none, turn_then}
 use Rattle.ks_worker_turn.proofs.Taken.{placed_start, placed_next, placed_whole}
-use Rattle.ks_worker_turn.proofs.Activated.{restored_start, restored_next, restored_whole}
+use Rattle.ks_worker_turn.proofs.Activated.{restored_start, restored_next, restored_whole, tasks_on}
+use Rattle.ks_worker_turn.proofs.Listing.{among_itself}
 use Rattle.ks_worker_turn.proofs.taking.take_all.Goals as goal
 
 pub take_assigned-requires-clause-may : goal.take_assigned-requires-clause-may
@@ -26,6 +27,7 @@ loop-i-init g c = record {
   member = refl;
   made = turn_none g.W.Work.plan c.args.state.now c.args.state.now (not_later g.W.Work.plan c.args.state.now.session.client.pass c.requires.may.call.history) refl;
   held = placed_start c.args.assignment.now c.args.state.now.member.number c.args.state.now;
+  kept = among_itself c.args.state.now.tasks.items;
   restored = restored_start g.W.Work.plan c.args.state.now c.args.assignment.now;
 }
 
@@ -37,6 +39,7 @@ loop-i-preserved g c = record {
   made = turn_then g.W.Work.plan c.args.state.now c.loop-i.state c.take_assigned.new.state c.loop-i.invariant.later c.loop-i.invariant.made c.in_ok-take_assigned.ensures.made;
   held = placed_next g.W.Work.plan c.args.state.now c.loop-i.state c.take_assigned.new.state c.args.assignment.now c.tasks-tasks.result.now c.loop-i.i _ c.loop-i-test.true c.loop-i.invariant.later c.loop-i.invariant.held c.in_ok-take_assigned.ensures.held;
   member = c.take_assigned.ensures.member ∙ c.loop-i.invariant.member;
+  kept = tasks_on g.W.Work.plan c.args.state.now c.loop-i.state c.take_assigned.new.state c.loop-i.invariant.kept c.in_ok-take_assigned.ensures.kept;
   restored = restored_next g.W.Work.plan c.args.state.now c.loop-i.state c.take_assigned.new.state c.args.assignment.now c.tasks-tasks.result.now c.loop-i.i _ c.loop-i-test.true c.loop-i.invariant.later.later c.take_assigned.ensures.later.later
       c.loop-i.invariant.member c.take_assigned.ensures.member c.in_ok-take_assigned.ensures.kept c.loop-i.invariant.restored c.in_ok-take_assigned.ensures.restored;
 }

@@ -3,7 +3,7 @@ use Rattle.ks_topo.specs.Topologies.{draft_of}
 use Rattle.ks_worker_state.specs.State.{IsWorkerState, LaterState}
 use Rattle.ks_worker_turn.specs.Held.{HoldsPlaced}
 use Rattle.ks_worker_turn.specs.Requests.{MakesTurn}
-use Rattle.ks_worker_turn.specs.Restored.{HasRestored}
+use Rattle.ks_worker_turn.specs.Restored.{KeepsTasks, HasRestored}
 use Rattle.ks_worker_turn.proofs.taking.take_all.Given as goal
 
 -- a later moment, nothing was cut off, and the worker is one
@@ -15,5 +15,6 @@ invariant-loop-i g l = record {
   member : l.state.member ≡ l.fn.state.member;
   made : MakesTurn l.fn.state l.state;
   held : HoldsPlaced l.assignment l.fn.state.member.number (take l.i l.tasks) l.fn.state l.state;
+  kept : KeepsTasks l.fn.state l.state;
   restored : HasRestored g.W.Work.plan l.assignment (take l.i l.tasks) l.fn.state l.state;
 }

@@ -4,6 +4,7 @@ use Rattle.ks_worker_client.proofs.Moments.{not_later}
 use Rattle.ks_worker_turn.proofs.Requests.{turn_none}
 use Rattle.ks_worker_turn.proofs.Taken.{placed_it, placed_not}
 use Rattle.ks_worker_turn.proofs.Activated.{one_restored, none_active}
+use Rattle.ks_worker_turn.proofs.Listing.{among_itself}
 use Rattle.ks_worker_turn.proofs.taking.take_assigned.Goals as goal
 
 pub returns-then-not-is_placed-clause-made : goal.returns-then-not-is_placed-clause-made
@@ -19,7 +20,7 @@ returns-clause-held g c =
     c.take_place.ensures.held
 
 pub returns-then-not-is_placed-clause-kept : goal.returns-then-not-is_placed-clause-kept
-returns-then-not-is_placed-clause-kept g c = λ u there. there
+returns-then-not-is_placed-clause-kept g c = among_itself c.args.state.now.tasks.items
 
 pub returns-then-not-is_placed-clause-restored : goal.returns-then-not-is_placed-clause-restored
 returns-then-not-is_placed-clause-restored g c = none_active g.W.Work.plan c.args.state.now c.args.assignment.now c.args.task (sym c.is_placed.ensures ∙ c.if-not-is_placed.true)

@@ -6,6 +6,7 @@ use Rattle.ks_worker_turn.specs.Held.{AreHeld}
 use Rattle.ks_worker_turn.specs.Places.{is_placed}
 use Rattle.ks_worker_turn.proofs.Requests.{turn_none}
 use Rattle.ks_worker_turn.proofs.Taken.{placed_there}
+use Rattle.ks_worker_turn.proofs.Listing.{among_itself}
 use Rattle.ks_worker_turn.proofs.taking.take_missing.Goals as goal
 
 pub returns-then-has_places-clause-made : goal.returns-then-has_places-clause-made
@@ -21,3 +22,6 @@ returns-then-has_places-clause-held g c =
 pub returns-then-has_places-clause-restored : goal.returns-then-has_places-clause-restored
 returns-then-has_places-clause-restored g c = λ t there placed inside.
     inl (ap (λ ts. has_task t (task_names ts)) (sym c.as_slice-tasks.ensures.value) ∙ c.has_places.ensures.active c.if-has_places.true t placed)
+
+pub returns-then-has_places-clause-kept : goal.returns-then-has_places-clause-kept
+returns-then-has_places-clause-kept g c = among_itself c.args.state.now.tasks.items

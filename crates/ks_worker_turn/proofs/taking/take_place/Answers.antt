@@ -12,7 +12,8 @@ use Rattle.ks_worker_turn.specs.Held.{names_held}
 use Rattle.ks_worker_turn.proofs.Holding.{is_without}
 use Rattle.ks_worker_turn.proofs.Requests.{turn_none, turn_then}
 use Rattle.ks_worker_turn.proofs.Taken.{holds_task, holds_again, one_replica_more, one_named}
-use Rattle.ks_worker_turn.proofs.Activated.{same_tasks, named_restored}
+use Rattle.ks_worker_turn.proofs.Activated.{named_restored}
+use Rattle.ks_worker_turn.proofs.Listing.{among_itself, among_same, among_from}
 use Rattle.ks_worker_turn.proofs.taking.take_place.Goals as goal
 
 pub returns-then-not-is_active-clause-worker : goal.returns-then-not-is_active-clause-worker
@@ -84,21 +85,21 @@ returns-clause-held g c =
     c.activate.ensures.held
 
 pub returns-then-has_task_of-clause-kept : goal.returns-then-has_task_of-clause-kept
-returns-then-has_task_of-clause-kept g c = λ u there. there
+returns-then-has_task_of-clause-kept g c = among_itself c.args.state.now.tasks.items
 
 pub returns-then-has_task_of-clause-restored : goal.returns-then-has_task_of-clause-restored
 returns-then-has_task_of-clause-restored g c = λ active.
     inl (named_tasks c.args.task c.deref.result.now c.args.state.now.tasks.items c.deref.ensures.value (sym c.has_task_of.ensures ∙ c.if-has_task_of.true))
 
 pub returns-then-not-is_active-clause-kept : goal.returns-then-not-is_active-clause-kept
-returns-then-not-is_active-clause-kept g c = where_ok c.or_halt.result (same_tasks c.args.state.now.tasks.items c.replica_of.new.state.tasks.items c.replica_of.ensures.tasks)
+returns-then-not-is_active-clause-kept g c = where_ok c.or_halt.result (among_same c.args.state.now.tasks.items c.replica_of.new.state.tasks.items c.replica_of.ensures.tasks)
 
 pub returns-then-not-is_active-clause-restored : goal.returns-then-not-is_active-clause-restored
 returns-then-not-is_active-clause-restored g c = where_ok c.or_halt.result (λ active. absurd (true≢false (sym active ∙ c.if-not-is_active.true)))
 
 pub returns-clause-kept : goal.returns-clause-kept
 returns-clause-kept g c =
-    on_ok_weaker c.activate.result (λ h u there. h u (same_tasks c.args.state.now.tasks.items c.replica_of.new.state.tasks.items c.replica_of.ensures.tasks u there)) c.activate.ensures.kept
+    on_ok_weaker c.activate.result (among_from c.args.state.now.tasks.items c.replica_of.new.state.tasks.items c.activate.new.state.tasks.items c.replica_of.ensures.tasks) c.activate.ensures.kept
 
 pub returns-clause-restored : goal.returns-clause-restored
 returns-clause-restored g c =

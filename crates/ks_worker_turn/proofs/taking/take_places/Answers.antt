@@ -8,6 +8,7 @@ use Rattle.ks_shared.specs.Calls.{setup_in}
 use Rattle.ks_worker_turn.proofs.Requests.{turn_then}
 use Rattle.ks_worker_turn.proofs.Taken.{taken_places}
 use Rattle.ks_worker_turn.proofs.Activated.{all_since}
+use Rattle.ks_worker_turn.proofs.Listing.{among_from}
 use Rattle.ks_worker_client.specs.declared.member.Member.{Member}
 use Rattle.ks_worker_turn.proofs.taking.take_places.Goals as goal
 
@@ -40,3 +41,7 @@ returns-clause-restored g c =
     (λ h. all_since g.W.Work.plan s c.enter_generation.new.state c.take_missing.new.state c.args.assignment.now _ c.enter_generation.ensures.later.later
     (ap (λ (m : Member). m.number) c.in_ok-enter_generation.ensures.member) (ap (λ (m : Member). m.is_member) c.in_ok-enter_generation.ensures.member) h)
     c.take_missing.ensures.restored
+
+pub returns-clause-kept : goal.returns-clause-kept
+returns-clause-kept g c =
+    on_ok_weaker c.take_missing.result (among_from c.args.state.now.tasks.items c.enter_generation.new.state.tasks.items c.take_missing.new.state.tasks.items c.enter_generation.ensures.tasks) c.take_missing.ensures.kept

@@ -1,8 +1,8 @@
-use Rattle.std.proofs.Common.{◌≡◌, ◌≤◌, ◌+◌, ◌∙◌, sym, subst, arith}
+use Rattle.std.proofs.Common.{◌≡◌, ◌≤◌, ◌+◌, ◌∙◌, inl, inr, sym, subst, arith}
 use Rattle.ks_topo.specs.Topologies.{draft_of}
 use Rattle.ks_worker_state.proofs.States.{state_later_twice, same_state}
 use Rattle.ks_worker.specs.Running.{ShowsCalls}
-use Rattle.ks_worker.proofs.Turning.{counted_none, counted_then, counted_more, shown_none, shown_then, went_on, stopped_then, may_run_on}
+use Rattle.ks_worker.proofs.Turning.{counted_none, counted_then, counted_more, shown_none, shown_then, went_on, stopped_then, stopped_once, may_run_on}
 use Rattle.ks_worker.proofs.Taken.{one_turn_more}
 use Rattle.ks_worker.proofs.worker.Worker.run.Goals as goal
 
@@ -41,4 +41,13 @@ returns-then-branch-clause-turns g c = record {
   count = c.loop.counter + 1;
   few = omega (arith, c.loop-test.true);
   taken = one_turn_more g.W.Work.plan (draft_of c.args.topology.now) c.loop.counter c.args.self.now c.loop.self c.take_turn.new.self c.loop.invariant.turns c.in_ok-take_turn.ensures.turn;
+  ended = inr (stopped_once c.args.self.now.state.session.client.gate.stops c.loop.self.state.session.client.gate.stops c.take_turn.new.self.state.session.client.gate.stops c.in_ok-take_turn.field-0 c.loop.invariant.stops c.in_ok-take_turn.ensures.stops c.if-branch.true);
+}
+
+pub returns-clause-turns : goal.returns-clause-turns
+returns-clause-turns g c = record {
+  count = c.loop.counter;
+  few = omega (arith, c.loop.auto.counter-end);
+  taken = c.loop.invariant.turns;
+  ended = inl (omega (arith, c.loop-test.false, c.loop.auto.counter-end));
 }
