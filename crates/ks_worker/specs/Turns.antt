@@ -91,7 +91,7 @@ abbrev pub TakesTurns : {W G : Type 0} → (W → TaskPlan) → DraftView → �
 TakesTurns plan d zero old new = new ≡ old
 TakesTurns {W} {G} plan d (suc count) old new = (mid : Worker W G) × TakesTurns plan d count old mid × TakesTurn plan d mid new
 
--- so many turns, or fewer where its gate said stop in the last one
+-- so many turns, or fewer where its gate said stop once
 pub record HasTakenTurns {W G : Type 0} (plan : W → TaskPlan) (d : DraftView) (most : ℕ) (old new : Worker W G) : Type 0 where
   pub count : ℕ
   pub few : count ≤ most

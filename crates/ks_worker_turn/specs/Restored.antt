@@ -30,8 +30,8 @@ IsRestored plan t old new = (has_task t (task_names new.tasks.items) ≡ true) �
 abbrev pub HasRestored : {W G : Type 0} → (W → TaskPlan) → Assignment → List TaskId → WorkerState W G → WorkerState W G → Type 0
 HasRestored plan a tasks old new = (t : TaskId) → has_task t tasks ≡ true → has_place t old.member.number a.active ≡ true → old.member.is_member ≡ true → IsRestored plan t old new
 
--- it took its places of a generation's assignment, which is its own now if it is newer: it has the tasks that it had, and each task that
--- is active with it, or that can't be one yet
+-- it took its places of a generation's assignment, which is its own now if it is newer: it has the tasks that it had, and each one that
+-- is active with it is a task, or can't be yet
 pub record HasTakenAll {W G : Type 0} (plan : W → TaskPlan) (tasks : List TaskId) (generation : ℕ) (a : Assignment) (old new : WorkerState W G) : Type 0 where
   pub member : new.member ≡ record old.member { generation = max old.member.generation generation }
   pub taken : HasTakenPlaces tasks generation a old new
