@@ -50,15 +50,13 @@ pub struct Ended {
 /// | 7 | the sink failed, in place of each of these | a front of what they write | as theirs |
 /// | 8 | there was no memory, in a worker or elsewhere | nothing | empty |
 ///
-/// So a job whose records are within grace is answered by its query, unless a device fails, memory runs out, or rows of one key have one
-/// hash.
+/// So a job whose records are within grace is answered by its query, unless a device fails, memory runs out, or rows of a key collide.
 ///
-/// The source is read until the topology is whole. Then each record is produced as soon as its line is, while the workers run, each in a thread of its own: `threads` of them for each of so many
-/// `instances`, with `standbys` of each task. They take and commit the records, and what they leave the drain does (`ks_run_workers`, `ks_settle`); where a line is faulty or the source fails there is none.
-/// With `stop` the source is read whole first. The worker w is told its acts by the gate w, which begins for it with `chaos` and `interval`, and has the
-/// turns of `stop`; gates that are left over are dropped unasked. The journal is empty where the topology isn't known, or is refused, and with `stop` under statuses 2 and 6.
-/// With `journal` the journal's lines come last under statuses 0, 3 and 5 (`ks_journal`). A line is whole at its line feed, at its byte 65,537, or at the end of the input; the source isn't asked again once a
-/// faulty line is whole, nor after its end. The text is built whole before its first byte is written.
+/// The source is read until the topology is whole. Then each record is produced as soon as its line is, while the workers run, each in a thread of its own: `threads` of them for each of so many `instances`,
+/// with `standbys` of each task. They take and commit the records, and what they leave the drain does (`ks_run_workers`, `ks_settle`); where a line is faulty or the source fails there is none. With `stop` the
+/// source is read whole first. The worker w is told its acts by the gate w, which begins for it with `chaos` and `interval`, and has the turns of `stop`; gates that are left over are dropped unasked. The
+/// journal is empty where the topology isn't known, or is refused, and with `stop` under statuses 2 and 6. With `journal` the journal's lines come last under statuses 0, 3 and 5 (`ks_journal`). A line is whole
+/// at its line feed, at its byte 65,537, or at the end of the input; the source isn't asked again once a faulty line is whole, nor after its end. The text is built whole before its first byte is written.
 pub fn run_job<
     H: Hash128 + Send + Sync,
     R: Threads + Wait + Sync + RandomSource,

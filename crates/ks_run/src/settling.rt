@@ -1,5 +1,5 @@
 //! Runs a job's tasks over its records, until nothing is left to take.
-ghost use Rattle.std.specs.Prelude.{◌≡◌, ◌++◌, ◌<◌, ◌^◌, ℕ, List, [], IfOk, OnOk, None, cond, is_some, length, map};
+ghost use Rattle.std.specs.Prelude.{◌≡◌, ◌++◌, ◌<◌, ◌^◌, ℕ, List, [], Ok, IfOk, OnOk, None, cond, is_some, length, map};
 ghost use Rattle.ks_run_workers.specs.Left.{AreStandbysOf};
 ghost use Rattle.ks_plan.specs.Drafts.{draft_view};
 ghost use Rattle.ks_plan.specs.Infos.{topic_infos};
@@ -13,8 +13,7 @@ ghost use Rattle.ks_cluster.specs.Placed.{ArePlaced};
 ghost use Rattle.ks_job.specs.Items.{item_views};
 ghost use Rattle.ks_job_source.specs.Opening.{IsReadable};
 ghost use Rattle.ks_law_inputs.specs.Records.{HavePartitions};
-ghost use Rattle.ks_law_topology.specs.Work.{work_of, setup_of as topology_setup};
-ghost use Rattle.ks_law_topology.specs.Work.{FitsRules};
+ghost use Rattle.ks_law_topology.specs.Work.{FitsRules, work_of, setup_of as topology_setup};
 ghost use Rattle.ks_def_tasks.specs.Rules.{HaveParts, rules_of};
 ghost use Rattle.ks_words.specs.Ranges.{HasRanges};
 ghost use Rattle.ks_run_feed.specs.Wanted.{placing_of};
@@ -147,16 +146,21 @@ fn hashes_fit<H: Processing>()
     ensures { FitsRules (rules_of H.hash_of) }
 {}
 
-// The answer of a run that was cut short, and wasn't drained.
-fn end_undrained<W: Work>(cluster: Cluster<W>, status: u8, text: Vec<u8>) -> Answer
-    ensures made { (result.status ≡ status) × (result.text.items ≡ text.items) }
-    ensures left { IsLeft W.plan W.good cluster result.journal }
+// The answer of a run that was cut short, and wasn't drained, with this text.
+fn end_undrained<W: Work>(
+    cluster: Cluster<W>,
+    status: u8,
+    text: Result<Vec<u8>, AllocError>,
+) -> Result<Answer, AllocError>
+    ensures { IfOk result (λ a. (a.status ≡ status) × (text ≡ Ok a.text)
+        × IsLeft W.plan W.good cluster a.journal) }
 {
-    Answer {
+    let text = text?;
+    Ok(Answer {
         status,
         text,
         journal: cluster.into_last_journal(),
-    }
+    })
 }
 
 // The answer of a run whose records were all fed: the cluster is brought to rest.
@@ -207,8 +211,9 @@ fn end_whole<H: Processing + Send + Sync, R: Threads + Sync, W: Work + Send + Sy
 {
     match refusal_in(&wanted) {
         Some(fault) => {
-            let text = print_bad_ask(alloc, &fault)?;
-            Ok(end_undrained(cluster, BAD_ASK, text))
+            drop(replicas);
+            drop(wanted);
+            end_undrained(cluster, BAD_ASK, print_bad_ask(alloc, &fault))
         }
         None => end_settled::<H, R, W>(rt, alloc, topology, cluster, replicas, cache, wanted),
     }
@@ -243,12 +248,16 @@ fn end_by<H: Processing + Send + Sync, R: Threads + Sync, W: Work + Send + Sync>
             end_whole::<H, R, W>(rt, alloc, topology, cluster, replicas, cache, wanted)
         }
         JobEnd::Stopped(stop) => {
-            let text = print_bad_job(alloc, &stop)?;
-            Ok(end_undrained(cluster, BAD_JOB, text))
+            drop(replicas);
+            drop(wanted);
+            let text = print_bad_job(alloc, &stop);
+            drop(stop);
+            end_undrained(cluster, BAD_JOB, text)
         }
         JobEnd::Failed => {
-            let text = print_read_fault(alloc)?;
-            Ok(end_undrained(cluster, READ_FAULT, text))
+            drop(replicas);
+            drop(wanted);
+            end_undrained(cluster, READ_FAULT, print_read_fault(alloc))
         }
     }
 }

@@ -9,7 +9,7 @@ ghost use Rattle.ks_test_cluster.specs.Ours.{IsOurs};
 
 use crate::copying::{Copying, TASK};
 use crate::tables::OneRecord;
-use ks_cluster::Cluster;
+use ks_cluster::{Cluster, Status};
 use ks_record::{Assignment, PartId, Rec, Refused, Seq, SharedRecords, TaskId};
 use std::alloc::{AllocError, Global};
 
@@ -459,8 +459,7 @@ fn push_ends(text: &mut String, ends: &[(PartId, u64)]) -> Result<(), AllocError
     Ok(())
 }
 
-fn status(alloc: Global, cluster: &Cluster<Copying>) -> Result<String, AllocError> {
-    let status = cluster.status(alloc)?;
+fn status_text(alloc: Global, status: &Status) -> Result<String, AllocError> {
     let mut text = String::new(alloc);
     writeln!(
         text,
@@ -472,6 +471,11 @@ fn status(alloc: Global, cluster: &Cluster<Copying>) -> Result<String, AllocErro
     push_held(&mut text, status.held.as_slice())?;
     push_ends(&mut text, status.ends.as_slice())?;
     Ok(text)
+}
+
+fn status(alloc: Global, cluster: &Cluster<Copying>) -> Result<String, AllocError> {
+    let status = cluster.status(alloc)?;
+    status_text(alloc, &status)
 }
 
 // Makes a call that reads, and answers with a text.

@@ -1,5 +1,6 @@
 //! A work whose task copies its input to its changelog.
 ghost use Rattle.std.specs.Prelude.{◌≡◌, ◌∷◌, [], IfOk};
+ghost use Rattle.ks_law_exactly_once.specs.Example.{setup};
 ghost use Rattle.ks_test_cluster.specs.Ours.{IsOurs};
 
 use ks_cluster::{Cluster, Work};
@@ -42,20 +43,42 @@ impl Work for Copying {
     ghost network = { λ work. is_network };
 }
 
+fn counts(alloc: Global) -> Result<Vec<u8>, AllocError>
+    ensures { IfOk result (λ v. v.items ≡ setup.counts) }
+{
+    Vec::from_slice(alloc, &[1, 1])
+}
+
+fn tasks(alloc: Global) -> Result<Vec<TaskId>, AllocError>
+    ensures { IfOk result (λ v. v.items ≡ setup.tasks) }
+{
+    Vec::from_slice(alloc, &[TASK])
+}
+
+// A cluster with these partitions and tasks.
+fn cluster_of(
+    alloc: Global,
+    counts: Vec<u8>,
+    tasks: Vec<TaskId>,
+) -> Result<Cluster<Copying>, AllocError>
+    requires counts { counts.items ≡ setup.counts }
+    requires tasks { tasks.items ≡ setup.tasks }
+    ensures ours { IfOk result IsOurs }
+    ensures new { IfOk result (λ c. c.journal ≡ []) }
+{
+    let work = Copying {
+        inputs: [0],
+        changelogs: [1],
+    };
+    Cluster::new(alloc, work, counts, tasks)
+}
+
 /// A cluster with one partition of the input and of the changelog, and one task.
 pub fn new_cluster(alloc: Global) -> Result<Cluster<Copying>, AllocError>
     ensures ours { IfOk result IsOurs }
     ensures new { IfOk result (λ c. c.journal ≡ []) }
 {
-    let mut counts = Vec::new(alloc);
-    counts.push(1)?;
-    counts.push(1)?;
-    let mut tasks = Vec::new(alloc);
-    tasks.push(TASK)?;
-    let work = Copying {
-        inputs: [0],
-        changelogs: [1],
-    };
-    let cluster = Cluster::new(alloc, work, counts, tasks)?;
-    Ok(cluster)
+    let counts = counts(alloc)?;
+    let tasks = tasks(alloc)?;
+    cluster_of(alloc, counts, tasks)
 }

@@ -13,7 +13,7 @@ use ks_cluster::Cluster;
 use ks_hash::Murmur3;
 use ks_plan::{Draft, NodeDraft, Op, TopicDraft};
 use ks_record::{Blob, Name, Seq};
-use ks_settle_report::report;
+use ks_settle_report::{Lag, Report, report};
 use ks_topo::Topology;
 use std::alloc::{AllocError, Global};
 use std::process::Abort;
@@ -64,7 +64,24 @@ fn topology<R: Abort>(rt: &R, alloc: Global) -> Result<Topology, AllocError>
     }
 }
 
+fn push_lags(text: &mut String, lags: &[Lag]) -> Result<(), AllocError> {
+    for lag in lags {
+        write!(
+            text,
+            ", {}/{} committed {} end {}",
+            lag.part.topic, lag.part.part, lag.committed, lag.end
+        )?;
+    }
+    Ok(())
+}
+
 /// What is settled, how many producers are pending, and each lag with its committed offset and end.
+fn report_text(alloc: Global, report: &Report) -> Result<String, AllocError> {
+    let mut text = format!(in alloc; "settled {}, pending {}", report.settled, report.pending)?;
+    push_lags(&mut text, report.lags.as_slice())?;
+    Ok(text)
+}
+
 fn told<R: Threads + Sync>(
     rt: &R,
     alloc: Global,
@@ -75,15 +92,7 @@ fn told<R: Threads + Sync>(
     requires table { draft_of topology.now ≡ table_draft }
 {
     let report = report::<Murmur3, R, Copying>(rt, alloc, cluster, topology)?;
-    let mut text = format!(in alloc; "settled {}, pending {}", report.settled, report.pending)?;
-    for lag in &report.lags {
-        write!(
-            text,
-            ", {}/{} committed {} end {}",
-            lag.part.topic, lag.part.part, lag.committed, lag.end
-        )?;
-    }
-    Ok(text)
+    report_text(alloc, &report)
 }
 
 const BEHIND: &str = "settled false, pending 0, 0/0 committed 0 end 1";
@@ -108,15 +117,29 @@ fn expect<R: Threads + Sync + Abort>(
 fn expect_behind<R: Threads + Sync + Abort>(
     rt: &R,
     alloc: Global,
+    cluster: &Cluster<Copying>,
+    topology: &Topology,
+) -> Result<(), Fail>
+    requires ours { IsOurs cluster.now }
+    requires table { draft_of topology.now ≡ table_draft }
+{
+    expect(rt, alloc, cluster, topology, BEHIND)?;
+    let told = fetch(alloc, cluster, 0, 0, 10)?;
+    assert_eq!(rt; told.as_str(), "1 to 1");
+    expect(rt, alloc, cluster, topology, BEHIND)
+}
+
+// The same of a cluster that goes then.
+fn expect_first<R: Threads + Sync + Abort>(
+    rt: &R,
+    alloc: Global,
     cluster: Cluster<Copying>,
     topology: &Topology,
 ) -> Result<(), Fail>
     requires ours { IsOurs cluster }
     requires table { draft_of topology.now ≡ table_draft }
 {
-    expect(rt, alloc, &cluster, topology, BEHIND)?;
-    assert_eq!(rt; fetch(alloc, &cluster, 0, 0, 10)?.as_str(), "1 to 1");
-    expect(rt, alloc, &cluster, topology, BEHIND)
+    expect_behind(rt, alloc, &cluster, topology)
 }
 
 // The report on a cluster that goes then tells this.
@@ -144,7 +167,7 @@ fn expect_stages<R: Threads + Sync + Abort>(
     requires one { recs.now.list ≡ recs.now.rec ∷ [] }
 {
     let (rec, list) = (&recs.rec, &recs.list);
-    expect_behind(rt, alloc, produced(alloc, rec)?, topology)?;
+    expect_first(rt, alloc, produced(alloc, rec)?, topology)?;
     let pending = "settled false, pending 1, 0/0 committed 0 end 1";
     expect_last(rt, alloc, sent(alloc, rec, list)?, topology, pending)?;
     let is_decided = "settled false, pending 1";

@@ -1,13 +1,13 @@
 //! Tables of calls with their answers.
 
-ghost use Rattle.std.specs.Prelude.{◌≡◌, ◌∷◌, [], IfOk};
+ghost use Rattle.std.specs.Prelude.{◌≡◌, ◌∷◌, [], IfOk, OnOk};
+ghost use Rattle.ks_record.specs.Records.{record_seen};
 ghost use Rattle.ks_test_cluster.specs.Ours.{IsOurs};
 
 use crate::calls::{Call, answer};
 use crate::commit::{decided, marked, sent};
 use crate::copying::{Copying, new_cluster};
 use ks_cluster::Cluster;
-use ks_history::Reply;
 use ks_journal::push_journal;
 use ks_record::{Rec, RecordList, RecordRef, SharedRecords};
 use std::alloc::{AllocError, Global};
@@ -21,6 +21,14 @@ pub struct OneRecord {
     pub list: SharedRecords,
 }
 
+fn list_of(alloc: Global, one: RecordRef<'_>) -> Result<SharedRecords, AllocError>
+    ensures { IfOk result (λ l. l ≡ record_seen one.entry ∷ []) }
+{
+    let mut list = RecordList::new(alloc);
+    list.push(one)?;
+    SharedRecords::of(alloc, list)
+}
+
 /// The record of key a with the row `{"n":1}`.
 pub fn record(alloc: Global) -> Result<OneRecord, AllocError>
     ensures { IfOk result (λ r. r.list ≡ r.rec ∷ []) }
@@ -30,11 +38,9 @@ pub fn record(alloc: Global) -> Result<OneRecord, AllocError>
         value: Some(b"\x01\x01n\x00\x00\x00\x00\x00\x00\x00\x00\x01".as_slice()),
         ts: 0,
     };
-    let mut list = RecordList::new(alloc);
-    list.push(one)?;
     Ok(OneRecord {
         rec: Rec::of(alloc, one)?,
-        list: SharedRecords::of(alloc, list)?,
+        list: list_of(alloc, one)?,
     })
 }
 
@@ -163,6 +169,18 @@ const ZOMBIE_JOURNAL: &str = r#"["produce",0,0,["61","01016e000000000000000001",
 ["probe",1,3,[5,4]]
 "#;
 
+/// The journal of one commit.
+const COMMIT_JOURNAL: &str = r#"["produce",0,0,["61","01016e000000000000000001",0],0]
+["init",0,1]
+["join",0,1]
+["assign",0,1,[["0_0",0]],[],[],true]
+["add",0,1,1,0,true]
+["append",0,1,0,"0_0",1,0,[["61","01016e000000000000000001",0]],0]
+["offsets",0,1,1,"0_0",[[0,1]],[[0,1]],0,true]
+["decide",0,1,true,true]
+["mark",0,[1,0,true]]
+"#;
+
 /// What else may be asked, and an abort.
 const OTHERS: &[(Call, &str)] = &[
     (Call::Park { instance: 3 }, "done"),
@@ -279,68 +297,101 @@ const AFTER: &[(Call, &str)] = &[
     (Call::Produce { topic: 0 }, "1"),
 ];
 
+// Makes a call, whose answer is this.
+fn run_call<R: Abort>(
+    rt: &R,
+    alloc: Global,
+    cluster: &mut Cluster<Copying>,
+    recs: &OneRecord,
+    call: &Call,
+    expected: &str,
+) -> Result<(), Fail>
+    requires { IsOurs cluster.old }
+    ensures { OnOk result (IsOurs cluster.new) }
+{
+    let told = answer(alloc, cluster, recs, call)?;
+    assert_eq!(rt; told.as_str(), expected);
+    Ok(())
+}
+
+// Makes the calls of a table, one after another.
 fn run_all<R: Abort>(
+    rt: &R,
+    alloc: Global,
+    cluster: &mut Cluster<Copying>,
+    recs: &OneRecord,
+    table: &[(Call, &str)],
+) -> Result<(), Fail>
+    requires { IsOurs cluster.old }
+{
+    for (call, expected) in table {
+        run_call(rt, alloc, cluster, recs, call, expected)?;
+    }
+    Ok(())
+}
+
+// The same on a cluster that goes then.
+fn run_table<R: Abort>(
     rt: &R,
     alloc: Global,
     cluster: Cluster<Copying>,
     recs: &OneRecord,
     table: &[(Call, &str)],
-) -> Result<Cluster<Copying>, Fail>
+) -> Result<(), Fail>
     requires { IsOurs cluster }
 {
     let mut cluster = cluster;
-    for (call, expected) in table {
-        let told = answer(alloc, &mut cluster, recs, call)?;
-        assert_eq!(rt; told.as_str(), *expected);
-    }
-    Ok(cluster)
+    run_all(rt, alloc, &mut cluster, recs, table)
 }
 
-// A reply, as a line.
-fn push_reply(text: &mut String, reply: &Reply) -> Result<(), AllocError> {
-    match reply {
-        Reply::Done => writeln!(text, "done"),
-        Reply::Number(number) => writeln!(text, "{number}"),
-        Reply::Truth(truth) => writeln!(text, "{truth}"),
-        Reply::Mark(None) => writeln!(text, "no marker"),
-        Reply::Mark(Some((part, commit))) => writeln!(
-            text,
-            "{}/{} {commit}",
-            part.topic, part.part
-        ),
-        Reply::Refused(refused) => writeln!(text, "{refused}"),
-    }
+// The journal tells this, a line for each call that writes.
+fn expect_journal<R: Abort>(
+    rt: &R,
+    alloc: Global,
+    cluster: &Cluster<Copying>,
+    expected: &str,
+) -> Result<(), Fail> {
+    let mut text = Vec::new(alloc);
+    push_journal(&mut text, cluster.journal())?;
+    assert_eq!(rt; text.as_slice(), expected.as_bytes());
+    Ok(())
 }
 
-/// The replies that a journal keeps, one a line.
-fn replies(alloc: Global, cluster: &Cluster<Copying>) -> Result<String, AllocError> {
-    let mut text = String::new(alloc);
-    for entry in cluster.journal() {
-        push_reply(&mut text, &entry.reply)?;
-    }
-    Ok(text)
+// The calls of a table have their answers, and the journal tells this then.
+fn expect_calls<R: Abort>(
+    rt: &R,
+    alloc: Global,
+    cluster: &mut Cluster<Copying>,
+    recs: &OneRecord,
+    table: &[(Call, &str)],
+    journal: &str,
+) -> Result<(), Fail>
+    requires { IsOurs cluster.old }
+{
+    run_all(rt, alloc, cluster, recs, table)?;
+    expect_journal(rt, alloc, cluster, journal)
 }
 
 #[test]
 fn calls_and_answers(rt: HostRuntime) -> Result<(), Fail> {
     let alloc = rt.alloc();
     let recs = record(alloc)?;
-    run_all(&rt, alloc, new_cluster(alloc)?, &recs, OTHERS)?;
-    run_all(
+    run_table(&rt, alloc, new_cluster(alloc)?, &recs, OTHERS)?;
+    run_table(
         &rt,
         alloc,
         sent(alloc, &recs.rec, &recs.list)?,
         &recs,
         BEFORE,
     )?;
-    run_all(
+    run_table(
         &rt,
         alloc,
         decided(alloc, &recs.rec, &recs.list)?,
         &recs,
         BETWEEN,
     )?;
-    run_all(
+    run_table(
         &rt,
         alloc,
         marked(alloc, &recs.rec, &recs.list)?,
@@ -354,11 +405,8 @@ fn calls_and_answers(rt: HostRuntime) -> Result<(), Fail> {
 fn zombie_and_its_journal(rt: HostRuntime) -> Result<(), Fail> {
     let alloc = rt.alloc();
     let recs = record(alloc)?;
-    let cluster = run_all(&rt, alloc, new_cluster(alloc)?, &recs, ZOMBIE)?;
-    let mut text = Vec::new(alloc);
-    push_journal(&mut text, cluster.journal())?;
-    assert_eq!(rt; text.as_slice(), ZOMBIE_JOURNAL.as_bytes());
-    Ok(())
+    let mut cluster = new_cluster(alloc)?;
+    expect_calls(&rt, alloc, &mut cluster, &recs, ZOMBIE, ZOMBIE_JOURNAL)
 }
 
 #[test]
@@ -366,11 +414,5 @@ fn one_commit(rt: HostRuntime) -> Result<(), Fail> {
     let alloc = rt.alloc();
     let recs = record(alloc)?;
     let cluster = marked(alloc, &recs.rec, &recs.list)?;
-    let told = replies(alloc, &cluster)?;
-    assert_eq!(rt;
-        told.as_str(),
-        "0\n1\n1\ntrue\ndone\n0\ndone\ndone\n1/0 true\n"
-    );
-    assert_eq!(rt; cluster.into_journal().len(), 9);
-    Ok(())
+    expect_journal(&rt, alloc, &cluster, COMMIT_JOURNAL)
 }
