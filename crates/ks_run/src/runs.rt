@@ -50,7 +50,7 @@ pub struct Ended {
 /// | 7 | the sink failed, in place of each of these | a front of what they write | as theirs |
 /// | 8 | there was no memory, in a worker or elsewhere | nothing | empty |
 ///
-/// So a job whose records are within grace is answered by its query, unless a device fails, memory runs out, or rows of a key collide.
+/// So a job whose records are within grace is answered by its query, unless a device fails, memory runs out, or rows of one key have one hash.
 ///
 /// The source is read until the topology is whole. Then each record is produced as soon as its line is, while the workers run, each in a thread of its own: `threads` of them for each of so many `instances`,
 /// with `standbys` of each task. They take and commit the records, and what they leave the drain does (`ks_run_workers`, `ks_settle`); where a line is faulty or the source fails there is none. With `stop` the
