@@ -414,5 +414,7 @@ fn one_commit(rt: HostRuntime) -> Result<(), Fail> {
     let alloc = rt.alloc();
     let recs = record(alloc)?;
     let cluster = marked(alloc, &recs.rec, &recs.list)?;
-    expect_journal(&rt, alloc, &cluster, COMMIT_JOURNAL)
+    expect_journal(&rt, alloc, &cluster, COMMIT_JOURNAL)?;
+    assert_eq!(rt; cluster.into_journal().len(), 9);
+    Ok(())
 }
