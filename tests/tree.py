@@ -3,6 +3,7 @@ this folder share. It has no command of its own."""
 import functools
 import importlib.machinery
 import os
+import shutil
 import subprocess
 import sys
 import types
@@ -60,6 +61,18 @@ def all_below(crate, crates):
 def lowest_first(crates):
     """The names of these crates, each behind those that it stands on."""
     return sorted(crates, key=lambda crate: len(all_below(crate, crates)))
+
+
+def compiler_of(texts, copy):
+    """Makes a copy of this clone, with these texts in place of its files' own. Gives the command that compiles its program without proofs,
+    and where that program is then, unless it fails."""
+    shutil.copytree(ROOT, copy, symlinks=True, ignore=shutil.ignore_patterns("out", ".git", "__pycache__"))
+    for path, text in texts.items():
+        (copy / path).write_text(text, encoding="utf-8")
+    # (so ./streams finds no proved program, and its run says nothing)
+    (copy / "prove").write_text("#!/bin/sh\nexit 1\n")
+    (copy / "tools/run.py").write_text("")
+    return [copy / "streams", "load", "1"], copy / "out/unproved/ks_cli"
 
 
 def commit_now():
