@@ -1,5 +1,5 @@
 -- What a settled cluster of a job answers.
-use Rattle.std.proofs.Common.{◌≡◌, ℕ, ◌<◌, ◌≤◌, List, [], ◌∷◌, ◌++◌, length, map, get_or, refl, sym, ap, subst, ◌∙◌, arith}
+use Rattle.std.proofs.Common.{◌≡◌, ℕ, ◌<◌, List, [], ◌++◌, length, map, refl, sym, ap, subst, ◌∙◌}
 use Rattle.std.specs.Prelude.{None, Some, Option}
 use Rattle.std.specs.List.{All}
 use Rattle.std.proofs.lemmas.List.Elements.{All-weaker}
@@ -10,9 +10,7 @@ use Rattle.ks_plan.specs.Drafts.{DraftView}
 use Rattle.ks_plan.specs.Plan.{plan_of}
 use Rattle.ks_plan.specs.Layout.{topics_of, parts_of_topic, tasks}
 use Rattle.ks_plan.specs.declared.node.TopicInfo.{TopicInfo}
-use Rattle.ks_plan.specs.Infos.{inputs_by_sub, changelog_numbers, topic_infos}
-use Rattle.ks_topo.specs.declared.built.Topology.{Topology}
-use Rattle.ks_topo.specs.Topologies.{draft_of}
+use Rattle.ks_plan.specs.Infos.{changelog_numbers, topic_infos}
 use Rattle.ks_plan.specs.Faults.{fault_of}
 use Rattle.ks_history.specs.declared.journal.Entry.{Entry}
 use Rattle.ks_history.specs.Machine.{TaskPlan}
@@ -22,10 +20,7 @@ use Rattle.ks_cluster.specs.View.{ClusterView, setup_from}
 use Rattle.ks_cluster.specs.View as kept
 use Rattle.ks_cluster.specs.Placed.{PlacementTest, ArePlaced}
 use Rattle.ks_assign.specs.declared.clients.Placing.{Placing}
-use Rattle.ks_commit.specs.Everything.{everything, IsGoodForAll}
 use Rattle.ks_assign_group.specs.Groups.{good_by}
-use Rattle.ks_task.specs.Placing.{placed_by}
-use Rattle.ks_task.proofs.Alone.{everything_is_good}
 use Rattle.ks_query.specs.Streams.{Input}
 use Rattle.ks_def_tasks.specs.Messages.{Rules}
 use Rattle.ks_run_feed.specs.declared.feeding.JobInput.{JobInput}
@@ -40,28 +35,28 @@ use Rattle.ks_law_exactly_once.proofs.Replays.{is_run}
 use Rattle.ks_law_topology.specs.Work.{work_of, setup_of}
 use Rattle.ks_law_topology.proofs.Networks.{works_are_networks}
 use Rattle.ks_law_topology.proofs.Setups.{setups_are_made}
-use Rattle.ks_def_tasks.specs.Rules.{HaveParts, rules_of}
+use Rattle.ks_def_tasks.specs.Rules.{rules_of}
 use Rattle.ks_law_kinds.specs.Fitting.{FitsPlan}
 use Rattle.ks_law_topology.specs.Work.{FitsRules}
 use Rattle.ks_law_settled.specs.Jobs.{IsJob, produces}
-use Rattle.ks_law_settled.proofs.Parts.{have_parts as nodes_have_parts}
 use Rattle.ks_job.specs.Items.{ItemView, item_views}
 use Rattle.ks_law_inputs.specs.Records.{records_of, HavePartitions, AreRecords}
 use Rattle.ks_shared.specs.declared.state.Frame.{Frame}
 use Rattle.ks_topo.specs.Places.{HasPlaces}
-use Rattle.ks_run_feed.specs.Placing.{counts_in, placed_all}
+use Rattle.ks_run_feed.specs.Placing.{placed_all}
 use Rattle.ks_run_feed.specs.Producing.{IsFilled}
 use Rattle.ks_standby.specs.declared.replica.Replica.{Replica}
 use Rattle.ks_worker_state.specs.Standbys.{IsStandby}
 use Rattle.ks_settle.specs.Restoring.{IsReplicaAt}
-use Rattle.ks_settle.specs.Drained.{Extends, drain_worker}
-use Rattle.ks_settle_report.specs.Report.{IsOf}
-use Rattle.ks_task.proofs.Subs.{inputs_there}
+use Rattle.ks_settle.specs.Drained.{Extends}
 use Rattle.ks_iq.specs.declared.fault.IqFault.{IqFault}
 use Rattle.ks_run_verdict.specs.Told.{Wanted, told, refusal_of, wanted_at, IsText}
 use Rattle.ks_run_verdict.specs.Journals.{placed_records, IsUndrained}
-use Rattle.ks_run.specs.Settling.{IsDrained, SettlesJob, IsWantedBy, IsEnded, IsLeft, EndsWhole, EndsBy, KeepsJob, TellsWhole, TellsEnd, RunsJob}
-use Rattle.ks_job_source.proofs.Counts.{counts_length, plan_count, have_places, shown_counts}
+use Rattle.ks_run_end.specs.Ends.{IsDrained, IsWantedBy, IsEnded, IsLeft, EndsWhole}
+use Rattle.ks_run_end.proofs.Drained.{nodes_ready, drained_setup}
+use Rattle.ks_run.specs.Begun.{HasBegun}
+use Rattle.ks_run.specs.Settling.{SettlesJob, EndsBy, KeepsJob, TellsWhole, TellsEnd, RunsJob}
+use Rattle.ks_job_source.proofs.Counts.{counts_length, have_places, shown_counts}
 use Rattle.ks_run.proofs.Placed.{keys_have_parts, records_placed, records_fit, records_in_range}
 
 pub setup_is : (hash : List ℕ → ℕ) (d : DraftView) (plan : TaskPlan) (counts : List ℕ) (ts : List TaskId) → plan ≡ work_of (rules_of hash) (plan_of d) → counts ≡ map (parts_of_topic (plan_of d)) (topics_of (plan_of d)) → ts ≡ tasks (plan_of d) →
@@ -77,13 +72,6 @@ begun_is work c kept counts ts all a b e =
     subst (λ l. c ≡ record { work = work; counts = counts; tasks = l; journal = [] }) b (subst (λ l. c ≡ record { work = work; counts = l; tasks = ts; journal = [] }) a e)
 
 -- ---- a new cluster of a topology's tasks
-pub record HasBegun {W : Type 0} (hash : List ℕ → ℕ) (plan : W → TaskPlan) (good : W → PlacementTest) (placing : Placing) (d : DraftView) (begun : ClusterView W) : Type 0 where
-  pub new : begun.journal ≡ []
-  pub work : plan begun.work ≡ work_of (rules_of hash) (plan_of d)
-  pub start : kept.setup_of plan begun ≡ setup_of (rules_of hash) (plan_of d)
-  pub wanted : IsWantedBy good begun.work d placing
-  pub counts_are : counts_in (plan_of d) ≡ begun.counts
-
 pub has_begun : {W : Type 0} (hash : List ℕ → ℕ) (plan : W → TaskPlan) (good : W → PlacementTest) (placing : Placing) (d : DraftView) (work : W) (begun : ClusterView W) →
     begun ≡ record { work = work; counts = map (λ (i : TopicInfo). i.parts) (topic_infos d); tasks = tasks (plan_of d); journal = [] } → plan work ≡ work_of (rules_of hash) (plan_of d) → IsWantedBy good work d placing →
     HasBegun hash plan good placing d begun
@@ -102,9 +90,6 @@ pub record IsRunnable (hash : List ℕ → ℕ) (d : DraftView) (is : List ItemV
   pub hashes : FitsRules (rules_of hash)
   pub partitions : HavePartitions d.topics
   pub records : AreRecords (length d.topics) is
-
-pub nodes_ready : (d : DraftView) → fault_of d ≡ None → HavePartitions d.topics → HaveParts (plan_of d)
-nodes_ready d fine have = nodes_have_parts d (λ t lt. (plan_count d t fine have (omega (arith, lt, counts_length d))).some) fine
 
 is_job : (hash : List ℕ → ℕ) (d : DraftView) (is : List ItemView) → IsRunnable hash d is → IsJob (rules_of hash) d (records_of is)
 is_job hash d is h = record {
@@ -133,9 +118,6 @@ past_ready hash d plan rest a h =
 
 pub filled_setup : {W : Type 0} (plan : W → TaskPlan) (old new : ClusterView W) (records : List (PartId × Rec)) → IsFilled old new records → kept.setup_of plan new ≡ kept.setup_of plan old
 filled_setup {W = W} plan old new records h = ap (λ (f : Frame W). setup_from (plan f.work) f.counts f.tasks) h.frame
-
-pub drained_setup : {W : Type 0} (plan : W → TaskPlan) (old new : ClusterView W) → Extends old new → kept.setup_of plan new ≡ kept.setup_of plan old
-drained_setup plan old new h = rw (ap (λ c. c.work) h.same, ap (λ c. c.counts) h.same, ap (λ c. c.tasks) h.same) refl
 
 -- ---- what a drained cluster has come to
 answered : (hash : List ℕ → ℕ) (wanted : Wanted) (d : DraftView) (is : List ItemView) (setup : Setup) (status : ℕ) (text : List ℕ) (journal : List Entry) → IsRunnable hash d is →
@@ -169,14 +151,6 @@ settled_answers hash wanted d plan is begun filled drained status text journal r
     draining.produces ∙ filling.produced in
     subst (λ j. SettlesJob (rules_of hash) wanted d (records_of is) status text j) (sym handed) (answered hash wanted d is (kept.setup_of plan drained) status text drained.journal ready setup made done status_is text_is)
 
--- the report and the tables are those of the topology
-pub is_of : (hash : List ℕ → ℕ) (d : DraftView) (t : Topology) (setup : Setup) → draft_of t ≡ d → fault_of d ≡ None → setup ≡ setup_of (rules_of hash) (plan_of d) → IsOf t setup
-is_of hash d t setup same fine e = subst (IsOf t) (sym e) (record {
-  made = setups_are_made (rules_of hash) d fine;
-  tasks = sym (ap (λ x. tasks (plan_of x)) same);
-  inputs = λ sub. ap (λ x. get_or (inputs_by_sub (plan_of x)) sub []) same ∙ inputs_there d fine sub;
-})
-
 -- ---- what a run keeps of its job
 module _ {W : Type 0} (plan : W → TaskPlan) (good : W → PlacementTest) (rules : Rules) (placing : Placing) (d : DraftView) where
   pub keeps_job : (c : ClusterView W) (records : List Input) (journal : List Entry) → kept.setup_of plan c ≡ setup_of rules (plan_of d) → IsWantedBy good c.work d placing → IsHistory (kept.setup_of plan c) c.journal →
@@ -186,13 +160,6 @@ module _ {W : Type 0} (plan : W → TaskPlan) (good : W → PlacementTest) (rule
     placed = subst (λ s. ArePlaced (good_by (changelog_numbers (plan_of d)) (tasks (plan_of d)) placing) s c.journal) setup (subst (λ t. ArePlaced t (kept.setup_of plan c) c.journal) wanted placed);
     produced = made;
   })
-
--- the drain's own assignment, of every task at the one member, is good
-pub alone_ready : (test : PlacementTest) (placing : Placing) (d : DraftView) (ts : List TaskId) → test ≡ good_by (changelog_numbers (plan_of d)) (tasks (plan_of d)) placing → ts ≡ tasks (plan_of d) → fault_of d ≡ None → 1 ≤ placing.threads →
-    IsGoodForAll test (drain_worker ∷ []) (everything drain_worker ts)
-alone_ready test placing d ts wanted named fine threads =
-    subst (λ t. IsGoodForAll t (drain_worker ∷ []) (everything drain_worker ts)) (sym wanted)
-    (subst (λ us. IsGoodForAll (placed_by (plan_of d) (Some placing)) (drain_worker ∷ []) (everything drain_worker us)) (sym named) (everything_is_good d (Some placing) drain_worker fine threads (omega arith)))
 
 -- ---- the end of a run
 module _ {W : Type 0} (hash : List ℕ → ℕ) (plan : W → TaskPlan) (good : W → PlacementTest) (placing : Placing) (wanting : Wanted) (d : DraftView) (begun filled : ClusterView W) (intake : JobInput) (left now : Option (List ℕ)) (e : JobEnd)

@@ -1,7 +1,6 @@
 //! One run: from the bytes of a job to the bytes of its tables, and the journal that the run kept.
 #![tactic(auto)]
 
-mod answer;
 mod command;
 mod loading;
 mod outcome;

@@ -8,7 +8,8 @@ use Rattle.ks_cluster.specs.View as kept
 use Rattle.ks_commit.specs.Everything.{everything, IsGoodForAll}
 use Rattle.ks_task.specs.Placing.{placed_by}
 use Rattle.ks_job_source.proofs.Counts.{shown_counts}
-use Rattle.ks_run.proofs.Settles.{setup_is, setup_made, places_ready, records_ready, nodes_ready}
+use Rattle.ks_run_end.proofs.Drained.{nodes_ready}
+use Rattle.ks_run.proofs.Settles.{setup_is, setup_made, places_ready, records_ready}
 use Rattle.ks_test_workers.proofs.plays.play_tasks.Goals as goal
 
 pub new-requires : goal.new-requires
