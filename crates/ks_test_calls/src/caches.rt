@@ -1,12 +1,13 @@
 //! A store with a cache, call by call.
 ghost use Rattle.std.specs.Prelude.{◌≤◌};
 
-use crate::replies::push_replies;
+use crate::replies::{expect_text, push_replies};
 use crate::stores::push_pairs;
 use ks_cache::{CachedStore, run_cached};
 use ks_record::Blob;
 use ks_store::{KvStore, OrderedStore, StoreCall};
 use std::alloc::{AllocError, Global};
+use std::process::Abort;
 use std::test::Fail;
 
 /// A call of a store with a cache.
@@ -92,16 +93,24 @@ fn push_held(
     push_pairs(store.inner(), b"", text)
 }
 
-#[test]
-fn the_oldest_write_goes_through(rt: HostRuntime) -> Result<(), Fail> {
-    let alloc = rt.alloc();
-    let mut store = new_cached(alloc, 2)?;
+// Takes the steps of the table, one after another.
+fn take_steps<R: Abort>(
+    rt: &R,
+    alloc: Global,
+    store: &mut CachedStore<OrderedStore>,
+) -> Result<(), Fail> {
     let mut text = Vec::new(alloc);
     for (step, expected) in STEPS {
         text.clear();
-        take_step(alloc, &mut store, step, &mut text)?;
-        push_held(alloc, &mut text, &store)?;
-        assert_eq!(rt; text.as_slice(), expected.as_bytes());
+        take_step(alloc, store, step, &mut text)?;
+        push_held(alloc, &mut text, store)?;
+        expect_text(rt, text.as_slice(), expected.as_bytes());
     }
     Ok(())
+}
+
+#[test]
+fn the_oldest_write_goes_through(rt: HostRuntime) -> Result<(), Fail> {
+    let mut store = new_cached(rt.alloc(), 2)?;
+    take_steps(&rt, rt.alloc(), &mut store)
 }

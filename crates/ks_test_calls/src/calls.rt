@@ -3,6 +3,7 @@
 use crate::caches::new_cached;
 use crate::given::{Given, new_given};
 use crate::joins::{join_after, respond_to, subscribe};
+use crate::replies::expect_text;
 use crate::stores::{change_right, count, get, list, push_pairs, restore_one, take_subscription};
 use crate::tables::{COUNTED, FORMS, LEFT, NAMED, RIGHT, STORED};
 use ks_expr::JoinKind;
@@ -151,7 +152,7 @@ fn run_all<R: Abort, S: KvStore>(
     for (call, expected) in calls {
         text.clear();
         push_answer(rt, alloc, given, store, call, &mut text)?;
-        assert_eq!(rt; text.as_slice(), *expected);
+        expect_text(rt, text.as_slice(), expected);
     }
     Ok(())
 }

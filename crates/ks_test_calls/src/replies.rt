@@ -1,6 +1,12 @@
-//! What a store answers, as text.
+//! What a store answers, as text; and whether a text is another one.
 use ks_store::StoreReply;
 use std::alloc::{AllocError, Global};
+use std::process::Abort;
+
+/// Both texts are the same.
+pub fn expect_text<R: Abort>(rt: &R, found: &[u8], expected: &[u8]) {
+    assert_eq!(rt; found, expected);
+}
 
 // A reply: the value of a key, how many pairs there are, or that it is done.
 fn push_reply(alloc: Global, reply: &StoreReply, text: &mut Vec<u8>) -> Result<(), AllocError> {

@@ -36,7 +36,11 @@ fn push_answer<S: KvStore>(
     text: &mut Vec<u8>,
 ) -> Result<(), AllocError> {
     match on_subscription(alloc, store, &given.right, subscription, right)? {
-        Some((response, part)) => push_response(alloc, &response, part, text),
+        Some((response, part)) => {
+            let pushed = push_response(alloc, &response, part, text);
+            drop(response);
+            pushed
+        }
         None => text.extend_from_slice(b"no answer"),
     }
 }

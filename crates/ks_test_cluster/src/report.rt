@@ -1,13 +1,13 @@
 //! What a report says of a cluster of one table, at the stages of one commit.
 ghost use Rattle.std.specs.Prelude.{◌≡◌, ◌∷◌, [], IfOk};
-ghost use Rattle.ks_plan.specs.Drafts.{draft_view};
+ghost use Rattle.ks_plan.specs.Drafts.{draft_view, nodes_view, node_view, TableOf};
 ghost use Rattle.ks_topo.specs.Topologies.{draft_of};
 ghost use Rattle.ks_test_cluster.specs.Ours.{IsOurs};
-ghost use Rattle.ks_test_cluster.specs.Table.{table_draft};
+ghost use Rattle.ks_test_cluster.specs.Table.{table_draft, letter_t, letter_x};
 
 use crate::calls::fetch;
-use crate::commit::{decided, marked, produced, sent};
-use crate::copying::Copying;
+use crate::commit::{decide, mark, produce, send};
+use crate::copying::{Copying, new_cluster};
 use crate::tables::{OneRecord, record};
 use ks_cluster::Cluster;
 use ks_hash::Murmur3;
@@ -29,29 +29,56 @@ fn name<R: Abort>(rt: &R, alloc: Global, letter: &[u8; 1]) -> Result<Name, Alloc
     }
 }
 
-fn draft<R: Abort>(rt: &R, alloc: Global) -> Result<Draft, AllocError>
-    ensures { IfOk result (λ d. draft_view d ≡ table_draft) }
+// The topic t, of one partition.
+fn topics<R: Abort>(rt: &R, alloc: Global) -> Result<Seq<(Name, TopicDraft)>, AllocError>
+    ensures { IfOk result (λ s. s ≡ table_draft.topics) }
 {
-    let mut topics = Vec::new(alloc);
     let topic = TopicDraft {
         parts: 1,
         before: None,
     };
-    topics.push((name(rt, alloc, b"t")?, topic))?;
-    let mut nodes = Vec::new(alloc);
-    nodes.push(NodeDraft {
-        name: name(rt, alloc, b"x")?,
-        op: Op::Table {
-            topic: Blob::from_slice(alloc, b"t")?,
-        },
-    })?;
-    let mut print = Vec::new(alloc);
-    print.push(Blob::from_slice(alloc, b"x")?)?;
+    let name = name(rt, alloc, b"t")?;
+    Ok(Seq::of(vec![in alloc; (name, topic)]?))
+}
+
+// The table x of it.
+fn table<R: Abort>(rt: &R, alloc: Global) -> Result<NodeDraft, AllocError>
+    ensures { IfOk result (λ n. node_view n ≡ record { name = letter_x; op = TableOf letter_t }) }
+{
+    let name = name(rt, alloc, b"x")?;
+    let topic = Blob::from_slice(alloc, b"t")?;
+    Ok(NodeDraft {
+        name,
+        op: Op::Table { topic },
+    })
+}
+
+fn nodes<R: Abort>(rt: &R, alloc: Global) -> Result<Seq<NodeDraft>, AllocError>
+    ensures { IfOk result (λ s. nodes_view s ≡ table_draft.nodes) }
+{
+    let table = table(rt, alloc)?;
+    Ok(Seq::of(vec![in alloc; table]?))
+}
+
+fn printed(alloc: Global) -> Result<Seq<Blob>, AllocError>
+    ensures { IfOk result (λ s. s ≡ table_draft.print) }
+{
+    let name = Blob::from_slice(alloc, b"x")?;
+    Ok(Seq::of(vec![in alloc; name]?))
+}
+
+fn draft<R: Abort>(rt: &R, alloc: Global) -> Result<Draft, AllocError>
+    ensures { IfOk result (λ d. draft_view d ≡ table_draft) }
+{
+    let app = name(rt, alloc, b"a")?;
+    let print = printed(alloc)?;
+    let topics = topics(rt, alloc)?;
+    let nodes = nodes(rt, alloc)?;
     Ok(Draft {
-        app: name(rt, alloc, b"a")?,
-        topics: Seq::of(topics),
-        nodes: Seq::of(nodes),
-        print: Seq::of(print),
+        app,
+        topics,
+        nodes,
+        print,
     })
 }
 
@@ -129,35 +156,32 @@ fn expect_behind<R: Threads + Sync + Abort>(
     expect(rt, alloc, cluster, topology, BEHIND)
 }
 
-// The same of a cluster that goes then.
-fn expect_first<R: Threads + Sync + Abort>(
-    rt: &R,
-    alloc: Global,
-    cluster: Cluster<Copying>,
-    topology: &Topology,
-) -> Result<(), Fail>
-    requires ours { IsOurs cluster }
-    requires table { draft_of topology.now ≡ table_draft }
-{
-    expect_behind(rt, alloc, &cluster, topology)
-}
-
-// The report on a cluster that goes then tells this.
-fn expect_last<R: Threads + Sync + Abort>(
-    rt: &R,
-    alloc: Global,
-    cluster: Cluster<Copying>,
-    topology: &Topology,
-    expected: &str,
-) -> Result<(), Fail>
-    requires ours { IsOurs cluster }
-    requires table { draft_of topology.now ≡ table_draft }
-{
-    expect(rt, alloc, &cluster, topology, expected)
-}
-
-// At each stage of a commit of this record.
+// At each stage of a commit of this record, in a new cluster.
 fn expect_stages<R: Threads + Sync + Abort>(
+    rt: &R,
+    alloc: Global,
+    cluster: &mut Cluster<Copying>,
+    topology: &Topology,
+    recs: &OneRecord,
+) -> Result<(), Fail>
+    requires ours { IsOurs cluster.old }
+    requires new { cluster.old.journal ≡ [] }
+    requires table { draft_of topology.now ≡ table_draft }
+    requires one { recs.now.list ≡ recs.now.rec ∷ [] }
+{
+    produce(alloc, cluster, &recs.rec)?;
+    expect_behind(rt, alloc, cluster, topology)?;
+    send(alloc, cluster, &recs.rec, &recs.list)?;
+    let pending = "settled false, pending 1, 0/0 committed 0 end 1";
+    expect(rt, alloc, cluster, topology, pending)?;
+    decide(alloc, cluster, &recs.rec)?;
+    expect(rt, alloc, cluster, topology, "settled false, pending 1")?;
+    mark(alloc, cluster, &recs.rec)?;
+    expect(rt, alloc, cluster, topology, "settled true, pending 0")
+}
+
+// The same on a cluster that goes then.
+fn expect_commit<R: Threads + Sync + Abort>(
     rt: &R,
     alloc: Global,
     topology: &Topology,
@@ -166,19 +190,13 @@ fn expect_stages<R: Threads + Sync + Abort>(
     requires table { draft_of topology.now ≡ table_draft }
     requires one { recs.now.list ≡ recs.now.rec ∷ [] }
 {
-    let (rec, list) = (&recs.rec, &recs.list);
-    expect_first(rt, alloc, produced(alloc, rec)?, topology)?;
-    let pending = "settled false, pending 1, 0/0 committed 0 end 1";
-    expect_last(rt, alloc, sent(alloc, rec, list)?, topology, pending)?;
-    let is_decided = "settled false, pending 1";
-    expect_last(rt, alloc, decided(alloc, rec, list)?, topology, is_decided)?;
-    let is_marked = "settled true, pending 0";
-    expect_last(rt, alloc, marked(alloc, rec, list)?, topology, is_marked)
+    let mut cluster = new_cluster(alloc)?;
+    expect_stages(rt, alloc, &mut cluster, topology, recs)
 }
 
 #[test]
 fn a_report_at_each_stage_of_a_commit(rt: HostRuntime) -> Result<(), Fail> {
     let alloc = rt.alloc();
     let topology = topology(&rt, alloc)?;
-    expect_stages(&rt, alloc, &topology, &record(alloc)?)
+    expect_commit(&rt, alloc, &topology, &record(alloc)?)
 }

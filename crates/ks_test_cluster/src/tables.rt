@@ -5,7 +5,7 @@ ghost use Rattle.ks_record.specs.Records.{record_seen};
 ghost use Rattle.ks_test_cluster.specs.Ours.{IsOurs};
 
 use crate::calls::{Call, answer};
-use crate::commit::{decided, marked, sent};
+use crate::commit::{Stage, reach};
 use crate::copying::{Copying, new_cluster};
 use ks_cluster::Cluster;
 use ks_journal::push_journal;
@@ -330,18 +330,35 @@ fn run_all<R: Abort>(
     Ok(())
 }
 
+// A new cluster comes as far as this, and then the calls of a table have their answers.
+fn run_from<R: Abort>(
+    rt: &R,
+    alloc: Global,
+    cluster: &mut Cluster<Copying>,
+    recs: &OneRecord,
+    stage: Stage,
+    table: &[(Call, &str)],
+) -> Result<(), Fail>
+    requires ours { IsOurs cluster.old }
+    requires new { cluster.old.journal ≡ [] }
+    requires one { recs.now.list ≡ recs.now.rec ∷ [] }
+{
+    reach(alloc, cluster, recs, stage)?;
+    run_all(rt, alloc, cluster, recs, table)
+}
+
 // The same on a cluster that goes then.
 fn run_table<R: Abort>(
     rt: &R,
     alloc: Global,
-    cluster: Cluster<Copying>,
     recs: &OneRecord,
+    stage: Stage,
     table: &[(Call, &str)],
 ) -> Result<(), Fail>
-    requires { IsOurs cluster }
+    requires { recs.now.list ≡ recs.now.rec ∷ [] }
 {
-    let mut cluster = cluster;
-    run_all(rt, alloc, &mut cluster, recs, table)
+    let mut cluster = new_cluster(alloc)?;
+    run_from(rt, alloc, &mut cluster, recs, stage, table)
 }
 
 // The journal tells this, a line for each call that writes.
@@ -372,33 +389,30 @@ fn expect_calls<R: Abort>(
     expect_journal(rt, alloc, cluster, journal)
 }
 
+// A commit's journal tells this.
+fn expect_commit<R: Abort>(
+    rt: &R,
+    alloc: Global,
+    cluster: &mut Cluster<Copying>,
+    recs: &OneRecord,
+    journal: &str,
+) -> Result<(), Fail>
+    requires ours { IsOurs cluster.old }
+    requires new { cluster.old.journal ≡ [] }
+    requires one { recs.now.list ≡ recs.now.rec ∷ [] }
+{
+    reach(alloc, cluster, recs, Stage::Marked)?;
+    expect_journal(rt, alloc, cluster, journal)
+}
+
 #[test]
 fn calls_and_answers(rt: HostRuntime) -> Result<(), Fail> {
     let alloc = rt.alloc();
     let recs = record(alloc)?;
-    run_table(&rt, alloc, new_cluster(alloc)?, &recs, OTHERS)?;
-    run_table(
-        &rt,
-        alloc,
-        sent(alloc, &recs.rec, &recs.list)?,
-        &recs,
-        BEFORE,
-    )?;
-    run_table(
-        &rt,
-        alloc,
-        decided(alloc, &recs.rec, &recs.list)?,
-        &recs,
-        BETWEEN,
-    )?;
-    run_table(
-        &rt,
-        alloc,
-        marked(alloc, &recs.rec, &recs.list)?,
-        &recs,
-        AFTER,
-    )?;
-    Ok(())
+    run_table(&rt, alloc, &recs, Stage::New, OTHERS)?;
+    run_table(&rt, alloc, &recs, Stage::Sent, BEFORE)?;
+    run_table(&rt, alloc, &recs, Stage::Decided, BETWEEN)?;
+    run_table(&rt, alloc, &recs, Stage::Marked, AFTER)
 }
 
 #[test]
@@ -413,8 +427,8 @@ fn zombie_and_its_journal(rt: HostRuntime) -> Result<(), Fail> {
 fn one_commit(rt: HostRuntime) -> Result<(), Fail> {
     let alloc = rt.alloc();
     let recs = record(alloc)?;
-    let cluster = marked(alloc, &recs.rec, &recs.list)?;
-    expect_journal(&rt, alloc, &cluster, COMMIT_JOURNAL)?;
+    let mut cluster = new_cluster(alloc)?;
+    expect_commit(&rt, alloc, &mut cluster, &recs, COMMIT_JOURNAL)?;
     assert_eq!(rt; cluster.into_journal().len(), 9);
     Ok(())
 }

@@ -1,5 +1,6 @@
 //! Hashes against other implementations; docs/formats.md says which.
 use ks_hash::{Constant, Hash128, Murmur3, murmur2, partition_of};
+use std::process::Abort;
 use std::test::Fail;
 
 // Of the first 0, 1, 2 .. bytes of the list whose byte i is (37 * i + 11) % 256: Murmur2 and MurmurHash3.
@@ -42,35 +43,57 @@ fn hashed<H: Hash128>(bytes: &[u8]) -> u128 {
     H::hash(bytes)
 }
 
+fn expect_hash<R: Abort>(rt: &R, found: u128, expected: u128, length: usize) {
+    assert_eq!(rt; found, expected, "of {length} bytes");
+}
+
 #[test]
 fn every_tail(rt: HostRuntime) -> Result<(), Fail> {
     let mut bytes = Vec::new(rt.alloc());
     for (short, long) in HASHES {
         let length = bytes.len();
-        assert_eq!(rt; murmur2(&bytes), short, "of {length} bytes");
-        assert_eq!(rt; hashed::<Murmur3>(&bytes), long, "of {length} bytes");
-        assert_eq!(rt; hashed::<Constant>(&bytes), 0);
+        expect_hash(&rt, u128::from(murmur2(&bytes)), u128::from(short), length);
+        expect_hash(&rt, hashed::<Murmur3>(&bytes), long, length);
+        expect_hash(&rt, hashed::<Constant>(&bytes), 0, length);
         bytes.push(((37 * (length % 256) + 11) % 256) as u8)?;
     }
     Ok(())
 }
 
+fn expect_key<R: Abort>(rt: &R, found: i64, expected: i64, key: &str) {
+    assert_eq!(rt; found, expected, "of {key}");
+}
+
+/// Keys with their Murmur2, as a signed number, and their partition among four.
+const KEYS: [(&str, i32, u8); 6] = [
+    ("21", -973_932_308i32, 0u8),
+    ("foobar", -790_332_482, 2),
+    ("abc", 479_470_107, 3),
+    ("a-little-bit-long-string", -985_981_536, 0),
+    ("a-little-bit-longer-string", -1_486_304_829, 3),
+    (
+        "lkjh234lh9fiuh90y23oiuhsafujhadof229phr9h19h89h8",
+        -58_897_971,
+        1,
+    ),
+];
+
 #[test]
 fn known_keys(rt: HostRuntime) {
-    for (key, signed, partition) in [
-        ("21", -973_932_308i32, 0u8),
-        ("foobar", -790_332_482, 2),
-        ("abc", 479_470_107, 3),
-        ("a-little-bit-long-string", -985_981_536, 0),
-        ("a-little-bit-longer-string", -1_486_304_829, 3),
-        (
-            "lkjh234lh9fiuh90y23oiuhsafujhadof229phr9h19h89h8",
-            -58_897_971,
-            1,
-        ),
-    ] {
-        assert_eq!(rt; murmur2(key.as_bytes()).cast_signed(), signed, "of {key}");
-        assert_eq!(rt; partition_of(key.as_bytes(), 4), partition, "of {key}");
-        assert_eq!(rt; partition_of(key.as_bytes(), 1), 0, "of {key}");
+    for (key, signed, partition) in KEYS {
+        let bytes = key.as_bytes();
+        expect_key(
+            &rt,
+            i64::from(murmur2(bytes).cast_signed()),
+            i64::from(signed),
+            key,
+        );
+        expect_key(
+            &rt,
+            i64::from(partition_of(bytes, 4)),
+            i64::from(partition),
+            key,
+        );
+        expect_key(&rt, i64::from(partition_of(bytes, 1)), 0, key);
     }
 }

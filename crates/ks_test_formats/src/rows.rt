@@ -39,13 +39,29 @@ fn row_of(alloc: Global, members: &[(&str, Value)]) -> Result<Option<Row>, Alloc
 // The bytes of a row, once it was read from its own bytes.
 fn push_reread(alloc: Global, row: &Row, text: &mut Vec<u8>) -> Result<(), AllocError> {
     match reread(alloc, row)? {
-        Some(again) => push_row(alloc, &again, text),
+        Some(again) => {
+            let pushed = push_row(alloc, &again, text);
+            drop(again);
+            pushed
+        }
         None => Ok(()),
     }
 }
 
 fn push_row(alloc: Global, row: &Row, text: &mut Vec<u8>) -> Result<(), AllocError> {
     text.extend_from_slice(encode(alloc, row)?.as_slice())
+}
+
+// The bytes of a row, once it was read from its own bytes; no byte where there is no row.
+fn push_known(alloc: Global, row: Option<&Row>, text: &mut Vec<u8>) -> Result<(), AllocError> {
+    match row {
+        Some(row) => push_reread(alloc, row, text),
+        None => Ok(()),
+    }
+}
+
+fn expect_text<R: Abort>(rt: &R, found: &[u8], expected: &[u8]) {
+    assert_eq!(rt; found, expected);
 }
 
 // The row has these bytes, also once it was read from its own; no byte where there is no row.
@@ -56,10 +72,10 @@ fn expect_bytes<R: Abort>(
     bytes: &[u8],
 ) -> Result<(), Fail> {
     let mut text = Vec::new(alloc);
-    if let Some(row) = &row {
-        push_reread(alloc, row, &mut text)?;
-    }
-    assert_eq!(rt; text.as_slice(), bytes);
+    let pushed = push_known(alloc, row.as_ref(), &mut text);
+    drop(row);
+    pushed?;
+    expect_text(rt, text.as_slice(), bytes);
     Ok(())
 }
 

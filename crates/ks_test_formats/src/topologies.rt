@@ -18,24 +18,55 @@ const LAYOUTS: &str = r#"
  |  |  |  |  |  => {"app":"a","topics":{},"nodes":[],"print":[]}
 "#;
 
+// Feeds a line to a reader; false where it is faulty.
+fn feed_line(
+    reader: &mut JobReader,
+    line: &str,
+    items: &mut Vec<JobItem>,
+) -> Result<bool, AllocError> {
+    Ok(reader.feed(line.as_bytes(), items)?.is_ok())
+}
+
 // Reads a line; false where it is faulty.
 fn read_line(alloc: Global, line: &str, items: &mut Vec<JobItem>) -> Result<bool, AllocError> {
     let mut reader = JobReader::new(alloc);
-    if reader.feed(line.as_bytes(), items)?.is_err() {
-        return Ok(false);
+    match feed_line(&mut reader, line, items) {
+        Ok(true) => Ok(reader.finish(items)?.is_ok()),
+        other => {
+            drop(reader);
+            other
+        }
     }
-    Ok(reader.finish(items)?.is_ok())
+}
+
+// The topology among what was read last.
+fn last_draft(items: &mut Vec<JobItem>) -> Option<Draft> {
+    match items.pop() {
+        Some(JobItem::Topology { draft, .. }) => Some(draft),
+        other => {
+            drop(other);
+            None
+        }
+    }
+}
+
+// The topology of a line, by this list of items; none where there is none.
+fn draft_by(
+    alloc: Global,
+    line: &str,
+    items: &mut Vec<JobItem>,
+) -> Result<Option<Draft>, AllocError> {
+    if read_line(alloc, line, items)? {
+        return Ok(last_draft(items));
+    }
+    Ok(None)
 }
 
 fn draft_of(alloc: Global, line: &str) -> Result<Option<Draft>, AllocError> {
     let mut items = Vec::new(alloc);
-    if !read_line(alloc, line, &mut items)? {
-        return Ok(None);
-    }
-    match items.pop() {
-        Some(JobItem::Topology { draft, .. }) => Ok(Some(draft)),
-        _ => Ok(None),
-    }
+    let draft = draft_by(alloc, line, &mut items);
+    drop(items);
+    draft
 }
 
 fn push_number(text: &mut Vec<u8>, alloc: Global, number: u64) -> Result<(), AllocError> {
@@ -138,35 +169,61 @@ fn push_layout(text: &mut Vec<u8>, alloc: Global, topology: &Topology) -> Result
     push_tasks(text, alloc, topology)
 }
 
-// The topology has this layout; whether there is one.
+// The topology has this layout.
 fn expect_layout<R: Abort>(
     rt: &R,
     alloc: Global,
-    draft: Draft,
+    topology: &Topology,
     expected: &str,
     line: &str,
-) -> Result<bool, Fail> {
-    let Ok(topology) = Topology::build(alloc, draft)? else {
-        return Ok(false);
-    };
+) -> Result<(), Fail> {
     let mut text = Vec::new(alloc);
-    push_layout(&mut text, alloc, &topology)?;
+    push_layout(&mut text, alloc, topology)?;
     assert_eq!(rt; text.as_slice(), expected.as_bytes(), "{line}");
-    Ok(true)
+    Ok(())
+}
+
+// The topology of a draft, where it has no fault.
+fn built(alloc: Global, draft: Draft) -> Result<Option<Topology>, AllocError> {
+    match Topology::build(alloc, draft)? {
+        Ok(topology) => Ok(Some(topology)),
+        Err(fault) => {
+            drop(fault);
+            Ok(None)
+        }
+    }
+}
+
+// The topology of a line, where it has no fault.
+fn topology_of(alloc: Global, line: &str) -> Result<Option<Topology>, AllocError> {
+    match draft_of(alloc, line)? {
+        Some(draft) => built(alloc, draft),
+        None => Ok(None),
+    }
+}
+
+// The topology of a line has this layout; whether there is one.
+fn expect_case<R: Abort>(rt: &R, alloc: Global, expected: &str, line: &str) -> Result<bool, Fail> {
+    match topology_of(alloc, line)? {
+        Some(topology) => {
+            let told = expect_layout(rt, alloc, &topology, expected, line);
+            drop(topology);
+            told?;
+            Ok(true)
+        }
+        None => Ok(false),
+    }
 }
 
 #[test]
 fn layouts(rt: HostRuntime) -> Result<(), Fail> {
-    let alloc = rt.alloc();
     let mut count = 0u64;
     for case in LAYOUTS.lines() {
         let Some((expected, line)) = case.split_once(" => ") else {
             continue;
         };
-        if let Some(draft) = draft_of(alloc, line)? {
-            let is_built = expect_layout(&rt, alloc, draft, expected, line)?;
-            count = count.wrapping_add(is_built as u64);
-        }
+        let is_built = expect_case(&rt, rt.alloc(), expected, line)?;
+        count = count.wrapping_add(is_built as u64);
     }
     assert_eq!(rt; count, 9);
     Ok(())

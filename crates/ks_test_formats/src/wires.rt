@@ -24,14 +24,22 @@ enum Kind {
 
 fn subscription(alloc: Global, bytes: &[u8]) -> Result<Option<Blob>, AllocError> {
     match read_subscription(alloc, bytes)? {
-        Some(found) => Ok(Some(write_subscription(alloc, &found)?)),
+        Some(found) => {
+            let written = write_subscription(alloc, &found);
+            drop(found);
+            Ok(Some(written?))
+        }
         None => Ok(None),
     }
 }
 
 fn response(alloc: Global, bytes: &[u8]) -> Result<Option<Blob>, AllocError> {
     match read_response(alloc, bytes)? {
-        Some(found) => Ok(Some(write_response(alloc, &found)?)),
+        Some(found) => {
+            let written = write_response(alloc, &found);
+            drop(found);
+            Ok(Some(written?))
+        }
         None => Ok(None),
     }
 }
@@ -66,14 +74,22 @@ fn time(alloc: Global, bytes: &[u8]) -> Result<Option<Blob>, AllocError> {
 
 fn subscription_key(alloc: Global, bytes: &[u8]) -> Result<Option<Blob>, AllocError> {
     match read_subscription_key(alloc, bytes)? {
-        Some((foreign, left)) => Ok(Some(write_subscription_key(alloc, &foreign, &left)?)),
+        Some(found) => {
+            let written = write_subscription_key(alloc, &found.0, &found.1);
+            drop(found);
+            Ok(Some(written?))
+        }
         None => Ok(None),
     }
 }
 
 fn window_key(alloc: Global, bytes: &[u8]) -> Result<Option<Blob>, AllocError> {
     match read_window_key(alloc, bytes)? {
-        Some((key, start)) => Ok(Some(write_window_key(alloc, &key, start)?)),
+        Some(found) => {
+            let written = write_window_key(alloc, &found.0, found.1);
+            drop(found);
+            Ok(Some(written?))
+        }
         None => Ok(None),
     }
 }

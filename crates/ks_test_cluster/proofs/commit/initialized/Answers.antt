@@ -1,6 +1,0 @@
-use Rattle.std.proofs.Common.{refl}
-use Rattle.ks_test_cluster.proofs.Requests.{one_more}
-use Rattle.ks_test_cluster.proofs.commit.initialized.Goals as goal
-
-pub returns : goal.returns
-returns c = one_more 1 c.args.rec.now _ _ _ _ c.in_ok-cluster.ensures c.in_ok-init.ensures.ok refl
