@@ -95,7 +95,9 @@ fn play_line<H: Processing, W: Work>(
     let Some(entry) = found else {
         return Err(LineStop::Fault(AuditFault::NotJournal));
     };
-    match played.play::<H>(alloc, topology, &entry) {
+    let answer = played.play::<H>(alloc, topology, &entry);
+    drop(entry);
+    match answer {
         Ok(()) => Ok(()),
         Err(stop) => Err(stop),
     }
@@ -122,11 +124,11 @@ fn begin<H: Processing, W: Work>(
     let all = topology.tasks();
     let known = counts_of(alloc, infos)?;
     let named = Vec::from_slice(alloc, all)?;
+    let ledger = new_ledger(alloc)?;
+    let tasks = first_tasks(alloc, topology)?;
     let counts = counts_of(alloc, infos)?;
     let names = Vec::from_slice(alloc, all)?;
     let cluster = Cluster::new(alloc, work, counts, names)?;
-    let ledger = new_ledger(alloc)?;
-    let tasks = first_tasks(alloc, topology)?;
     Ok(Played {
         conditions: Conditions {
             work: same,

@@ -1,13 +1,14 @@
 //! A long piece of a job, read by several threads. It is cut after a line end, and both parts are read at the same time: the second
 //! from the place at which the first ends if each of its lines is a record. Where the first ends elsewhere, the second is read
 //! again from there.
-ghost use Rattle.std.specs.Prelude.{◌≡◌, ◌≤◌, ◌++◌, [], IfOk, IfSome, length, true};
+ghost use Rattle.std.specs.Prelude.{◌≡◌, ◌≤◌, ◌++◌, [], Ok, IfOk, IfSome, length, true};
 ghost use Rattle.std.specs.Thread.{IsSend, IsSync};
 ghost use Rattle.ks_job.specs.Items.{PushesFront};
 ghost use Rattle.ks_job.specs.Lines.{spot};
 ghost use Rattle.ks_job.specs.Reader.{Reading, after};
 ghost use Rattle.ks_job.specs.Phases.{reader_of, machine};
 ghost use Rattle.ks_job.specs.contracts.wide.Part as part;
+ghost use Rattle.ks_job.specs.declared.wide.Part.{Part};
 
 use crate::judge::{JobItem, MOST_BYTES};
 use crate::place::Place;
@@ -147,15 +148,44 @@ fn join_parts(
 {
     let Part { phase, mut items } = first;
     if is_at(&phase, place) {
+        drop(phase);
         let Part {
             phase,
             items: mut more,
         } = second;
-        items.append(&mut more)?;
+        let Ok(()) = items.append(&mut more) else {
+            drop(phase);
+            return Err(AllocError);
+        };
         return Ok(Part { phase, items });
     }
+    drop(second);
     let phase = feed_phase(alloc, phase, back, &mut items)?;
     Ok(Part { phase, items })
+}
+
+// The same of what two threads answered.
+fn join_read(
+    alloc: Global,
+    first: Result<Part, AllocError>,
+    place: &Place,
+    second: Result<Part, AllocError>,
+    back: &[u8],
+) -> Result<Part, AllocError>
+    requires { IfOk second (λ p. machine p.phase p.items.items
+        ≡ after (record { reader = Reading (spot place.now) []; items = [] }) back.now) }
+    ensures { IfOk result (λ p. (f : Part) × (first ≡ Ok f) × (machine p.phase p.items.items
+        ≡ after (machine f.phase f.items.items) back.now)) }
+{
+    let Ok(first) = first else {
+        drop(second);
+        return Err(AllocError);
+    };
+    let Ok(second) = second else {
+        drop(first);
+        return Err(AllocError);
+    };
+    join_parts(alloc, first, place, second, back)
 }
 
 // A part may come back from another thread, as a fact for the call that follows; does nothing.
@@ -202,7 +232,9 @@ fn read_wide<R: Threads + Sync>(
                 ≡ after (machine phase []) front.entry.now) }
         { read_wide(rt, alloc, phase, front, fewer) },
     );
-    join_parts(alloc, first?, &place, second?, back)
+    let part = join_read(alloc, first, &place, second, back);
+    drop(place);
+    part
 }
 
 /// What comes after these bytes: the line that has begun is ended first, and the rest is read by at most four threads. `Err` only

@@ -8,6 +8,7 @@ use Rattle.ks_job_record.specs.declared.fault.JobKind.TheVariants.{TooMany, BadS
 use Rattle.ks_job_expr.specs.declared.expr.Judged.{Judged}
 use Rattle.ks_job_expr.specs.declared.expr.Judged.TheVariants.{Wrong, NoInteger, Read}
 use Rattle.ks_job_record.specs.Members.{same}
+use Rattle.ks_job_record.specs.Gives.{◌>>=◌}
 use Rattle.ks_expr.specs.Terms.{Term, FieldOf, LeftOf, RightOf, Number, Words, Plus, Minus, Times}
 
 -- a verdict, with what was read seen so
@@ -118,10 +119,15 @@ within (suc n) (Plus a b) = within n a && within n b
 within (suc n) (Minus a b) = within n a && within n b
 within (suc n) (Times a b) = within n a && within n b
 
-abbrev pub as_judged : List ℕ → Judged Term → Result Term JobKind
-as_judged name Wrong = Err (BadShape name)
-as_judged name NoInteger = Err (BadNumber name)
-as_judged name (Read t) = if within 16 t then Ok t else Err (TooMany (codes "depth") 16)
+-- what was read, or the fault of the member that should hold it
+abbrev pub read_or : {A : Type 0} → List ℕ → Judged A → Result A JobKind
+read_or name Wrong = Err (BadShape name)
+read_or name NoInteger = Err (BadNumber name)
+read_or name (Read x) = Ok x
 
+abbrev pub shallow : Term → Result Term JobKind
+shallow t = if within 16 t then Ok t else Err (TooMany (codes "depth") 16)
+
+-- its shape first, then its numbers, then its depth
 unfoldable pub limited : List ℕ → Bool → Data → Result Term JobKind
-limited name sides d = as_judged name (expr_from sides d)
+limited name sides d = read_or name (expr_from sides d) >>= shallow

@@ -3,12 +3,12 @@ use Rattle.std.specs.Prelude.{ℕ, zero, suc, ◌||◌, ◌&&◌, List, Bool, fa
 use Rattle.serde_json.specs.Data.{Data, null, boolean, number, string, array, object, Members, no_members, member, Items, no_items, item}
 use Rattle.ks_expr.specs.Terms.{Term, Test, IsThere, Equals, IsLess, Fails, Both, Either}
 use Rattle.ks_job_record.specs.declared.fault.JobKind.{JobKind}
-use Rattle.ks_job_record.specs.declared.fault.JobKind.TheVariants.{TooMany, BadShape, BadNumber}
+use Rattle.ks_job_record.specs.declared.fault.JobKind.TheVariants.{TooMany}
 use Rattle.ks_job_expr.specs.declared.expr.Judged.{Judged}
 use Rattle.ks_job_expr.specs.declared.expr.Judged.TheVariants.{Wrong, NoInteger, Read}
 use Rattle.ks_job_record.specs.Members.{same, member_of}
 use Rattle.ks_job_record.specs.Gives.{◌>>=◌}
-use Rattle.ks_job_expr.specs.Exprs.{seen_by, both_of, expr_from, within}
+use Rattle.ks_job_expr.specs.Exprs.{seen_by, both_of, expr_from, read_or, within}
 
 abbrev pub is_comparison : List ℕ → Bool
 is_comparison k = same k (codes "eq") || same k (codes "lt")
@@ -79,13 +79,12 @@ test_within (suc n) (Fails p) = test_within n p
 test_within (suc n) (Both p q) = test_within n p && test_within n q
 test_within (suc n) (Either p q) = test_within n p && test_within n q
 
--- the predicate of a filter: its shape first, then its numbers, then its depth
-abbrev pub as_test : Judged Test → Result Test JobKind
-as_test Wrong = Err (BadShape (codes "where"))
-as_test NoInteger = Err (BadNumber (codes "where"))
-as_test (Read t) = if test_within 16 t then Ok t else Err (TooMany (codes "depth") 16)
+abbrev pub shallow_test : Test → Result Test JobKind
+shallow_test t = if test_within 16 t then Ok t else Err (TooMany (codes "depth") 16)
 
+-- the predicate of a filter: its shape first, then its numbers, then its depth
 unfoldable pub where_of : Data → Result Test JobKind
 where_of d = do
   inner ← member_of (codes "where") d
-  as_test (test_from inner)
+  test ← read_or (codes "where") (test_from inner)
+  shallow_test test

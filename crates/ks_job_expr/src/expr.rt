@@ -2,7 +2,7 @@
 ghost use Rattle.std.specs.Prelude.{◌≡◌, IfOk, option_map};
 ghost use Rattle.serde_json.specs.View.{view};
 ghost use Rattle.ks_expr.specs.Terms.{term_of};
-ghost use Rattle.ks_job_expr.specs.Exprs.{only_member_of, only_pair_of, is_arithmetic, seen_by, field_seen, leaf_from, joined, both_of, expr_from, limited, within};
+ghost use Rattle.ks_job_expr.specs.Exprs.{only_member_of, only_pair_of, is_arithmetic, seen_by, field_seen, leaf_from, joined, both_of, expr_from, limited, read_or, shallow, within};
 ghost use Rattle.ks_job_record.specs.Gives.{Gives};
 
 use ks_expr::Expr;
@@ -105,11 +105,21 @@ fn read_leaf(
     }
 }
 
+/// A tree in a box, or none, and the tree is gone.
+pub fn boxed<T: Drop>(alloc: Global, tree: T) -> Result<Box<T>, AllocError>
+    ensures { IfOk result (λ made. made.value ≡ tree) }
+{
+    Ok(Box::new(alloc, tree)?)
+}
+
 fn join(alloc: Global, name: &str, left: Expr, right: Expr) -> Result<Expr, AllocError>
     ensures { IfOk result (λ e. term_of e ≡ joined name.now (term_of left) (term_of right)) }
 {
-    let left = Box::new(alloc, left)?;
-    let right = Box::new(alloc, right)?;
+    let Ok(left) = boxed(alloc, left) else {
+        drop(right);
+        return Err(AllocError);
+    };
+    let right = boxed(alloc, right)?;
     if name == "add" {
         Ok(Expr::Add(left, right))
     } else if name == "sub" {
@@ -167,7 +177,10 @@ pub fn read_expr(alloc: Global, sides: bool, value: &Value) -> Result<Judged<Exp
             return Ok(Judged::Wrong);
         };
         let left = read_expr(alloc, sides, first)?;
-        let right = read_expr(alloc, sides, second)?;
+        let Ok(right) = read_expr(alloc, sides, second) else {
+            drop(left);
+            return Err(AllocError);
+        };
         both(alloc, name, left, right)
     } else {
         read_leaf(alloc, sides, name, inner)
@@ -189,6 +202,28 @@ pub fn is_within(expr: &Expr, levels: u32) -> bool
     }
 }
 
+/// What was read, or the fault of this member, whose value is no such tree.
+pub fn judge<T: Drop>(alloc: Global, name: &str, judged: Judged<T>) -> Result<T, LineError>
+    ensures { Gives (λ t. t) result (read_or name.now judged) }
+{
+    match judged {
+        Judged::Read(tree) => Ok(tree),
+        Judged::Wrong => Err(LineError::Fault(bad_shape(alloc, name)?)),
+        Judged::NoInteger => Err(LineError::Fault(bad_number(alloc, name)?)),
+    }
+}
+
+// The expression, unless it is too deep.
+fn limit_depth(alloc: Global, expr: Expr) -> Result<Expr, LineError>
+    ensures { Gives (λ e. term_of e) result (shallow (term_of expr)) }
+{
+    if is_within(&expr, 16) {
+        return Ok(expr);
+    }
+    drop(expr);
+    Err(LineError::Fault(too_many(alloc, "depth", 16)?))
+}
+
 /// The expression of a field of `set`: its shape is judged first, then its numbers, then its depth.
 #[tactic(auto, unfolding(crate::specs::Exprs::limited))]
 pub fn read_limited(
@@ -199,15 +234,7 @@ pub fn read_limited(
 ) -> Result<Expr, LineError>
     ensures { Gives (λ e. term_of e) result (limited name.now sides (view value.now)) }
 {
-    match read_expr(alloc, sides, value)? {
-        Judged::Wrong => Err(LineError::Fault(bad_shape(alloc, name)?)),
-        Judged::NoInteger => Err(LineError::Fault(bad_number(alloc, name)?)),
-        Judged::Read(expr) => {
-            if is_within(&expr, 16) {
-                Ok(expr)
-            } else {
-                Err(LineError::Fault(too_many(alloc, "depth", 16)?))
-            }
-        }
-    }
+    let judged = read_expr(alloc, sides, value)?;
+    let expr = judge(alloc, name, judged)?;
+    limit_depth(alloc, expr)
 }

@@ -4,12 +4,12 @@ ghost use Rattle.serde_json.specs.View.{view};
 ghost use Rattle.ks_expr.specs.Terms.{term_of, test_of, IsThere, Fails};
 ghost use Rattle.ks_job_expr.specs.Exprs.{seen_by, both_of};
 ghost use Rattle.ks_job_record.specs.Members.{member_of};
-ghost use Rattle.ks_job_expr.specs.Tests.{is_comparison, is_connective, compared, connected, comparison_from, simple_from, test_from, test_within, where_of};
+ghost use Rattle.ks_job_expr.specs.Tests.{is_comparison, is_connective, compared, connected, comparison_from, simple_from, test_from, test_within, shallow_test, where_of};
 ghost use Rattle.ks_job_record.specs.Gives.{Gives};
 
-use crate::expr::{Judged, is_within, only_member, only_pair, pair_up, read_expr};
+use crate::expr::{Judged, boxed, is_within, judge, only_member, only_pair, pair_up, read_expr};
 use ks_expr::{Expr, Pred};
-use ks_job_record::{LineError, bad_number, bad_shape, read_member, too_many};
+use ks_job_record::{LineError, read_member, too_many};
 use serde_json::Value;
 use std::alloc::{AllocError, Global};
 
@@ -81,15 +81,18 @@ fn negate(alloc: Global, judged: Judged<Pred>) -> Result<Judged<Pred>, AllocErro
     match judged {
         Judged::Wrong => Ok(Judged::Wrong),
         Judged::NoInteger => Ok(Judged::NoInteger),
-        Judged::Read(pred) => Ok(Judged::Read(Pred::Not(Box::new(alloc, pred)?))),
+        Judged::Read(pred) => Ok(Judged::Read(Pred::Not(boxed(alloc, pred)?))),
     }
 }
 
 fn connect(alloc: Global, name: &str, left: Pred, right: Pred) -> Result<Pred, AllocError>
     ensures { IfOk result (λ p. test_of p ≡ connected name.now (test_of left) (test_of right)) }
 {
-    let left = Box::new(alloc, left)?;
-    let right = Box::new(alloc, right)?;
+    let Ok(left) = boxed(alloc, left) else {
+        drop(right);
+        return Err(AllocError);
+    };
+    let right = boxed(alloc, right)?;
     if name == "and" {
         Ok(Pred::And(left, right))
     } else {
@@ -129,7 +132,10 @@ fn read_test(alloc: Global, value: &Value) -> Result<Judged<Pred>, AllocError>
             return Ok(Judged::Wrong);
         };
         let left = read_test(alloc, first)?;
-        let right = read_test(alloc, second)?;
+        let Ok(right) = read_test(alloc, second) else {
+            drop(left);
+            return Err(AllocError);
+        };
         both(alloc, name, left, right)
     } else {
         read_simple(alloc, name, inner)
@@ -153,21 +159,24 @@ fn is_test_within(pred: &Pred, levels: u32) -> bool
     }
 }
 
+// The predicate, unless it is too deep.
+fn limit_depth(alloc: Global, pred: Pred) -> Result<Pred, LineError>
+    ensures { Gives (λ p. test_of p) result (shallow_test (test_of pred)) }
+{
+    if is_test_within(&pred, 16) {
+        return Ok(pred);
+    }
+    drop(pred);
+    Err(LineError::Fault(too_many(alloc, "depth", 16)?))
+}
+
 /// The predicate of a filter: its shape is judged first, then its numbers, then its depth.
 #[tactic(auto, unfolding(crate::specs::Tests::where_of))]
 pub fn read_where(alloc: Global, value: &Value) -> Result<Pred, LineError>
     ensures { Gives (λ p. test_of p) result (where_of (view value.now)) }
 {
     let inner = read_member(alloc, "where", value)?;
-    match read_test(alloc, inner)? {
-        Judged::Wrong => Err(LineError::Fault(bad_shape(alloc, "where")?)),
-        Judged::NoInteger => Err(LineError::Fault(bad_number(alloc, "where")?)),
-        Judged::Read(pred) => {
-            if is_test_within(&pred, 16) {
-                Ok(pred)
-            } else {
-                Err(LineError::Fault(too_many(alloc, "depth", 16)?))
-            }
-        }
-    }
+    let judged = read_test(alloc, inner)?;
+    let pred = judge(alloc, "where", judged)?;
+    limit_depth(alloc, pred)
 }

@@ -46,11 +46,14 @@ fn stand(stop: Option<JobStop>, reader: Option<JobReader>) -> Result<Standing, J
     ensures { result ≡ stand_by stop reader }
 {
     match stop {
-        Some(JobStop::BadTopology { line, fault }) => Err(JobStop::BadTopology { line, fault }),
-        Some(JobStop::BadLine { line, kind }) => Ok(Standing::Stopped(JobStop::BadLine {
-            line,
-            kind,
-        })),
+        Some(JobStop::BadTopology { line, fault }) => {
+            drop(reader);
+            Err(JobStop::BadTopology { line, fault })
+        }
+        Some(JobStop::BadLine { line, kind }) => {
+            drop(reader);
+            Ok(Standing::Stopped(JobStop::BadLine { line, kind }))
+        }
         None => match reader {
             Some(reader) => Ok(Standing::Reading(reader)),
             None => Ok(Standing::Whole),
@@ -105,16 +108,29 @@ fn open_by<R: Threads + Sync, S: Source>(
     let mut items = Vec::new(alloc);
     let mut taken: u64 = 0;
     loop {
-        let count = input.take(&mut buf)?;
+        let count = match input.take(&mut buf) {
+            Ok(count) => count,
+            Err(_) => {
+                drop(reader);
+                return Err(SourceError::Fault);
+            }
+        };
         if count == 0 {
             let stop = end_items(alloc, reader, &mut items)?;
             return Ok(open_with(stop, None, items, buf));
         }
-        let stop = feed_piece(rt, alloc, &mut reader, &mut items, &buf[..count])?;
+        let stop = match feed_piece(rt, alloc, &mut reader, &mut items, &buf[..count]) {
+            Ok(stop) => stop,
+            Err(_) => {
+                drop(reader);
+                return Err(SourceError::Memory);
+            }
+        };
         let is_open = stop.is_some() || !items.is_empty();
         if is_open {
             return Ok(open_with(stop, Some(reader), items, buf));
         }
+        drop(stop);
         taken += count as u64;
     }
 }

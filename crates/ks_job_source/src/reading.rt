@@ -138,12 +138,29 @@ pub(crate) fn read_by<R: Threads + Sync, S: Source>(
     let mut items = Vec::new(alloc);
     let mut taken: u64 = 0;
     loop {
-        let count = input.take(buf)?;
+        let count = match input.take(buf) {
+            Ok(count) => count,
+            Err(_) => {
+                drop(reader);
+                return Err(SourceError::Fault);
+            }
+        };
         if count == 0 {
             return Ok(end_job(alloc, reader, items)?);
         }
-        if let Some(stop) = feed_piece(rt, alloc, &mut reader, &mut items, &buf[..count])? {
-            return Ok(Err(stop));
+        let found = match feed_piece(rt, alloc, &mut reader, &mut items, &buf[..count]) {
+            Ok(found) => found,
+            Err(_) => {
+                drop(reader);
+                return Err(SourceError::Memory);
+            }
+        };
+        match found {
+            Some(stop) => {
+                drop(reader);
+                return Ok(Err(stop));
+            }
+            None => drop(found),
         }
         taken += count as u64;
     }

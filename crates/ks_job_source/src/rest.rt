@@ -63,12 +63,19 @@ fn take_piece<R: Threads + Sync>(
     ensures items { OnOk result (IfSome reader
         (λ r. item_views items.new.items ≡ (after (from r) piece.now).items)) }
 {
-    match reader.feed_wide(rt, piece, items)? {
-        Ok(()) => Ok(Standing::Reading(reader)),
-        Err(fault) => Ok(Standing::Stopped(JobStop::BadLine {
-            line: fault.line,
-            kind: fault.kind,
-        })),
+    match reader.feed_wide(rt, piece, items) {
+        Ok(Ok(())) => Ok(Standing::Reading(reader)),
+        Ok(Err(fault)) => {
+            drop(reader);
+            Ok(Standing::Stopped(JobStop::BadLine {
+                line: fault.line,
+                kind: fault.kind,
+            }))
+        }
+        Err(error) => {
+            drop(reader);
+            Err(error)
+        }
     }
 }
 

@@ -12,10 +12,10 @@ returns-in_default-clause-stop g c = c.in_ok-found.ensures.none c.in_default.is
 
 pub returns-in-Ok-clause-plays : goal.returns-in-Ok-clause-plays
 returns-in-Ok-clause-plays g c =
-    line_played g.W.Work.plan g.W.Work.good (rules_of g.H.Hash128.hash_of) (draft_of c.args.topology.now) c.args.played.now c.play.new.self c.args.text.now c.in-Some.entry c.requires.played
-    (subst (λ (o : Option Entry). IfSome o (λ e. IsLineOf e c.args.text.now)) c.in-Some.is c.in_ok-found.ensures.some) c.in-Ok.ensures.plays
+    line_played g.W.Work.plan g.W.Work.good (rules_of g.H.Hash128.hash_of) (draft_of c.args.topology.now) c.args.played.now c.play-answer.new.self c.args.text.now c.in-Some.entry c.requires.played
+    (subst (λ (o : Option Entry). IfSome o (λ e. IsLineOf e c.args.text.now)) c.in-Some.is c.in_ok-found.ensures.some) (rw c.in-Ok.is at c.play-answer.ensures.plays)
 
-pub returns-clause-stop : goal.returns-clause-stop
-returns-clause-stop g c =
+pub returns-in-Err-clause-stop : goal.returns-in-Err-clause-stop
+returns-in-Err-clause-stop g c =
     line_stopped (rules_of g.H.Hash128.hash_of) (plan_in c.args.topology.now) (setup_of g.W.Work.plan c.args.played.now.cluster) c.args.played.now.cluster.journal c.args.text.now c.in-Some.entry c.requires.played.setup
-    (subst (λ (o : Option Entry). IfSome o (λ e. IsLineOf e c.args.text.now)) c.in-Some.is c.in_ok-found.ensures.some) c.in-Err.stop c.in-Err.ensures.stop
+    (subst (λ (o : Option Entry). IfSome o (λ e. IsLineOf e c.args.text.now)) c.in-Some.is c.in_ok-found.ensures.some) c.in-Err.stop (rw c.in-Err.is at c.play-answer.ensures.stop)

@@ -9,4 +9,4 @@ pub returns-then-is_at : goal.returns-then-is_at
 returns-then-is_at c =
     let items = c.args.first.items.items in
     let more = c.args.second.items.items in
-    appended (reader_of c.args.first.phase) _ (reader_of c.args.second.phase) (item_views items) (item_views more) _ c.args.back.now (c.is_at.ensures c.if-is_at.true) (ap item_views c.in_ok-append.ensures.items ∙ map-append item_view items more) c.requires
+    appended (reader_of c.args.first.phase) _ (reader_of c.args.second.phase) (item_views items) (item_views more) _ c.args.back.now (c.is_at.ensures c.if-is_at.true) (ap item_views c.in-Ok.ensures.items ∙ map-append item_view items more) c.requires
