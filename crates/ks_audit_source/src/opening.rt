@@ -236,8 +236,14 @@ pub fn open_audit<S: Source>(
         }
         taken += count as u64;
         match feed_lines(alloc, &mut reader, &buf[..count])? {
-            Some(Ok(found)) => return Ok(Ok(open_with(alloc, found, taken)?)),
-            Some(Err(stop)) => return Ok(Err(stop)),
+            Some(Ok(found)) => {
+                drop(reader);
+                return Ok(Ok(open_with(alloc, found, taken)?));
+            }
+            Some(Err(stop)) => {
+                drop(reader);
+                return Ok(Err(stop));
+            }
             None => {}
         }
     }
