@@ -217,12 +217,15 @@ pub fn settle_job<H: Processing + Send + Sync, R: Threads + Wait + Sync + Random
         records,
         rest,
     } = job;
-    let Ok(topology) = build_topology(rt, alloc, draft)? else {
-        unreachable!()
+    let intake = JobInput { records, rest };
+    let Ok(built) = build_topology(rt, alloc, draft) else {
+        drop(intake);
+        drop(crew);
+        return Err(AllocError);
     };
+    let Ok(topology) = built else { unreachable!() };
     share_topology();
     let placing = placing_of(&crew.settings);
     let work = TaskWork::<H>::new(&topology, Some(placing));
-    let intake = JobInput { records, rest };
     settle::<H, R, TaskWork<H>, S>(rt, alloc, &topology, work, intake, input, crew)
 }

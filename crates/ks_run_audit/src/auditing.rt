@@ -54,12 +54,14 @@ fn answer_yes(alloc: Global) -> Result<AuditAnswer, AllocError>
     })
 }
 
-fn answer_no(alloc: Global, line: u64, fault: &OutputFault) -> Result<AuditAnswer, AllocError>
-    ensures { IfOk result (λ a. (a.status ≡ 10) × (a.text.items ≡ no_text line fault.now)) }
+fn answer_no(alloc: Global, line: u64, fault: OutputFault) -> Result<AuditAnswer, AllocError>
+    ensures { IfOk result (λ a. (a.status ≡ 10) × (a.text.items ≡ no_text line fault)) }
 {
+    let text = print_no(alloc, line, &fault);
+    drop(fault);
     Ok(AuditAnswer {
         status: NO,
-        text: print_no(alloc, line, fault)?,
+        text: text?,
     })
 }
 
@@ -81,10 +83,11 @@ fn end_output<'a, H: Processing + Send + Sync, R: Threads + Sync>(
 {
     let line = feed.number();
     if feed.has_begun() {
-        return answer_no(alloc, line, &OutputFault::NotJournal);
+        drop(output);
+        return answer_no(alloc, line, OutputFault::NotJournal);
     }
     match judge_end::<H, R>(rt, alloc, topology, output)? {
-        Some(fault) => answer_no(alloc, line, &fault),
+        Some(fault) => answer_no(alloc, line, fault),
         None => answer_yes(alloc),
     }
 }
@@ -233,9 +236,16 @@ fn read_output<H: Processing + Send + Sync, R: Threads + Sync, S: Source>(
     let mut output = OutputAudit::<H>::new(alloc, &open.topology)?;
     let mut feed = LineFeed::new(alloc, open.line, open.taken);
     let rest = open.rest.as_slice();
-    match read_all(alloc, rest, input, buf, &mut output, &mut feed)? {
-        Ok(()) => Ok(end_output::<H, R>(rt, alloc, &open.topology, output, &feed)?),
-        Err(fault) => Ok(answer_no(alloc, feed.number(), &fault)?),
+    match read_all(alloc, rest, input, buf, &mut output, &mut feed) {
+        Ok(Ok(())) => Ok(end_output::<H, R>(rt, alloc, &open.topology, output, &feed)?),
+        Ok(Err(fault)) => {
+            drop(output);
+            Ok(answer_no(alloc, feed.number(), fault)?)
+        }
+        Err(error) => {
+            drop(output);
+            Err(error)
+        }
     }
 }
 
@@ -268,7 +278,7 @@ fn audit_open<H: Processing + Send + Sync, R: Threads + Sync, S: Source>(
     if open.has_end {
         read_output::<H, R, S>(rt, alloc, open, input, buf)
     } else {
-        Ok(answer_no(alloc, open.line, &OutputFault::NotJournal)?)
+        Ok(answer_no(alloc, open.line, OutputFault::NotJournal)?)
     }
 }
 
@@ -294,11 +304,19 @@ fn audit_by<H: Processing + Send + Sync, R: Threads + Sync, S: Source>(
         (S.left input.old) (S.left input.new) }
 {
     match open_audit(alloc, input, buf)? {
-        Ok(open) => audit_open::<H, R, S>(rt, alloc, &open, input, buf),
-        Err(stop) => Ok(AuditAnswer {
-            status: BAD_JOB,
-            text: print_bad_job(alloc, &stop)?,
-        }),
+        Ok(open) => {
+            let answer = audit_open::<H, R, S>(rt, alloc, &open, input, buf);
+            drop(open);
+            answer
+        }
+        Err(stop) => {
+            let text = print_bad_job(alloc, &stop);
+            drop(stop);
+            Ok(AuditAnswer {
+                status: BAD_JOB,
+                text: text?,
+            })
+        }
     }
 }
 

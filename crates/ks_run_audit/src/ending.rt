@@ -129,11 +129,15 @@ fn judge_cluster<H: Processing + Sync, R: Threads + Sync, W: Work + Sync>(
         lines.now)) }
 {
     let report = report::<H, R, W>(rt, alloc, cluster, topology)?;
-    if let Some(fault) = fault_of_report(&report) {
+    let shown = fault_of_report(&report);
+    drop(report);
+    if let Some(fault) = shown {
         return Ok(Some(fault));
     }
     let tables = tables(rt, alloc, topology, cluster)?;
-    match first_wrong(alloc, tables.as_slice(), lines)? {
+    let wrong = first_wrong(alloc, tables.as_slice(), lines);
+    drop(tables);
+    match wrong? {
         Some(name) => Ok(Some(OutputFault::WrongTable { name })),
         None => Ok(None),
     }
@@ -169,5 +173,8 @@ pub(crate) fn judge_end<'a, H: Processing + Send + Sync, R: Threads + Sync>(
     let cluster = audit.finish();
     // The journal is a history.
     cluster.is_history();
-    judge_cluster::<H, R, TaskWork<H>>(rt, alloc, topology, &cluster, lines.as_slice())
+    let fault = judge_cluster::<H, R, TaskWork<H>>(rt, alloc, topology, &cluster, lines.as_slice());
+    drop(cluster);
+    drop(lines);
+    fault
 }

@@ -199,6 +199,16 @@ fn is_one_starved<W: Work, G: Gate>(members: &[WorkerThread<W, G>]) -> bool
     false
 }
 
+// Whether somebody of a team is marked as starved.
+fn is_team_starved<W: Work, G: Gate>(team: &Team<W, G>) -> bool
+    ensures workers { result ≡ false
+        → is_one_starved team.now.crew.threads.members.items ≡ false }
+    ensures asker { result ≡ false
+        → option_map_or (λ a. a.is_starved) team.now.crew.asker false ≡ false }
+{
+    is_one_starved(team.crew.threads.members.as_slice()) || is_asker_starved(&team.crew.asker)
+}
+
 /// Feeds the records of a job while the workers take their turns, or before where they wait. Want of memory, also in a
 /// worker, is the one error.
 pub fn feed_and_work<
@@ -232,10 +242,8 @@ pub fn feed_and_work<
     ensures faults { IfOk result (λ e. FaultsBy e (S.faults input.old) (S.faults input.new)) }
 {
     let end = feed_team::<H, R, W, G, S>(rt, alloc, topology, shared, input, feeder, team)?;
-    if is_one_starved(team.crew.threads.members.as_slice()) {
-        return Err(AllocError);
-    }
-    if is_asker_starved(&team.crew.asker) {
+    if is_team_starved(team) {
+        drop(end);
         return Err(AllocError);
     }
     Ok(end)

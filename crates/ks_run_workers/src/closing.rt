@@ -117,7 +117,11 @@ fn close_with<W: Work, G: Gate>(
     ensures replicas { IfOk result (λ r. AreStandbysOf W.plan r.0 r.1.items) }
 {
     let mut replicas = Vec::new(alloc);
-    let passes = passes_of(alloc, first, members, last, &mut replicas)?;
+    let Ok(passes) = passes_of(alloc, first, members, last, &mut replicas) else {
+        drop(replicas);
+        drop(shared);
+        return Err(AllocError);
+    };
     let cluster = shared.close(passes);
     // The journal is a history: the replicas follow it.
     cluster.is_history();
@@ -160,7 +164,7 @@ pub fn work_and_close<
     ensures faults { IfOk result (λ r. FaultsBy r.0.end (S.faults input.old)
         (S.faults input.new)) }
 {
-    let end = feed_and_work::<H, R, W, G, S>(
+    let Ok(end) = feed_and_work::<H, R, W, G, S>(
         rt,
         alloc,
         topology,
@@ -168,11 +172,21 @@ pub fn work_and_close<
         input,
         &mut feeder,
         &mut team,
-    )?;
+    ) else {
+        drop(team);
+        drop(feeder);
+        drop(shared);
+        return Err(AllocError);
+    };
     let Team { crew, .. } = team;
     let Crew { threads, asker } = crew;
     let (last, asked) = part_asker(asker);
-    let (cluster, replicas) = close_with(alloc, shared, feeder.into_pass(), threads.members, last)?;
+    let first = feeder.into_pass();
+    let Ok((cluster, replicas)) = close_with(alloc, shared, first, threads.members, last) else {
+        drop(asked);
+        drop(end);
+        return Err(AllocError);
+    };
     let end = WorkEnd {
         cluster,
         replicas,

@@ -138,6 +138,9 @@ fn run_gated<
     } = crew;
     let count = count_passes(&settings, &question);
     let Ok((shared, passes)) = Shared::new(alloc, cluster, count) else {
+        drop(intake);
+        drop(question);
+        drop(gates);
         return Err(AllocError);
     };
     let (pass, mut others) = split_first(passes);
@@ -148,7 +151,12 @@ fn run_gated<
         rest,
         pass,
     };
-    let members = enlist(alloc, &settings, gates, others)?;
+    let Ok(members) = enlist(alloc, &settings, gates, others) else {
+        drop(feeder);
+        drop(asker);
+        drop(shared);
+        return Err(AllocError);
+    };
     let threads = WorkerThreads {
         members,
         turns: turns_of(&settings),
@@ -199,7 +207,12 @@ pub fn run_workers<
         gates,
         question,
     } = crew;
-    let gates = box_gates(alloc, gates)?;
+    let Ok(gates) = box_gates(alloc, gates) else {
+        drop(question);
+        drop(intake);
+        drop(cluster);
+        return Err(AllocError);
+    };
     let crew = RunWorkers {
         settings,
         gates,

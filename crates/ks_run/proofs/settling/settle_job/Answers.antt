@@ -26,12 +26,12 @@ settle-requires-clause-placing g c κs within =
 
 pub settle-requires-clause-job : goal.settle-requires-clause-job
 settle-requires-clause-job g c κs within =
-    let built = rw c.in-Ok.is at c.in_ok-topology.ensures in
+    let built = rw c.in-Ok-built.is at c.in-Ok.ensures in
     subst (λ d. IsReadable d (item_views c.args.job.records.items) c.args.job.rest) (sym built.1) c.requires.job
 
 pub returns : goal.returns
 returns g c =
-    let built = rw c.in-Ok.is at c.in_ok-topology.ensures in
+    let built = rw c.in-Ok-built.is at c.in-Ok.ensures in
     IfOk-weaker c.settle.result _ _
     (λ a h. subst (λ d. RunsJob (rules_of g.H.Hash128.hash_of) (placing_of c.args.crew.settings) (wanted_in c.args.crew.settings.journal c.args.crew.question) d (item_views c.args.job.records.items) c.args.job.rest.standing
     (g.S.Source.left c.args.input.now) (g.S.Source.left c.settle.new.input) (g.S.Source.faults c.args.input.now) (g.S.Source.faults c.settle.new.input) a.status a.text.items a.journal) built.1 h)

@@ -65,7 +65,7 @@ work_and_close-requires-clause-may g c κs within =
     let asker = c.asker_of-asker.result in
     let sizes = are_workers s.instances s.threads c.requires.settings.instances c.requires.settings.threads in
     let long = taken_long c.args.crew.question all others asker (s.instances * s.threads) c.asker_of-asker.ensures (others_counted c.in-Ok.passes.items c.split_first-pass.result.1.items c.split_first-pass.result.0 c.count_passes-count.result (s.instances * s.threads) (cond (is_some c.args.crew.question) 2 1) c.split_first-pass.ensures c.in-Ok.ensures.count c.count_passes-count.ensures) in
-    let many = members_long (λ m. m.worker.state.session.client.pass) c.in_ok-members.members.items others (s.instances * s.threads) c.in_ok-members.ensures.passes long in
+    let many = members_long (λ m. m.worker.state.session.client.pass) c.in-Ok-enlist.members.items others (s.instances * s.threads) c.in-Ok-enlist.ensures.passes long in
     let fresh = others_fresh lock c.args.cluster.journal (frame_of c.args.cluster) c.in-Ok.passes.items all c.split_first-pass.result.0 c.split_first-pass.ensures c.in-Ok.ensures.fresh in
     let first = first_fresh lock c.args.cluster.journal (frame_of c.args.cluster) c.in-Ok.passes.items _ c.split_first-pass.result.0 c.split_first-pass.ensures c.in-Ok.ensures.fresh in
     let split = taken_split c.args.crew.question all others asker c.asker_of-asker.ensures in
@@ -73,7 +73,7 @@ work_and_close-requires-clause-may g c κs within =
       some = some_work _ (s.instances * s.threads) many sizes.some;
       may = all_may_run g.W.Work.plan g.W.Work.good g.H.Hash128.hash_of d c.args.cluster lock (placing_of s) c.turns_of.result c.requires.ready.new c.requires.ready.topology
           c.requires.ready.wanted c.requires.settings.threads.0 c.nodes-nodes.ensures.well_formed c.requires.ready.nodes c.turns_of.ensures.few
-          (λ m. m.worker.state) (λ m. m.worker.placing) c.in_ok-members.members.items others c.in_ok-members.ensures.passes (each_front (λ k p. IsFresh lock c.args.cluster.journal (frame_of c.args.cluster) (k + 1) p) all others (option_list (option_map (λ a. a.reader.pass) asker)) split fresh) c.in_ok-members.ensures.enlisted c.in_ok-members.ensures.placing;
+          (λ m. m.worker.state) (λ m. m.worker.placing) c.in-Ok-enlist.members.items others c.in-Ok-enlist.ensures.passes (each_front (λ k p. IsFresh lock c.args.cluster.journal (frame_of c.args.cluster) (k + 1) p) all others (option_list (option_map (λ a. a.reader.pass) asker)) split fresh) c.in-Ok-enlist.ensures.enlisted c.in-Ok-enlist.ensures.placing;
       feed = fresh_feeder g.W.Work.plan lock d c.args.cluster _ first c.requires.ready.counts_are c.requires.ready.places c.requires.ready.records c.requires.ready.past c.requires.ready.room;
       ask = asker_may g.W.Work.plan g.H.Hash128.hash_of d c.args.cluster lock c.requires.ready.new c.requires.ready.topology c.nodes-nodes.ensures.well_formed c.requires.ready.nodes c.args.crew.question all others asker c.asker_of-asker.ensures fresh c.requires.question;
     }
@@ -85,7 +85,7 @@ work_and_close-requires-clause-passes g c κs within =
     let others = c.asker_of-asker.new.passes.items in
     let asker = c.asker_of-asker.result in
     let fresh = others_fresh lock c.args.cluster.journal (frame_of c.args.cluster) c.in-Ok.passes.items all c.split_first-pass.result.0 c.split_first-pass.ensures c.in-Ok.ensures.fresh in
-    subst (λ l. ArePasses lock (l ++ option_list (option_map (λ a. a.reader.pass) asker))) (sym c.in_ok-members.ensures.passes)
+    subst (λ l. ArePasses lock (l ++ option_list (option_map (λ a. a.reader.pass) asker))) (sym c.in-Ok-enlist.ensures.passes)
     (subst (ArePasses lock) (taken_split c.args.crew.question all others asker c.asker_of-asker.ensures) (others_are_passes lock c.args.cluster.journal (frame_of c.args.cluster) all fresh))
 
 pub work_and_close-requires-clause-all : goal.work_and_close-requires-clause-all
@@ -95,7 +95,7 @@ work_and_close-requires-clause-all g c κs within =
     let others = c.asker_of-asker.new.passes.items in
     let asker = c.asker_of-asker.result in
     let long = taken_long c.args.crew.question all others asker (s.instances * s.threads) c.asker_of-asker.ensures (others_counted c.in-Ok.passes.items c.split_first-pass.result.1.items c.split_first-pass.result.0 c.count_passes-count.result (s.instances * s.threads) (cond (is_some c.args.crew.question) 2 1) c.split_first-pass.ensures c.in-Ok.ensures.count c.count_passes-count.ensures) in
-    let many = members_long (λ m. m.worker.state.session.client.pass) c.in_ok-members.members.items others (s.instances * s.threads) c.in_ok-members.ensures.passes long in
+    let many = members_long (λ m. m.worker.state.session.client.pass) c.in-Ok-enlist.members.items others (s.instances * s.threads) c.in-Ok-enlist.ensures.passes long in
     let more = asker_long c.args.crew.question all others asker c.asker_of-asker.ensures in
     all_counted _ _ _ c.count_passes-count.result (s.instances * s.threads) (cond (is_some c.args.crew.question) 2 1) many more c.in-Ok.ensures.passes c.count_passes-count.ensures
 
