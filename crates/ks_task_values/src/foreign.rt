@@ -1,10 +1,9 @@
 //! What a join on a foreign key stores (KIP-213).
-ghost use Rattle.std.specs.Prelude.{◌≡◌, IfOk, Some, None, option_copied, is_none};
+ghost use Rattle.std.specs.Prelude.{◌≡◌, IfOk, Some, None, option_copied};
 ghost use Rattle.ks_expr.specs.Terms.{set_of};
 ghost use Rattle.ks_plan.specs.declared.node.Topic.TheVariants.{Responses};
-ghost use Rattle.ks_def_tasks.specs.Foreign.{is_direct as direct_is, direct_row, key_of_row, respond};
-ghost use Rattle.ks_def_tasks.specs.Step.{arrived, step_key, row_in, direct, responded, set_result};
-ghost use Rattle.ks_fk_left.specs.Asked.{row_hash};
+ghost use Rattle.ks_def_tasks.specs.Foreign.{is_direct as direct_is, direct_row};
+ghost use Rattle.ks_def_tasks.specs.Step.{arrived, step_key, row_in, direct, responded};
 ghost use Rattle.ks_def_tasks.specs.Rules.{rules_of};
 ghost use Rattle.ks_task_nodes.specs.Records.{arrival_of, message_of};
 ghost use Rattle.ks_task_nodes.specs.Stored.{stored_in, value_view};
@@ -24,22 +23,6 @@ use ks_task_nodes::{
 use ks_wire::Response;
 use std::alloc::{AllocError, Global};
 
-// Whether a left row of this key has no foreign key, or isn't there.
-fn lacks_key(
-    alloc: Global,
-    join: &ForeignKeyJoin<'_>,
-    key: &Key,
-    row: Option<&Row>,
-) -> Result<bool, AllocError>
-    ensures { IfOk result (λ b. b ≡ is_none (key_of_row join.now.foreign_key.now key.now
-        (option_copied row.entry))) }
-{
-    let foreign = foreign_key(alloc, join.foreign_key, key, row)?;
-    let lacks = foreign.is_none();
-    drop(foreign);
-    Ok(lacks)
-}
-
 // Whether no answer will come to a changed left row, so that the result is set at once. The row before is read only where there is none
 // after.
 fn is_direct(
@@ -53,12 +36,10 @@ fn is_direct(
         (row_in (olds_in values.now) join.now.left) new.now) }
 {
     match new {
-        Some(_) => lacks_key(alloc, join, key, new.as_ref()),
+        Some(_) => Ok(foreign_key(alloc, join.foreign_key, key, new.as_ref())?.is_none()),
         None => {
             let old = old_row(alloc, values, join.left)?;
-            let lacks = lacks_key(alloc, join, key, old.as_ref());
-            drop(old);
-            lacks
+            Ok(foreign_key(alloc, join.foreign_key, key, old.as_ref())?.is_none())
         }
     }
 }
@@ -74,26 +55,6 @@ fn left_alone(
     match row {
         Some(row) => join_rows(alloc, join.kind, join.set, Some(row), None),
         None => Ok(None),
-    }
-}
-
-// What a changed left row, which is this after the step, sets at once.
-fn value_beside<'a>(
-    alloc: Global,
-    join: &ForeignKeyJoin<'_>,
-    key: &Key,
-    old: Option<StoredValue<'a>>,
-    values: &NodeValues<'_, '_>,
-    now: &Option<Row>,
-) -> Result<NewValue<'a>, AllocError>
-    ensures { IfOk result (λ v. value_view v ≡ direct join.now.foreign_key.now
-        (Some key.now) join.now.kind (set_of join.now.set.now)
-        (row_in (olds_in values.now) join.now.left) now.now (stored_in old.entry)) }
-{
-    if is_direct(alloc, join, key, values, now)? {
-        Ok(value_of_row(left_alone(alloc, join, now)?))
-    } else {
-        Ok(NewValue::Unchanged(old))
     }
 }
 
@@ -113,28 +74,11 @@ fn direct_value<'a>(
         return Ok(NewValue::Unchanged(old));
     };
     let now = new_row(alloc, values, join.left)?;
-    let value = value_beside(alloc, join, key, old, values, &now);
-    drop(now);
-    value
-}
-
-// What a response to a left row, which is this after the step, sets.
-fn answered_value<'a, H: Hash128>(
-    alloc: Global,
-    join: &ForeignKeyJoin<'_>,
-    old: Option<StoredValue<'a>>,
-    left: Option<&Row>,
-    response: &Response,
-) -> Result<NewValue<'a>, AllocError>
-    ensures { IfOk result (λ v. value_view v ≡ set_result
-        (respond (row_hash H.hash_of) join.now.kind (set_of join.now.set.now)
-        (option_copied left.entry) response.now) (stored_in old.entry)) }
-{
-    if !is_answer_to(hash_of_row::<H>(left), response) {
-        return Ok(NewValue::Unchanged(old));
+    if is_direct(alloc, join, key, values, &now)? {
+        Ok(value_of_row(left_alone(alloc, join, &now)?))
+    } else {
+        Ok(NewValue::Unchanged(old))
     }
-    let row = join_rows(alloc, join.kind, join.set, left, response.right.as_ref())?;
-    Ok(value_of_row(row))
 }
 
 fn responded_value<'a, H: Hash128>(
@@ -156,9 +100,11 @@ fn responded_value<'a, H: Hash128>(
         return Ok(NewValue::Unchanged(old));
     };
     let left = new_row(alloc, values, join.left)?;
-    let value = answered_value::<H>(alloc, join, old, left.as_ref(), response);
-    drop(left);
-    value
+    let (left, right) = (left.as_ref(), response.right.as_ref());
+    if !is_answer_to(hash_of_row::<H>(left), response) {
+        return Ok(NewValue::Unchanged(old));
+    }
+    Ok(value_of_row(join_rows(alloc, join.kind, join.set, left, right)?))
 }
 
 /// What a join on a foreign key stores after the step: by its left row where that changed, else by a response to it. Want of memory is
@@ -196,9 +142,7 @@ fn is_awaited(
     match key {
         Some(key) => {
             let now = new_row(alloc, values, join.left)?;
-            let direct = is_direct(alloc, join, key, values, &now);
-            drop(now);
-            Ok(!direct?)
+            Ok(!is_direct(alloc, join, key, values, &now)?)
         }
         None => Ok(true),
     }

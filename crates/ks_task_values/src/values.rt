@@ -1,10 +1,9 @@
 //! What the nodes that a step goes through store at its key, before and after it.
 ghost use Rattle.std.specs.Prelude.{◌≡◌, IfOk, OnOk, Some, map, option_map, option_copied, slice_get};
 ghost use Rattle.ks_expr.specs.Terms.{test_of, set_of};
-ghost use Rattle.ks_expr.specs.Eval.{joined};
 ghost use Rattle.ks_plan.specs.declared.node.Topic.TheVariants.{Input, Repartition};
 ghost use Rattle.ks_query.specs.Query.{with_number};
-ghost use Rattle.ks_def_tasks.specs.Step.{arrived, step_key, taken_row, applied, added, of_row, row_in, value_at};
+ghost use Rattle.ks_def_tasks.specs.Step.{arrived, step_key, taken_row, applied, added, of_row, value_at};
 ghost use Rattle.ks_def_lookups.specs.Lists.{item_in, value_in};
 ghost use Rattle.ks_def_tasks.specs.Rules.{rules_of};
 ghost use Rattle.ks_task_nodes.specs.Nodes.{kind_of, node_view};
@@ -84,9 +83,7 @@ fn filter_value<'a>(
         return Ok(NewValue::Unchanged(old));
     }
     let row = new_row(alloc, values, from)?;
-    let passed = filter_row(test, row.as_ref());
-    drop(row);
-    Ok(value_of_row(passed?))
+    Ok(value_of_row(filter_row(test, row.as_ref())?))
 }
 
 fn map_value<'a>(
@@ -105,25 +102,7 @@ fn map_value<'a>(
         return Ok(NewValue::Unchanged(old));
     }
     let row = new_row(alloc, values, from)?;
-    let set_row = map_row(alloc, set, row.as_ref());
-    drop(row);
-    Ok(value_of_row(set_row?))
-}
-
-// The join of a left row with the right one of after the step.
-fn join_right(
-    alloc: Global,
-    join: &KeyJoin<'_>,
-    left: Option<&Row>,
-    values: &NodeValues<'_, '_>,
-) -> Result<Option<Row>, AllocError>
-    ensures { IfOk result (λ r. r ≡ joined join.now.kind (set_of join.now.set.now)
-        (option_copied left.entry) (row_in (news_in values.now) join.now.right)) }
-{
-    let right = new_row(alloc, values, join.right)?;
-    let row = join_rows(alloc, join.kind, join.set, left, right.as_ref());
-    drop(right);
-    row
+    Ok(value_of_row(map_row(alloc, set, row.as_ref())?))
 }
 
 fn join_value<'a>(
@@ -138,9 +117,9 @@ fn join_value<'a>(
 {
     if is_changed(values, join.left) || is_changed(values, join.right) {
         let left = new_row(alloc, values, join.left)?;
-        let row = join_right(alloc, join, left.as_ref(), values);
-        drop(left);
-        Ok(value_of_row(row?))
+        let right = new_row(alloc, values, join.right)?;
+        let row = join_rows(alloc, join.kind, join.set, left.as_ref(), right.as_ref())?;
+        Ok(value_of_row(row))
     } else {
         Ok(NewValue::Unchanged(old))
     }
