@@ -1,6 +1,7 @@
 //! The first two records of a partition that collide, in one pass.
 ghost use Rattle.std.specs.Prelude.{◌≡◌, IfOk, IfSome, OnOk, option_map};
 ghost use Rattle.ks_row.specs.Spelling.{FitsRow};
+ghost use Rattle.ks_def_runs.specs.Bytes.{empty_store};
 ghost use Rattle.ks_law_settled.specs.Collision.{row_by, pair_at, first_in};
 ghost use Rattle.ks_settle_report.specs.Search.{spot as spot_at, entry_of as entry_in, is_other as is_other_row, meets_other as meets, with_entry};
 ghost use Rattle.ks_settle_report.specs.Hashed.{row_hash, kind_as, pair_of};
@@ -89,6 +90,27 @@ fn collision(
     }))
 }
 
+// The first two of some records that collide, by a store that keeps nothing yet.
+fn search_with<H: Hash128>(
+    alloc: Global,
+    shown: StoredForm,
+    recs: &[(u64, Rec)],
+    rows: &mut OrderedStore,
+) -> Result<Option<Collision>, AllocError>
+    requires { rows.old.store ≡ empty_store }
+    ensures { IfOk result (λ o. option_map pair_of o
+        ≡ first_in (row_hash H.hash_of) (kind_as shown) recs.now) }
+{
+    for i in 0..recs.len() {
+        let entry = entry_of::<H>(alloc, shown, &recs[i].1)?;
+        if meets_other(rows, &entry)? {
+            let first = earlier::<H>(alloc, shown, &recs[..i], &recs[i].1)?;
+            return collision(alloc, &recs[i], first);
+        }
+    }
+    Ok(None)
+}
+
 /// The first two of a partition's records, in order of offsets, that collide: by the greater, then by the lesser offset. Each record
 /// is compared with one row. `Err` only where memory ran out.
 pub fn first_collision<H: Hash128>(
@@ -100,12 +122,7 @@ pub fn first_collision<H: Hash128>(
         ≡ first_in (row_hash H.hash_of) (kind_as shown) recs.now) }
 {
     let mut rows = OrderedStore::new(alloc, 0);
-    for i in 0..recs.len() {
-        let entry = entry_of::<H>(alloc, shown, &recs[i].1)?;
-        if meets_other(&mut rows, &entry)? {
-            let first = earlier::<H>(alloc, shown, &recs[..i], &recs[i].1)?;
-            return collision(alloc, &recs[i], first);
-        }
-    }
-    Ok(None)
+    let found = search_with::<H>(alloc, shown, recs, &mut rows);
+    drop(rows);
+    found
 }

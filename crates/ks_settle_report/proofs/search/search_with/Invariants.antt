@@ -1,6 +1,6 @@
 use Rattle.ks_settle_report.specs.Hashed.{row_hash, kind_as}
 use Rattle.ks_settle_report.proofs.SpelledRows.{IsSearching}
-use Rattle.ks_settle_report.proofs.search.first_collision.Given as goal
+use Rattle.ks_settle_report.proofs.search.search_with.Given as goal
 
 -- none of the records so far has met another row
 abbrev pub invariant-loop-i : goal.invariant-loop-i

@@ -8,11 +8,11 @@ use Rattle.ks_law_settled.specs.Collision.{OffsetPair, pair_at, earlier}
 use Rattle.ks_settle_report.specs.Search.{meets_other, with_entry}
 use Rattle.ks_settle_report.specs.Hashed.{row_hash, kind_as, pair_of}
 use Rattle.ks_settle_report.proofs.SpelledRows.{IsSearching, begins, passed, met, one_place}
-use Rattle.ks_settle_report.proofs.search.first_collision.Goals as goal
+use Rattle.ks_settle_report.proofs.search.search_with.Goals as goal
 
 pub loop-i-init : goal.loop-i-init
 loop-i-init g c =
-    subst (λ (m : Store). IsSearching (row_hash g.H.Hash128.hash_of) (kind_as c.args.shown) m c.args.recs.now 0) (sym c.new-rows.ensures.store) (begins (row_hash g.H.Hash128.hash_of) (kind_as c.args.shown) c.args.recs.now)
+    subst (λ (m : Store). IsSearching (row_hash g.H.Hash128.hash_of) (kind_as c.args.shown) m c.args.recs.now 0) (sym c.requires) (begins (row_hash g.H.Hash128.hash_of) (kind_as c.args.shown) c.args.recs.now)
 
 pub returns-then-branch : goal.returns-then-branch
 returns-then-branch g c =
