@@ -1,6 +1,7 @@
 //! A table of the calls of one partition, with their answers: two producers, a number out of sequence, markers of both kinds, and
 //! what readers get before and after them.
 
+use crate::passes::expect_text;
 use ks_log::Part;
 use ks_record::{Rec, RecordList, RecordRef, SharedRecords, TaskId};
 use std::alloc::{AllocError, Global};
@@ -218,6 +219,13 @@ fn push_mark(
     write!(text, "{at}")
 }
 
+fn push_records(recs: &[(u64, Rec)], text: &mut String) -> Result<(), AllocError> {
+    for (offset, rec) in recs {
+        write!(text, "{offset}: {}, ", rec.ts())?;
+    }
+    Ok(())
+}
+
 fn push_read(
     alloc: Global,
     part: &Part,
@@ -226,9 +234,9 @@ fn push_read(
     text: &mut String,
 ) -> Result<(), AllocError> {
     let (recs, next) = part.read_committed(alloc, from, max)?;
-    for (offset, rec) in &recs {
-        write!(text, "{offset}: {}, ", rec.ts())?;
-    }
+    let pushed = push_records(recs.as_slice(), text);
+    drop(recs);
+    pushed?;
     write!(text, "to {next}")
 }
 
@@ -272,13 +280,26 @@ fn answer(alloc: Global, part: &mut Part, call: &PartCall) -> Result<String, All
     Ok(text)
 }
 
-fn run_all<R: Abort>(rt: &R, alloc: Global, table: &[(PartCall, &str)]) -> Result<(), Fail> {
-    let mut part = Part::new(alloc);
+// Makes the calls of a table, one after another.
+fn run_calls<R: Abort>(
+    rt: &R,
+    alloc: Global,
+    part: &mut Part,
+    table: &[(PartCall, &str)],
+) -> Result<(), AllocError> {
     for (call, expected) in table {
-        let told = answer(alloc, &mut part, call)?;
-        assert_eq!(rt; told.as_str(), *expected);
+        let told = answer(alloc, part, call)?;
+        expect_text(rt, told.as_str(), expected);
     }
     Ok(())
+}
+
+// The same on a partition of their own.
+fn run_all<R: Abort>(rt: &R, alloc: Global, table: &[(PartCall, &str)]) -> Result<(), AllocError> {
+    let mut part = Part::new(alloc);
+    let ran = run_calls(rt, alloc, &mut part, table);
+    drop(part);
+    ran
 }
 
 #[test]

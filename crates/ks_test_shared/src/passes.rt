@@ -7,6 +7,7 @@ use ks_growing::Pass;
 use ks_shared::{Shared, SharedState};
 use ks_test_cluster::copying::{Copying, new_cluster};
 use std::alloc::{AllocError, Global};
+use std::process::Abort;
 
 /// The lock round a cluster of the copying task, and its passes.
 #[derive(Drop)]
@@ -52,9 +53,45 @@ pub fn close(alloc: Global, locked: Locked) -> Result<Cluster<Copying>, AllocErr
         second,
         third,
     } = locked;
-    let mut passes = Vec::new(alloc);
-    passes.push(first)?;
-    passes.push(second)?;
-    passes.push(third)?;
+    let passes = vec![in alloc; first, second, third]?;
     Ok(shared.close(passes))
+}
+
+/// Both numbers are the same.
+pub fn expect_number<R: Abort>(rt: &R, found: u64, expected: u64) {
+    assert_eq!(rt; found, expected);
+}
+
+/// Both texts are the same.
+pub fn expect_text<R: Abort>(rt: &R, found: &str, expected: &str) {
+    assert_eq!(rt; found, expected);
+}
+
+// A cluster that was closed has so many entries.
+fn expect_length<R: Abort>(
+    rt: &R,
+    closed: Result<Cluster<Copying>, AllocError>,
+    expected: u64,
+) -> Result<(), AllocError> {
+    let cluster = closed?;
+    let length = cluster.journal().len();
+    drop(cluster);
+    expect_number(rt, length as u64, expected);
+    Ok(())
+}
+
+/// Where all ran, a cluster that was closed has so many entries.
+pub fn expect_closed<R: Abort>(
+    rt: &R,
+    ran: Result<(), AllocError>,
+    closed: Result<Cluster<Copying>, AllocError>,
+    expected: u64,
+) -> Result<(), AllocError> {
+    match ran {
+        Ok(()) => expect_length(rt, closed, expected),
+        Err(failed) => {
+            drop(closed);
+            Err(failed)
+        }
+    }
 }

@@ -3,7 +3,7 @@ ghost use Rattle.std.specs.Prelude.{◌≡◌};
 ghost use Rattle.ks_test_shared.specs.Ours.{IsOurs};
 
 use crate::calls::{abort, add, append, feed, init, mark, park, unpark};
-use crate::passes::{close, new_locked};
+use crate::passes::{close, expect_closed, expect_text, new_locked};
 use ks_growing::Pass;
 use ks_shared::{Barred, Shared, SharedState};
 use ks_test_cluster::copying::Copying;
@@ -122,7 +122,11 @@ fn take_back<R: Wait>(
     ensures number { pass.new.number ≡ pass.old.number }
 {
     match unpark(rt, alloc, shared, pass)? {
-        Some(replica) => format!(in alloc; "at {}", replica.position(1)),
+        Some(replica) => {
+            let position = replica.position(1);
+            drop(replica);
+            format!(in alloc; "at {position}")
+        }
         None => String::from_str(alloc, "none"),
     }
 }
@@ -153,7 +157,7 @@ fn run_all<R: Wait + Abort>(
     shared: &Shared<Copying>,
     first: &mut Pass<SharedState<Copying>>,
     second: &mut Pass<SharedState<Copying>>,
-) -> Result<(), Fail>
+) -> Result<(), AllocError>
     requires first { IsOurs shared.now.growing.id first.old }
     requires second { IsOurs shared.now.growing.id second.old }
     ensures first { IsOurs shared.now.growing.id first.new × (first.new.number ≡ first.old.number) }
@@ -168,7 +172,7 @@ fn run_all<R: Wait + Abort>(
         } else {
             answer(rt, alloc, shared, *call, &mut other, second)?
         };
-        assert_eq!(rt; told.as_str(), *expected);
+        expect_text(rt, told.as_str(), expected);
     }
     Ok(())
 }
@@ -177,13 +181,13 @@ fn run_all<R: Wait + Abort>(
 fn calls_and_answers(rt: HostRuntime) -> Result<(), Fail> {
     let alloc = rt.alloc();
     let mut locked = new_locked(alloc)?;
-    run_all(
+    let ran = run_all(
         &rt,
         alloc,
         &locked.shared,
         &mut locked.first,
         &mut locked.second,
-    )?;
-    assert_eq!(rt; close(alloc, locked)?.journal().len(), 8);
+    );
+    expect_closed(&rt, ran, close(alloc, locked), 8)?;
     Ok(())
 }

@@ -3,7 +3,7 @@ ghost use Rattle.std.specs.Prelude.{◌≡◌};
 ghost use Rattle.ks_test_shared.specs.Ours.{IsOurs};
 
 use crate::calls::{fetch, init, produce};
-use crate::passes::{Locked, close, new_locked};
+use crate::passes::{Locked, close, expect_closed, expect_number, new_locked};
 use ks_growing::Pass;
 use ks_record::{Rec, RecordRef};
 use ks_shared::{Shared, SharedState};
@@ -58,12 +58,39 @@ fn renew<R: Wait>(
 
 // The records are all there, in their order.
 fn expect_all<R: Abort>(rt: &R, recs: &[(u64, Rec)]) {
-    assert_eq!(rt; recs.len(), 100);
+    expect_number(rt, recs.len() as u64, 100);
     let mut expected = 0u64;
     for (offset, rec) in recs {
-        assert_eq!(rt; *offset, expected);
-        assert_eq!(rt; rec.ts(), expected);
+        expect_number(rt, *offset, expected);
+        expect_number(rt, rec.ts(), expected);
         expected = expected.wrapping_add(1);
+    }
+}
+
+// The same of what was fetched, and goes then.
+fn expect_fetched<R: Abort>(
+    rt: &R,
+    fetched: Result<(Vec<(u64, Rec)>, u64), AllocError>,
+) -> Result<(), AllocError> {
+    let (recs, _next) = fetched?;
+    expect_all(rt, recs.as_slice());
+    drop(recs);
+    Ok(())
+}
+
+// The same where both threads did all.
+fn expect_ran<R: Abort>(
+    rt: &R,
+    fed: Result<(), AllocError>,
+    renewed: Result<(), AllocError>,
+    fetched: Result<(Vec<(u64, Rec)>, u64), AllocError>,
+) -> Result<(), AllocError> {
+    match fed.and(renewed) {
+        Ok(()) => expect_fetched(rt, fetched),
+        Err(failed) => {
+            drop(fetched);
+            Err(failed)
+        }
     }
 }
 
@@ -81,16 +108,14 @@ fn two_threads(rt: HostRuntime) -> Result<(), Fail> {
         &mut || feed(&rt, alloc, &shared, &mut first),
         &mut || renew(&rt, alloc, &shared, &mut third),
     );
-    fed?;
-    renewed?;
-    let recs = fetch(&rt, alloc, &shared, 0, &mut second)?.0;
-    expect_all(&rt, recs.as_slice());
+    let fetched = fetch(&rt, alloc, &shared, 0, &mut second);
     let locked = Locked {
         shared,
         first,
         second,
         third,
     };
-    assert_eq!(rt; close(alloc, locked)?.journal().len(), 200);
+    let ran = expect_ran(&rt, fed, renewed, fetched);
+    expect_closed(&rt, ran, close(alloc, locked), 200)?;
     Ok(())
 }
