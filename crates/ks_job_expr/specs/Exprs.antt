@@ -125,6 +125,7 @@ read_or name Wrong = Err (BadShape name)
 read_or name NoInteger = Err (BadNumber name)
 read_or name (Read x) = Ok x
 
+-- unless it is deeper than 16 levels
 abbrev pub shallow : Term → Result Term JobKind
 shallow t = if within 16 t then Ok t else Err (TooMany (codes "depth") 16)
 

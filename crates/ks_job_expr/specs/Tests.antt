@@ -79,6 +79,7 @@ test_within (suc n) (Fails p) = test_within n p
 test_within (suc n) (Both p q) = test_within n p && test_within n q
 test_within (suc n) (Either p q) = test_within n p && test_within n q
 
+-- unless it is deeper than 16 levels
 abbrev pub shallow_test : Test → Result Test JobKind
 shallow_test t = if test_within 16 t then Ok t else Err (TooMany (codes "depth") 16)
 

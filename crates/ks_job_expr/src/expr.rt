@@ -105,7 +105,7 @@ fn read_leaf(
     }
 }
 
-/// A tree in a box, or none, and the tree is gone.
+/// A tree in a box. Want of memory is the one error, after which the tree is gone.
 pub fn boxed<T: Drop>(alloc: Global, tree: T) -> Result<Box<T>, AllocError>
     ensures { IfOk result (λ made. made.value ≡ tree) }
 {
@@ -202,7 +202,7 @@ pub fn is_within(expr: &Expr, levels: u32) -> bool
     }
 }
 
-/// What was read, or the fault of this member, whose value is no such tree.
+/// What was read, or the fault of this member, whose value is no such tree; want of memory too.
 pub fn judge<T: Drop>(alloc: Global, name: &str, judged: Judged<T>) -> Result<T, LineError>
     ensures { Gives (λ t. t) result (read_or name.now judged) }
 {

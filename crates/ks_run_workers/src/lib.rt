@@ -9,6 +9,5 @@ mod enlisting;
 mod workers;
 mod working;
 
-pub use asking::last_position;
 pub use closing::WorkEnd;
 pub use workers::{Asked, RunWorkers, run_workers};
