@@ -7,3 +7,4 @@ pub mod States
 pub mod Clean
 pub mod Names
 pub mod Gains
+pub mod Exits

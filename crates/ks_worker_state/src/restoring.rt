@@ -117,7 +117,6 @@ fn task_of(
 }
 
 // Makes a task of a replica of these committed offsets, once it is fed and has reached the ends of its changelogs; else it is given back.
-#[tactic(auto, using(ks_worker_client::proofs::Moments::later_twice, ks_worker_client::proofs::Halting::same_counts, ks_worker_client::proofs::Halting::counts_on))]
 fn restore_with<H: Hash128, R: Wait, W: Work, G: Gate>(
     rt: &R,
     alloc: Global,

@@ -6,6 +6,8 @@ use Rattle.ks_worker_client.proofs.Moments.{may_later, later_twice, not_later}
 use Rattle.ks_standby.specs.Replicas.{replica_view}
 use Rattle.ks_worker_state.specs.Standbys.{IsFedStandby, HasMoved, HasReadStable}
 use Rattle.ks_worker_state.proofs.Fed.{own_topic, standby_at, not_fed, fed_more, one_more_topic, moves_more, read_more}
+use Rattle.std.proofs.lemmas.Result.{IfOk-from_err}
+use Rattle.ks_worker_state.proofs.Exits.{counts_out, counts_none}
 use Rattle.ks_worker_state.proofs.feeding.feed_once.Goals as goal
 
 pub feed_from-requires-clause-may : goal.feed_from-requires-clause-may
@@ -53,3 +55,21 @@ pub returns-clause-stops : goal.returns-clause-stops
 returns-clause-stops g c = λ e.
     subst (λ l. HasReadStable (setup_in g.W.Work.plan c.args.client.now.pass.frame) c.args.client.now.pass.seen l (replica_view c.loop-i.replica)) (take_all c.loop-i.i c.args.changelogs.now c.loop-i-test.false)
     (c.loop-i.invariant.stops e)
+
+pub returns-in_err-moves-clause-gate : goal.returns-in_err-moves-clause-gate
+returns-in_err-moves-clause-gate g c = counts_out _ _ _ c.feed_from.result c.from_residual.result c.in_err-moves.field-0.0 c.loop-i.invariant.gate c.in_err-moves.was c.feed_from.ensures.gate c.from_residual.ensures.1
+
+pub returns-in_err-moves-clause-later : goal.returns-in_err-moves-clause-later
+returns-in_err-moves-clause-later g c = later_twice g.W.Work.plan _ _ _ c.loop-i.invariant.later c.feed_from.ensures.later
+
+pub returns-in_err-moves-clause-fed : goal.returns-in_err-moves-clause-fed
+returns-in_err-moves-clause-fed g c = IfOk-from_err c.from_residual.result _ c.from_residual.ensures.0
+
+pub returns-in_err-moves-clause-moves : goal.returns-in_err-moves-clause-moves
+returns-in_err-moves-clause-moves g c = IfOk-from_err c.from_residual.result _ c.from_residual.ensures.0
+
+pub returns-in_err-moves-clause-stops : goal.returns-in_err-moves-clause-stops
+returns-in_err-moves-clause-stops g c = IfOk-from_err c.from_residual.result _ c.from_residual.ensures.0
+
+pub returns-clause-gate : goal.returns-clause-gate
+returns-clause-gate g c = counts_none _ _ c.loop-i.invariant.gate

@@ -4,6 +4,8 @@ use Rattle.ks_worker_client.proofs.Halting.{same_counts}
 use Rattle.ks_worker_client.proofs.Moments.{may_later, later_twice, not_later}
 use Rattle.ks_worker_state.proofs.Fed.{standby_at, not_fed, fed_on, read_since}
 use Rattle.ks_standby.specs.Replicas.{replica_view}
+use Rattle.std.proofs.lemmas.Result.{IfOk-from_err}
+use Rattle.ks_worker_state.proofs.Exits.{counts_out, counts_in, counts_none}
 use Rattle.ks_worker_state.proofs.feeding.feed_to.Goals as goal
 
 pub feed_from-requires-clause-may : goal.feed_from-requires-clause-may
@@ -37,3 +39,24 @@ returns-then-not-branch-clause-fed g c = fed_on g.W.Work.plan _ _ _ c.loop.invar
 pub returns-then-not-branch-clause-stops : goal.returns-then-not-branch-clause-stops
 returns-then-not-branch-clause-stops g c =
     inr (read_since g.W.Work.plan c.args.client.now.pass c.loop.client.pass c.loop.invariant.later c.requires.may.network (c.args.topic ∷ []) (replica_view c.feed_from.new.replica) (c.in_ok-feed_from.ensures.stops c.if-not-branch.true))
+
+pub returns-then-end-position-clause-gate : goal.returns-then-end-position-clause-gate
+returns-then-end-position-clause-gate g c = counts_none _ _ c.loop.invariant.gate
+
+pub returns-in_err-feed_from-clause-gate : goal.returns-in_err-feed_from-clause-gate
+returns-in_err-feed_from-clause-gate g c = counts_out _ _ _ c.feed_from.result c.from_residual.result c.in_err-feed_from.field-0.0 c.loop.invariant.gate c.in_err-feed_from.was c.feed_from.ensures.gate c.from_residual.ensures.1
+
+pub returns-in_err-feed_from-clause-later : goal.returns-in_err-feed_from-clause-later
+returns-in_err-feed_from-clause-later g c = later_twice g.W.Work.plan _ _ _ c.loop.invariant.later c.feed_from.ensures.later
+
+pub returns-in_err-feed_from-clause-fed : goal.returns-in_err-feed_from-clause-fed
+returns-in_err-feed_from-clause-fed g c = IfOk-from_err c.from_residual.result _ c.from_residual.ensures.0
+
+pub returns-in_err-feed_from-clause-stops : goal.returns-in_err-feed_from-clause-stops
+returns-in_err-feed_from-clause-stops g c = IfOk-from_err c.from_residual.result _ c.from_residual.ensures.0
+
+pub returns-then-not-branch-clause-gate : goal.returns-then-not-branch-clause-gate
+returns-then-not-branch-clause-gate g c = counts_in _ _ _ c.feed_from.result _ c.loop.invariant.gate c.in_ok-feed_from.was c.feed_from.ensures.gate
+
+pub returns-then-not-branch-clause-later : goal.returns-then-not-branch-clause-later
+returns-then-not-branch-clause-later g c = later_twice g.W.Work.plan _ _ _ c.loop.invariant.later c.feed_from.ensures.later
