@@ -7,6 +7,7 @@ use Rattle.std.proofs.Common.{refl, sym, ◌∙◌}
 use Rattle.std.proofs.lemmas.Result.{IfOk-weaker}
 use Rattle.ks_worker_state.proofs.Gains.{only_none}
 use Rattle.ks_worker_turn.specs.Requests.{is_of_turn}
+use Rattle.ks_worker_state.proofs.Exits.{counts_none}
 use Rattle.ks_worker_turn.proofs.assigning.assignment_of.Goals as goal
 
 pub offer_assignment-requires-clause-good : goal.offer_assignment-requires-clause-good
@@ -51,3 +52,24 @@ returns-in_default-clause-idle g c = λ none idle. refl
 
 pub returns-clause-idle : goal.returns-clause-idle
 returns-clause-idle g c = if_ok_with c.offer_assignment.result (λ o none idle. absurd (some_not_none c.args.offer c.in-Some.assignment c.in-Some.is idle))
+
+pub offer_assignment-requires-clause-active : goal.offer_assignment-requires-clause-active
+offer_assignment-requires-clause-active g c =
+    (some_said c.args.offer c.in-Some.assignment (MayOffer g.W.Work.plan g.W.Work.good c.args.client.now.pass.frame c.args.told) c.in-Some.is c.requires.offer).places.active
+
+pub offer_assignment-requires-clause-standby : goal.offer_assignment-requires-clause-standby
+offer_assignment-requires-clause-standby g c =
+    (some_said c.args.offer c.in-Some.assignment (MayOffer g.W.Work.plan g.W.Work.good c.args.client.now.pass.frame c.args.told) c.in-Some.is c.requires.offer).places.standby
+
+pub offer_assignment-requires-clause-warmup : goal.offer_assignment-requires-clause-warmup
+offer_assignment-requires-clause-warmup g c =
+    (some_said c.args.offer c.in-Some.assignment (MayOffer g.W.Work.plan g.W.Work.good c.args.client.now.pass.frame c.args.told) c.in-Some.is c.requires.offer).places.warmup
+
+pub returns-then-is_some-clause-gate : goal.returns-then-is_some-clause-gate
+returns-then-is_some-clause-gate g c = counts_none _ _ refl
+
+pub returns-in_default-clause-gate : goal.returns-in_default-clause-gate
+returns-in_default-clause-gate g c = counts_none _ _ refl
+
+pub returns-in_default-clause-later : goal.returns-in_default-clause-later
+returns-in_default-clause-later g c = not_later g.W.Work.plan c.args.client.now.pass c.requires.may.history
