@@ -104,3 +104,7 @@ pub picked : (hash : List ℕ → ℕ) (d : DraftView) (setup : Setup) (h : List
 picked hash d setup h ts now places pick k runs are is m =
     let own : places ≡ places_from setup.plan.inputs 0 ts = are ∙ ap (λ (s : Setup). places_from s.plan.inputs 0 ts) (sym runs.setup_is) in
     subst (λ ps. MovesFirst setup h (from_pick pick ps) ts now) own (subst (λ n. MovesFirst setup h (drop n places ++ take n places) ts now) is m)
+
+-- the input at a place of the list is one of the tasks as they stand, where these are as before
+pub input_at : (inputs : ℕ → List ℕ) (before now : List Task) (ps : List InputPlace) (i : ℕ) (p : InputPlace) → i < length ps → now ≡ before → All (IsInputAt inputs before) ps → IsInputAt inputs now (get_or ps i p)
+input_at inputs before now ps i p lt same all = subst (λ ts. IsInputAt inputs ts (get_or ps i p)) (sym same) (All-get_or (IsInputAt inputs before) ps i p lt all)

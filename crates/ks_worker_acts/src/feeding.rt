@@ -130,6 +130,5 @@ pub fn pump<H: Hash128, R: Wait, W: Work, G: Gate>(
         state.new.session.client.pass (marks_of waiting)) }
 {
     feed_all::<H, R, W, G>(rt, alloc, topology, shared, state)?;
-    write_waiting(rt, alloc, shared, &mut state.session.client, waiting)?;
-    Ok(())
+    write_waiting(rt, alloc, shared, &mut state.session.client, waiting)
 }

@@ -120,8 +120,7 @@ fn read_round<H: Processing, R: Wait, W: Work, G: Gate>(
     if read_first::<H, R, W, G>(rt, alloc, topology, shared, state, back)? {
         return Ok(true);
     }
-    let moved = read_first::<H, R, W, G>(rt, alloc, topology, shared, state, front)?;
-    Ok(moved)
+    read_first::<H, R, W, G>(rt, alloc, topology, shared, state, front)
 }
 
 /// Looks at the inputs of its tasks, in order of task and topic, from one on that `pick` names, round once; at the first whose fetch

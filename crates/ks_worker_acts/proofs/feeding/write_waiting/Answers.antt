@@ -2,11 +2,13 @@ use Rattle.std.proofs.Common.{◌≡◌, refl, sym, subst, ◌∙◌, add-one, a
 use Rattle.ks_history.specs.declared.journal.Request.TheVariants.{MarkNext}
 use Rattle.ks_history.specs.declared.journal.Reply.TheVariants.{Mark as Marked}
 use Rattle.ks_worker_client.proofs.Halting.{same_counts}
-use Rattle.ks_worker_client.proofs.Moments.{later_twice, not_later}
+use Rattle.ks_worker_client.proofs.Moments.{may_later, later_twice, not_later}
 use Rattle.ks_worker_acts.specs.Feeds.{marks_to}
 use Rattle.ks_worker_state.specs.Gained.{HasMade}
 use Rattle.ks_worker_state.proofs.Gains.{made_none, made_one, made_then}
 use Rattle.ks_worker_acts.proofs.FedReplicas.{marks_none, marks_all}
+use Rattle.std.proofs.lemmas.Result.{IfOk-from_err}
+use Rattle.ks_worker_state.proofs.Exits.{counts_out, counts_none}
 use Rattle.ks_worker_acts.proofs.feeding.write_waiting.Goals as goal
 
 pub loop-w-preserved : goal.loop-w-preserved
@@ -34,3 +36,24 @@ pub returns-clause-marked : goal.returns-clause-marked
 returns-clause-marked g c =
     let all : c.loop-w.w ≡ 17 = omega arith in
     marks_all c.args.waiting c.args.client.now.pass c.loop-w.client.pass c.if-waiting-eq0.false (subst (λ n. HasMade c.args.client.now.pass c.loop-w.client.pass (marks_to n)) all c.loop-w.invariant.marked)
+
+pub mark_next-requires-clause-may : goal.mark_next-requires-clause-may
+mark_next-requires-clause-may g c = may_later g.W.Work.plan _ _ _ _ _ c.loop-w.invariant.later c.loop-w.invariant.gate c.requires.may
+
+pub returns-then-waiting-eq0-clause-gate : goal.returns-then-waiting-eq0-clause-gate
+returns-then-waiting-eq0-clause-gate g c = counts_none _ _ refl
+
+pub returns-in_err-mark_next-clause-gate : goal.returns-in_err-mark_next-clause-gate
+returns-in_err-mark_next-clause-gate g c = counts_out _ _ _ c.mark_next.result c.from_residual.result c.in_err-mark_next.field-0.0 c.loop-w.invariant.gate c.in_err-mark_next.was c.mark_next.ensures.gate c.from_residual.ensures.1
+
+pub returns-in_err-mark_next-clause-later : goal.returns-in_err-mark_next-clause-later
+returns-in_err-mark_next-clause-later g c = later_twice g.W.Work.plan _ _ _ c.loop-w.invariant.later c.mark_next.ensures.later
+
+pub returns-in_err-mark_next-clause-marked : goal.returns-in_err-mark_next-clause-marked
+returns-in_err-mark_next-clause-marked g c = IfOk-from_err c.from_residual.result _ c.from_residual.ensures.0
+
+pub returns-clause-gate : goal.returns-clause-gate
+returns-clause-gate g c = counts_none _ _ c.loop-w.invariant.gate
+
+pub returns-then-waiting-eq0-clause-later : goal.returns-then-waiting-eq0-clause-later
+returns-then-waiting-eq0-clause-later g c = not_later g.W.Work.plan c.args.client.now.pass c.requires.may.history
