@@ -4,6 +4,7 @@ use Rattle.ks_worker_client.specs.Turns.{GateCounts}
 use Rattle.ks_worker.specs.Turns.{with_gate}
 use Rattle.ks_worker.proofs.Shown.{shows_calls}
 use Rattle.ks_worker.proofs.Taken.{has_acted}
+use Rattle.std.proofs.lemmas.Result.{IfOk-from_err}
 use Rattle.ks_worker.proofs.worker.Worker.obey.Goals as goal
 
 pub returns-clause-shown : goal.returns-clause-shown
@@ -22,3 +23,15 @@ returns-clause-obeys g c =
           (record { placing = c.perform.ensures.placing; turn = c.perform.ensures.turn; waiting = c.perform.ensures.waiting })
           c.in_ok-perform.ensures.does c.in_ok-perform.ensures.cut c.in_ok-perform.ensures.dry c.in_ok-perform.ensures.dry_cut;
     }
+
+pub returns-in_err-perform-clause-worker : goal.returns-in_err-perform-clause-worker
+returns-in_err-perform-clause-worker g c = IfOk-from_err c.from_residual.result _ c.from_residual.ensures.0
+
+pub returns-in_err-perform-clause-obeys : goal.returns-in_err-perform-clause-obeys
+returns-in_err-perform-clause-obeys g c = IfOk-from_err c.from_residual.result _ c.from_residual.ensures.0
+
+pub returns-in_err-perform-clause-stops : goal.returns-in_err-perform-clause-stops
+returns-in_err-perform-clause-stops g c = IfOk-from_err c.from_residual.result _ c.from_residual.ensures.0
+
+pub returns-in_err-perform-clause-shown : goal.returns-in_err-perform-clause-shown
+returns-in_err-perform-clause-shown g c = IfOk-from_err c.from_residual.result _ c.from_residual.ensures.0

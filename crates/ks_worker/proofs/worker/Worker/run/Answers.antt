@@ -1,9 +1,10 @@
-use Rattle.std.proofs.Common.{◌≡◌, ◌≤◌, ◌+◌, ◌∙◌, inl, inr, sym, subst, arith}
+use Rattle.std.proofs.Common.{◌≡◌, ◌≤◌, ◌+◌, ◌∙◌, inl, inr, refl, sym, subst, arith}
 use Rattle.ks_topo.specs.Topologies.{draft_of}
 use Rattle.ks_worker_state.proofs.States.{state_later_twice, same_state}
 use Rattle.ks_worker.specs.Running.{ShowsCalls}
 use Rattle.ks_worker.proofs.Turning.{counted_none, counted_then, counted_more, shown_none, shown_then, went_on, stopped_then, stopped_once, may_run_on}
 use Rattle.ks_worker.proofs.Taken.{one_turn_more}
+use Rattle.std.proofs.lemmas.Result.{IfOk-from_err}
 use Rattle.ks_worker.proofs.worker.Worker.run.Goals as goal
 
 pub take_turn-requires : goal.take_turn-requires
@@ -51,3 +52,59 @@ returns-clause-turns g c = record {
   taken = c.loop.invariant.turns;
   ended = inl (omega (arith, c.loop-test.false, c.loop.auto.counter-end));
 }
+
+pub loop-init : goal.loop-init
+loop-init g c = record {
+  placing = refl;
+  later = same_state g.W.Work.plan c.args.shared.now.growing.id c.args.self.now.state c.requires.may.act.call;
+  worker = c.requires.may.act.worker;
+  counts = counted_none c.args.self.now.state.session.client.gate;
+  stops = refl;
+  took = omega arith;
+  turns = refl;
+  shown = shown_none c.args.self.now.state.member.number c.args.self.now.state.session.client.pass c.args.self.now.state.session.client.gate;
+}
+
+pub returns-in_err-take_turn-clause-placing : goal.returns-in_err-take_turn-clause-placing
+returns-in_err-take_turn-clause-placing g c = c.take_turn.ensures.placing ∙ c.loop.invariant.placing
+
+pub returns-in_err-take_turn-clause-later : goal.returns-in_err-take_turn-clause-later
+returns-in_err-take_turn-clause-later g c = state_later_twice g.W.Work.plan c.args.self.now.state c.loop.self.state c.take_turn.new.self.state c.loop.invariant.later c.take_turn.ensures.later
+
+pub returns-then-branch-clause-placing : goal.returns-then-branch-clause-placing
+returns-then-branch-clause-placing g c = c.take_turn.ensures.placing ∙ c.loop.invariant.placing
+
+pub returns-then-branch-clause-later : goal.returns-then-branch-clause-later
+returns-then-branch-clause-later g c = state_later_twice g.W.Work.plan c.args.self.now.state c.loop.self.state c.take_turn.new.self.state c.loop.invariant.later c.take_turn.ensures.later
+
+pub returns-in_err-take_turn-clause-worker : goal.returns-in_err-take_turn-clause-worker
+returns-in_err-take_turn-clause-worker g c = IfOk-from_err c.from_residual.result _ c.from_residual.ensures.0
+
+pub returns-in_err-take_turn-clause-turns : goal.returns-in_err-take_turn-clause-turns
+returns-in_err-take_turn-clause-turns g c = IfOk-from_err c.from_residual.result _ c.from_residual.ensures.0
+
+pub returns-in_err-take_turn-clause-counts : goal.returns-in_err-take_turn-clause-counts
+returns-in_err-take_turn-clause-counts g c = IfOk-from_err c.from_residual.result _ c.from_residual.ensures.0
+
+pub returns-in_err-take_turn-clause-ended : goal.returns-in_err-take_turn-clause-ended
+returns-in_err-take_turn-clause-ended g c = IfOk-from_err c.from_residual.result _ c.from_residual.ensures.0
+
+pub returns-in_err-take_turn-clause-shown : goal.returns-in_err-take_turn-clause-shown
+returns-in_err-take_turn-clause-shown g c = IfOk-from_err c.from_residual.result _ c.from_residual.ensures.0
+
+pub returns-then-branch-clause-worker : goal.returns-then-branch-clause-worker
+returns-then-branch-clause-worker g c = c.in_ok-take_turn.ensures.worker
+
+pub returns-then-branch-clause-counts : goal.returns-then-branch-clause-counts
+returns-then-branch-clause-counts g c =
+    counted_more c.args.self.now.state.session.client.gate c.take_turn.new.self.state.session.client.gate (c.loop.counter + 1) c.args.turns
+    (counted_then c.args.self.now.state.session.client.gate c.loop.self.state.session.client.gate c.take_turn.new.self.state.session.client.gate c.loop.counter 1 c.loop.invariant.counts c.in_ok-take_turn.ensures.counts) (omega (arith, c.loop-test.true))
+
+pub returns-clause-counts : goal.returns-clause-counts
+returns-clause-counts g c = counted_more c.args.self.now.state.session.client.gate c.loop.self.state.session.client.gate c.loop.counter c.args.turns c.loop.invariant.counts (omega (arith, c.loop.auto.counter-end))
+
+pub returns-clause-ended : goal.returns-clause-ended
+returns-clause-ended g c = inr (c.loop.invariant.stops, omega (arith, c.loop.invariant.took, c.loop-test.false, c.loop.auto.counter-end))
+
+pub returns-clause-shown : goal.returns-clause-shown
+returns-clause-shown g c = c.loop.invariant.shown
