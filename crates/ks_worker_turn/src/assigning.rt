@@ -119,18 +119,13 @@ pub fn assignment_of<R: Wait, W: Work, G: Gate>(
     ensures idle { IfOk result (λ o. told.assignment ≡ None → offer ≡ None → o ≡ None) }
 {
     if told.assignment.is_some() {
+        drop(offer);
         return Ok(told.assignment);
     }
+    let generation = told.generation;
+    drop(told);
     let Some(assignment) = offer else {
         return Ok(None);
     };
-    offer_assignment(
-        rt,
-        alloc,
-        shared,
-        client,
-        number,
-        told.generation,
-        assignment,
-    )
+    offer_assignment(rt, alloc, shared, client, number, generation, assignment)
 }

@@ -16,7 +16,7 @@ use ks_history::Status;
 use ks_shared::Shared;
 use ks_standby::Replica;
 use ks_task::Task;
-use ks_worker_client::{Halt, or_halt};
+use ks_worker_client::Halt;
 use ks_worker_state::WorkerState;
 use std::alloc::{AllocError, Global};
 use std::sync::Wait;
@@ -113,7 +113,10 @@ pub fn heed_status<R: Wait, W: Work, G: Gate>(
     let status = state.session.client.status(rt, alloc, shared)?;
     let listed = is_listed(status.members.as_slice(), state.member.number);
     let is_over = is_over(state.member.generation, status.generation, listed);
-    or_halt(rest_where_over(&mut state.tasks, &mut state.replicas, is_over))?;
+    let Ok(()) = rest_where_over(&mut state.tasks, &mut state.replicas, is_over) else {
+        drop(status);
+        return Err(Halt::OutOfMemory);
+    };
     state.member.is_member = listed;
     Ok(status)
 }
