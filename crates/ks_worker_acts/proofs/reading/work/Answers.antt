@@ -3,13 +3,15 @@ use Rattle.std.specs.List.{All}
 use Rattle.ks_plan.specs.Infos.{input_numbers}
 use Rattle.ks_topo.specs.Topologies.{draft_of, plan_in}
 use Rattle.ks_shared.specs.Calls.{setup_in}
-use Rattle.ks_worker_client.proofs.Halting.{was_ok_with}
+use Rattle.ks_worker_client.proofs.Halting.{was_ok_with, was_memory, same_counts}
 use Rattle.ks_worker_state.proofs.States.{same_state}
 use Rattle.ks_worker_acts.specs.Inputs.{places_from, IsInputAt, HasLooked}
 use Rattle.ks_worker_acts.proofs.InputPlaces.{inputs_are}
 use Rattle.ks_worker_acts.proofs.Looks.{reads_same, read_names, looked_none}
-use Rattle.ks_worker_acts.proofs.StatesOn.{none_there}
+use Rattle.ks_worker_acts.proofs.StatesOn.{knows_same, none_there}
 use Rattle.ks_worker_acts.proofs.WorkerOn.{read_all, read_round_all, picked}
+use Rattle.std.proofs.lemmas.Result.{IfOk-from_err}
+use Rattle.ks_worker_state.proofs.Exits.{counts_out, counts_none, counts_memory}
 use Rattle.ks_worker_acts.proofs.reading.work.Goals as goal
 
 pub returns-in_err-places-clause-later : goal.returns-in_err-places-clause-later
@@ -64,3 +66,72 @@ returns-clause-first g c = λ e.
     picked g.H.Hash128.hash_of (draft_of c.args.topology.now) setup pass.seen ts now places c.args.pick (c.args.pick % length places) c.requires.may.topology
     (c.as_slice-places.ensures.value ∙ was_ok_with c.places_of.result _ c.in_ok-places.places (sym c.or_halt.ensures ∙ c.in_ok-places.was) c.places_of.ensures ∙ ap (places_from (input_numbers (plan_in c.args.topology.now)) 0) c.as_slice.ensures.value)
     refl (c.in_ok-moved.ensures.looked.first e)
+
+pub returns-in_err-places-clause-gate : goal.returns-in_err-places-clause-gate
+returns-in_err-places-clause-gate g c = counts_memory _ _ c.from_residual.result c.in_err-places.field-0.0 refl (was_memory c.places_of.result _ (sym c.or_halt.ensures ∙ c.in_err-places.was)) c.from_residual.ensures.1
+
+pub returns-in_err-places-clause-same : goal.returns-in_err-places-clause-same
+returns-in_err-places-clause-same g c = knows_same c.args.state.now
+
+pub returns-in_err-places-clause-worker : goal.returns-in_err-places-clause-worker
+returns-in_err-places-clause-worker g c = IfOk-from_err c.from_residual.result _ c.from_residual.ensures.0
+
+pub returns-in_err-places-clause-names : goal.returns-in_err-places-clause-names
+returns-in_err-places-clause-names g c = IfOk-from_err c.from_residual.result _ c.from_residual.ensures.0
+
+pub returns-in_err-places-clause-read : goal.returns-in_err-places-clause-read
+returns-in_err-places-clause-read g c = IfOk-from_err c.from_residual.result _ c.from_residual.ensures.0
+
+pub returns-in_err-places-clause-moved : goal.returns-in_err-places-clause-moved
+returns-in_err-places-clause-moved g c = IfOk-from_err c.from_residual.result _ c.from_residual.ensures.0
+
+pub returns-in_err-places-clause-first : goal.returns-in_err-places-clause-first
+returns-in_err-places-clause-first g c = IfOk-from_err c.from_residual.result _ c.from_residual.ensures.0
+
+pub returns-in_err-places-clause-stays : goal.returns-in_err-places-clause-stays
+returns-in_err-places-clause-stays g c = IfOk-from_err c.from_residual.result _ c.from_residual.ensures.0
+
+pub returns-in_err-places-clause-dry : goal.returns-in_err-places-clause-dry
+returns-in_err-places-clause-dry g c = IfOk-from_err c.from_residual.result _ c.from_residual.ensures.0
+
+pub returns-then-is_empty-clause-gate : goal.returns-then-is_empty-clause-gate
+returns-then-is_empty-clause-gate g c = counts_none _ _ refl
+
+pub returns-then-is_empty-clause-same : goal.returns-then-is_empty-clause-same
+returns-then-is_empty-clause-same g c = knows_same c.args.state.now
+
+pub returns-in_err-moved-clause-gate : goal.returns-in_err-moved-clause-gate
+returns-in_err-moved-clause-gate g c = counts_out _ _ _ c.read_round.result c.from_residual-in_err-moved.result c.in_err-moved.field-0.0 refl c.in_err-moved.was c.read_round.ensures.gate c.from_residual-in_err-moved.ensures.1
+
+pub returns-in_err-moved-clause-worker : goal.returns-in_err-moved-clause-worker
+returns-in_err-moved-clause-worker g c = IfOk-from_err c.from_residual-in_err-moved.result _ c.from_residual-in_err-moved.ensures.0
+
+pub returns-in_err-moved-clause-names : goal.returns-in_err-moved-clause-names
+returns-in_err-moved-clause-names g c = IfOk-from_err c.from_residual-in_err-moved.result _ c.from_residual-in_err-moved.ensures.0
+
+pub returns-in_err-moved-clause-read : goal.returns-in_err-moved-clause-read
+returns-in_err-moved-clause-read g c = IfOk-from_err c.from_residual-in_err-moved.result _ c.from_residual-in_err-moved.ensures.0
+
+pub returns-in_err-moved-clause-moved : goal.returns-in_err-moved-clause-moved
+returns-in_err-moved-clause-moved g c = IfOk-from_err c.from_residual-in_err-moved.result _ c.from_residual-in_err-moved.ensures.0
+
+pub returns-in_err-moved-clause-first : goal.returns-in_err-moved-clause-first
+returns-in_err-moved-clause-first g c = IfOk-from_err c.from_residual-in_err-moved.result _ c.from_residual-in_err-moved.ensures.0
+
+pub returns-in_err-moved-clause-stays : goal.returns-in_err-moved-clause-stays
+returns-in_err-moved-clause-stays g c = IfOk-from_err c.from_residual-in_err-moved.result _ c.from_residual-in_err-moved.ensures.0
+
+pub returns-in_err-moved-clause-dry : goal.returns-in_err-moved-clause-dry
+returns-in_err-moved-clause-dry g c = IfOk-from_err c.from_residual-in_err-moved.result _ c.from_residual-in_err-moved.ensures.0
+
+pub returns-clause-gate : goal.returns-clause-gate
+returns-clause-gate g c = counts_none _ _ (same_counts _ _ c.read_round.result _ c.in_ok-moved.was c.read_round.ensures.gate)
+
+pub returns-clause-read : goal.returns-clause-read
+returns-clause-read g c = c.in_ok-moved.ensures.looked.read
+
+pub returns-clause-moved : goal.returns-clause-moved
+returns-clause-moved g c = c.in_ok-moved.ensures.looked.moves
+
+pub returns-clause-stays : goal.returns-clause-stays
+returns-clause-stays g c = c.in_ok-moved.ensures.looked.stays
