@@ -1,13 +1,13 @@
 -- Topics in order of their names.
-use Rattle.std.proofs.Common.{◌≡◌, suc, Bool, true, false, ◌||◌, cond, [], ◌∷◌, fold, refl, ap, ap₂, ◌∙◌, if◌then◌else◌}
+use Rattle.std.proofs.Common.{◌≡◌, ℕ, suc, ◌+◌, ◌<◌, Bool, true, false, ◌||◌, cond, List, [], ◌∷◌, ◌++◌, length, drop, drop-cons, get_or, fold, refl, sym, ap, ap₂, ◌∙◌, append_assoc, if◌then◌else◌, arith}
 use Rattle.std.specs.List.{insert}
 use Rattle.std.specs.Ordering.{nat_cmp, is_lt}
 use Rattle.std.specs.Cmp.Lexicographic.{slice_cmp}
 use Rattle.ks_plan.specs.declared.draft.TopicDraft.{TopicDraft}
 use Rattle.ks_plan.specs.Drafts.{Name, Topics}
-use Rattle.ks_plan.specs.Plan.{with_topic}
+use Rattle.ks_plan.specs.Plan.{with_topic, natural}
 use Rattle.ks_plan.specs.Faults.{any_past, is_past}
-use Rattle.ks_topo.specs.Built.{topic_place}
+use Rattle.ks_topo.specs.Built.{topic_place, naturals}
 
 placed : (ys : Topics) (x : Name × TopicDraft) → insert ys (topic_place x.0 ys) x ≡ with_topic ys x
 placed [] x = refl
@@ -49,3 +49,24 @@ past_sorted ts e = past_onto [] ts refl e
 
 pub past_all : (ts slice sorted passed : Topics) → slice ≡ ts → sorted ≡ fold with_topic [] slice → passed ≡ sorted → any_past ts ≡ false → any_past passed ≡ false
 past_all ts slice sorted passed a b c e = ap any_past (c ∙ (b ∙ ap (fold with_topic []) a)) ∙ past_sorted ts e
+
+-- ---- one topic after another
+one_up : (i : ℕ) → i + 1 ≡ suc i
+one_up i = omega arith
+
+rest_is : (ts : Topics) (i : ℕ) (x : Name × TopicDraft) → i < length ts → x ≡ get_or ts i x → drop i ts ≡ x ∷ drop (i + 1) ts
+rest_is ts i x h is = drop-cons ts i x h ∙ ap₂ (λ (y : Name × TopicDraft) (j : ℕ). y ∷ drop j ts) (sym is) (sym (one_up i))
+
+-- neither this topic nor one after it has too many partitions
+pub next_within : (ts : Topics) (i : ℕ) (x : Name × TopicDraft) → i < length ts → x ≡ get_or ts i x → any_past (drop i ts) ≡ false
+    → (is_past x.1.parts ≡ false) × (any_past (drop (i + 1) ts) ≡ false)
+next_within ts i x h is none = neither (is_past x.1.parts) (any_past (drop (i + 1) ts)) (sym (ap any_past (rest_is ts i x h is)) ∙ none)
+
+-- one count more
+pub counted_on : (ts : Topics) (i : ℕ) (x : Name × TopicDraft) (counts new : List ℕ) (n : ℕ) → i < length ts → x ≡ get_or ts i x → n ≡ natural x.1.parts → new ≡ counts ++ n ∷ []
+    → counts ++ naturals (drop i ts) ≡ naturals ts → new ++ naturals (drop (i + 1) ts) ≡ naturals ts
+counted_on ts i x counts new n h is count pushed so =
+    ap (λ l. l ++ naturals (drop (i + 1) ts)) pushed
+    ∙ (append_assoc counts (n ∷ []) (naturals (drop (i + 1) ts))
+    ∙ (ap (λ m. counts ++ m ∷ naturals (drop (i + 1) ts)) count
+    ∙ (ap (λ l. counts ++ l) (sym (ap naturals (rest_is ts i x h is))) ∙ so)))

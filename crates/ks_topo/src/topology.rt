@@ -1,5 +1,5 @@
 //! Topologies that were built of well-formed drafts.
-ghost use Rattle.std.specs.Prelude.{◌≡◌, ◌≤◌, ◌<◌, length, map, get_or, [], ◌++◌, IfOk, None};
+ghost use Rattle.std.specs.Prelude.{◌≡◌, ◌≤◌, ◌<◌, length, map, get_or, [], ◌++◌, IfOk, OnOk, None};
 ghost use Rattle.ks_plan.specs.Drafts.{DraftView, draft_view, nodes_view};
 ghost use Rattle.ks_plan.specs.Plan.{plan_of, sorted_topics};
 ghost use Rattle.ks_hash.specs.Partition.{part_of_key};
@@ -164,7 +164,10 @@ fn lay_out(
     requires drafts { length draft.nodes ≤ 64 }
     ensures { IfOk result (λ t. draft_of t ≡ draft_view draft) }
 {
-    let shown = show(alloc, &draft, sorted, shape)?;
+    let Ok(shown) = show(alloc, &draft, sorted, shape) else {
+        drop(draft);
+        return Err(AllocError);
+    };
     let nodes = built_nodes(alloc, shape, &shown.all, draft.nodes.into_vec())?;
     Ok(Topology {
         app: draft.app,
@@ -190,15 +193,39 @@ fn number_lists(lists: &[Seq<u16>], sub: u8) -> &[u16]
     }
 }
 
+// What is laid out beside a draft without a fault: its topics in order of their names, and the shape of its plan.
+#[derive(Drop)]
+struct Judged {
+    sorted: Vec<(Name, TopicDraft)>,
+    shape: Shape,
+}
+
+fn judge_shape(alloc: Global, draft: &Draft) -> Result<Judged, Refusal>
+    ensures found { Finds result (fault_of (draft_view draft.now)) }
+    ensures sorted { IfOk result (λ j. j.sorted.items ≡ sorted_topics (draft_view draft.now)) }
+    ensures shape { IfOk result (λ j. IsShapeOf j.shape (plan_of (draft_view draft.now))) }
+    ensures topics { IfOk result (λ j. length j.shape.counts.items ≤ 64) }
+    ensures nodes { IfOk result (λ j. length j.shape.wirings.items ≤ 64) }
+    ensures drafts { OnOk result (length draft.now.nodes ≤ 64) }
+{
+    judge_sizes(alloc, draft)?;
+    let sorted = sort_topics(alloc, draft.topics.as_slice())?;
+    let counts = counts_of(alloc, &sorted)?;
+    let known = judge_parts(alloc, draft, &sorted, &counts)?;
+    let shape = draft_shape(alloc, draft, counts, &known)?;
+    Ok(Judged { sorted, shape })
+}
+
 fn judge_and_build(alloc: Global, draft: Draft) -> Result<Topology, Refusal>
     ensures { BuildsOr (draft_view draft) result }
 {
-    judge_sizes(alloc, &draft)?;
-    let sorted = sort_topics(alloc, draft.topics.as_slice())?;
-    let counts = counts_of(alloc, &sorted)?;
-    let known = judge_parts(alloc, &draft, &sorted, &counts)?;
-    let shape = draft_shape(alloc, &draft, counts, &known)?;
-    Ok(lay_out(alloc, draft, &sorted, &shape)?)
+    match judge_shape(alloc, &draft) {
+        Ok(judged) => Ok(lay_out(alloc, draft, &judged.sorted, &judged.shape)?),
+        Err(refusal) => {
+            drop(draft);
+            Err(refusal)
+        }
+    }
 }
 
 fn judge_draft(alloc: Global, draft: &Draft) -> Result<(), Refusal>
