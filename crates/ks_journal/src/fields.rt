@@ -4,8 +4,8 @@ ghost use Rattle.serde_json.specs.Data.{boolean};
 ghost use Rattle.ks_journal.specs.Lines.{field_text, part_text, task_work_text, assignment_text, offsets_text, whole, rec_data, task_data, recs_data, pairs_data, places_data};
 
 use crate::values::{
-    push_number, push_pairs, push_places, push_positions, push_rec, push_recs, push_task,
-    push_truth,
+    push_byte, push_number, push_pairs, push_places, push_positions, push_rec, push_recs,
+    push_task, push_truth,
 };
 use ks_record::{Assignment, PartId, Rec, SharedRecords, TaskId};
 use std::alloc::AllocError;
@@ -14,48 +14,42 @@ pub(crate) fn number_field(out: &mut Vec<u8>, number: u64) -> Result<(), AllocEr
     ensures { OnOk result (out.new.items ≡ out.old.items ++ field_text (whole number)) }
 {
     push_number(out, number)?;
-    out.push(b',')?;
-    Ok(())
+    push_byte(out, b',')
 }
 
 pub(crate) fn truth_field(out: &mut Vec<u8>, truth: bool) -> Result<(), AllocError>
     ensures { OnOk result (out.new.items ≡ out.old.items ++ field_text (boolean truth)) }
 {
     push_truth(out, truth)?;
-    out.push(b',')?;
-    Ok(())
+    push_byte(out, b',')
 }
 
 pub(crate) fn task_field(out: &mut Vec<u8>, task: TaskId) -> Result<(), AllocError>
     ensures { OnOk result (out.new.items ≡ out.old.items ++ field_text (task_data task)) }
 {
     push_task(out, task)?;
-    out.push(b',')?;
-    Ok(())
+    push_byte(out, b',')
 }
 
 pub(crate) fn rec_field(out: &mut Vec<u8>, rec: &Rec) -> Result<(), AllocError>
     ensures { OnOk result (out.new.items ≡ out.old.items ++ field_text (rec_data rec.now)) }
 {
     push_rec(out, rec.as_ref())?;
-    out.push(b',')?;
-    Ok(())
+    push_byte(out, b',')
 }
 
 pub(crate) fn recs_field(out: &mut Vec<u8>, recs: &SharedRecords) -> Result<(), AllocError>
     ensures { OnOk result (out.new.items ≡ out.old.items ++ field_text (recs_data recs.now)) }
 {
     push_recs(out, recs)?;
-    out.push(b',')?;
-    Ok(())
+    push_byte(out, b',')
 }
 
 fn pairs_field(out: &mut Vec<u8>, pairs: &[(u16, u64)]) -> Result<(), AllocError>
     ensures { OnOk result (out.new.items ≡ out.old.items ++ field_text (pairs_data pairs.now)) }
 {
     push_pairs(out, pairs)?;
-    out.push(b',')?;
-    Ok(())
+    push_byte(out, b',')
 }
 
 pub(crate) fn positions_field(
@@ -66,16 +60,14 @@ pub(crate) fn positions_field(
         ++ field_text (places_data positions.now)) }
 {
     push_positions(out, positions)?;
-    out.push(b',')?;
-    Ok(())
+    push_byte(out, b',')
 }
 
 fn places_field(out: &mut Vec<u8>, places: &[(TaskId, u8)]) -> Result<(), AllocError>
     ensures { OnOk result (out.new.items ≡ out.old.items ++ field_text (places_data places.now)) }
 {
     push_places(out, places)?;
-    out.push(b',')?;
-    Ok(())
+    push_byte(out, b',')
 }
 
 // The topic and the number of a partition.
@@ -99,8 +91,7 @@ pub(crate) fn task_work_fields(
     number_field(out, w as u64)?;
     number_field(out, epoch)?;
     number_field(out, number)?;
-    task_field(out, task)?;
-    Ok(())
+    task_field(out, task)
 }
 
 // The offsets of a task, the order in which it took its records, and how many pairs were late.

@@ -4,6 +4,7 @@ ghost use Rattle.ks_journal.specs.Lines.{entry_text, line_text, journal_text};
 
 use crate::replies::push_reply;
 use crate::requests::{push_arguments, push_name};
+use crate::values::push_byte;
 use ks_history::{Entry, Journal};
 use ks_record::Blob;
 use std::alloc::{AllocError, Global};
@@ -11,13 +12,12 @@ use std::alloc::{AllocError, Global};
 fn push_entry(out: &mut Vec<u8>, entry: &Entry) -> Result<(), AllocError>
     ensures { OnOk result (out.new.items ≡ out.old.items ++ entry_text entry.now) }
 {
-    out.push(b'[')?;
+    push_byte(out, b'[')?;
     push_name(out, &entry.request)?;
-    out.push(b',')?;
+    push_byte(out, b',')?;
     push_arguments(out, &entry.request)?;
     push_reply(out, &entry.reply)?;
-    out.push(b']')?;
-    Ok(())
+    push_byte(out, b']')
 }
 
 #[tactic(auto, unfolding(crate::specs::Lines::line_text))]
@@ -25,8 +25,7 @@ fn push_line(out: &mut Vec<u8>, entry: &Entry) -> Result<(), AllocError>
     ensures { OnOk result (out.new.items ≡ out.old.items ++ line_text entry.now) }
 {
     push_entry(out, entry)?;
-    out.push(b'\n')?;
-    Ok(())
+    push_byte(out, b'\n')
 }
 
 /// Appends the lines of some entries, one for each, in one pass and time linear in them. Want of memory is the one error; then some

@@ -5,7 +5,7 @@ ghost use Rattle.ks_record.specs.declared.assignment.Refused.TheVariants.{Alread
 ghost use Rattle.ks_journal.specs.Lines.{owner_data, refusal_text, mark_data, reply_data};
 
 use crate::fields::{number_field, part_fields};
-use crate::values::{push_null, push_number, push_pair, push_task, push_truth};
+use crate::values::{push_byte, push_null, push_number, push_pair, push_task, push_truth};
 use ks_history::Reply;
 use ks_record::{PartId, Refused, TaskId};
 use std::alloc::AllocError;
@@ -22,40 +22,36 @@ fn push_owner(out: &mut Vec<u8>, owner: Option<u8>) -> Result<(), AllocError>
 fn push_not_assigned(out: &mut Vec<u8>, owner: Option<u8>) -> Result<(), AllocError>
     ensures { OnOk result (out.new.items ≡ out.old.items ++ refusal_text (NotAssigned owner)) }
 {
-    out.push(b'[')?;
+    push_byte(out, b'[')?;
     number_field(out, 6)?;
     push_owner(out, owner)?;
-    out.push(b']')?;
-    Ok(())
+    push_byte(out, b']')
 }
 
 fn push_already_decided(out: &mut Vec<u8>, commit: bool) -> Result<(), AllocError>
     ensures { OnOk result (out.new.items ≡ out.old.items ++ refusal_text (AlreadyDecided commit)) }
 {
-    out.push(b'[')?;
+    push_byte(out, b'[')?;
     number_field(out, 3)?;
     push_truth(out, commit)?;
-    out.push(b']')?;
-    Ok(())
+    push_byte(out, b']')
 }
 
 fn push_bad_assignment(out: &mut Vec<u8>, task: TaskId) -> Result<(), AllocError>
     ensures { OnOk result (out.new.items ≡ out.old.items ++ refusal_text (BadAssignment task)) }
 {
-    out.push(b'[')?;
+    push_byte(out, b'[')?;
     number_field(out, 9)?;
     push_task(out, task)?;
-    out.push(b']')?;
-    Ok(())
+    push_byte(out, b']')
 }
 
 fn push_no_transaction(out: &mut Vec<u8>) -> Result<(), AllocError>
     ensures { OnOk result (out.new.items ≡ out.old.items ++ refusal_text NoTransaction) }
 {
-    out.push(b'[')?;
+    push_byte(out, b'[')?;
     push_number(out, 4)?;
-    out.push(b']')?;
-    Ok(())
+    push_byte(out, b']')
 }
 
 // A refusal: its number and what it tells.
@@ -80,11 +76,10 @@ fn push_mark(out: &mut Vec<u8>, part: PartId, commit: bool) -> Result<(), AllocE
     ensures { OnOk result (out.new.items ≡ out.old.items
         ++ compact_text (mark_data (Some (part, commit)))) }
 {
-    out.push(b'[')?;
+    push_byte(out, b'[')?;
     part_fields(out, part)?;
     push_truth(out, commit)?;
-    out.push(b']')?;
-    Ok(())
+    push_byte(out, b']')
 }
 
 pub(crate) fn push_reply(out: &mut Vec<u8>, reply: &Reply) -> Result<(), AllocError>
