@@ -1,5 +1,5 @@
 //! A line read back.
-ghost use Rattle.std.specs.Prelude.{◌≡◌, None, Some, IfOk, IfSome};
+ghost use Rattle.std.specs.Prelude.{◌≡◌, false, true, None, Some, IfOk, IfSome};
 ghost use Rattle.serde_json.specs.View.{view, items_view};
 ghost use Rattle.ks_history.specs.declared.journal.Entry.{Entry as EntryView};
 ghost use Rattle.ks_journal.specs.Lines.{entry_text};
@@ -84,6 +84,15 @@ fn print_entry(alloc: Global, entry: &Entry) -> Result<Vec<u8>, AllocError>
     Ok(text)
 }
 
+// Whether this is the line of an entry, without its end.
+fn is_line_of(alloc: Global, entry: &Entry, line: &[u8]) -> Result<bool, AllocError>
+    ensures yes { IfOk result (λ b. b ≡ true → line.now ≡ entry_text entry.now) }
+    ensures no { IfOk result (λ b. b ≡ false → line.now ≡ entry_text entry.now → ⊥) }
+{
+    let text = print_entry(alloc, entry)?;
+    Ok(text.as_slice() == line)
+}
+
 /// The entry whose line this is, without its end; none where it is the line of no entry. The time is linear in the line. Want of memory is
 /// the one error.
 pub fn read_line(alloc: Global, line: &[u8]) -> Result<Option<Entry>, AllocError>
@@ -97,12 +106,19 @@ pub fn read_line(alloc: Global, line: &[u8]) -> Result<Option<Entry>, AllocError
     let Some(entry) = parse(alloc, line)? else {
         return Ok(None);
     };
-    let text = print_entry(alloc, &entry)?;
-    if text.as_slice() == line {
-        request_fits(&entry.request);
-        reply_fits(&entry.reply);
-        Ok(Some(entry))
-    } else {
-        Ok(None)
+    match is_line_of(alloc, &entry, line) {
+        Ok(true) => {
+            request_fits(&entry.request);
+            reply_fits(&entry.reply);
+            Ok(Some(entry))
+        }
+        Ok(false) => {
+            drop(entry);
+            Ok(None)
+        }
+        Err(error) => {
+            drop(entry);
+            Err(error)
+        }
     }
 }

@@ -3,6 +3,7 @@ ghost use Rattle.std.specs.Prelude.{◌≡◌, IfOk, option_map};
 ghost use Rattle.ks_history.specs.declared.journal.Request.TheVariants.{Init, MarkNext, Join, Expire, Park, Unpark};
 ghost use Rattle.serde_json.specs.View.{items_view};
 ghost use Rattle.ks_journal.specs.Reading.{first, list_in, all_in, rec_in, pair_in, place_in, below_in, whole_in, produce_at, of_worker_at, add_at, append_at, offsets_at, decide_at, hold_at, probe_at, assign_at, of_instance_at, task_work_at, assignment_at, request_at};
+ghost use Rattle.ks_journal_line.specs.Parts.{group_request_at};
 
 use crate::values::{
     read_held, read_pair, read_place, read_rec, take_bool, take_part, take_task, take_u8, take_u64,
@@ -376,6 +377,34 @@ fn take_assign(alloc: Global, items: &[Value]) -> Result<Option<(Request, &[Valu
     Ok(Some((Request::Assign { w, generation, a }, rest)))
 }
 
+// The request with a name that a request of the group or of an instance has.
+fn take_group_request<'a>(
+    alloc: Global,
+    name: &str,
+    items: &'a [Value],
+) -> Result<Option<(Request, &'a [Value])>, AllocError>
+    ensures { IfOk result (λ o. option_map (λ x. (x.0, items_view x.1.now)) o
+        ≡ group_request_at name.now (items_view items.now)) }
+{
+    if name == "join" {
+        Ok(take_join(items))
+    } else if name == "expire" {
+        Ok(take_expire(items))
+    } else if name == "hold" {
+        take_hold(alloc, items)
+    } else if name == "probe" {
+        Ok(take_probe(items))
+    } else if name == "assign" {
+        take_assign(alloc, items)
+    } else if name == "park" {
+        Ok(take_park(items))
+    } else if name == "unpark" {
+        Ok(take_unpark(items))
+    } else {
+        Ok(None)
+    }
+}
+
 // The request with a name.
 pub(crate) fn take_request<'a>(
     alloc: Global,
@@ -399,21 +428,7 @@ pub(crate) fn take_request<'a>(
         Ok(take_decide(items))
     } else if name == "mark" {
         Ok(take_mark(items))
-    } else if name == "join" {
-        Ok(take_join(items))
-    } else if name == "expire" {
-        Ok(take_expire(items))
-    } else if name == "hold" {
-        take_hold(alloc, items)
-    } else if name == "probe" {
-        Ok(take_probe(items))
-    } else if name == "assign" {
-        take_assign(alloc, items)
-    } else if name == "park" {
-        Ok(take_park(items))
-    } else if name == "unpark" {
-        Ok(take_unpark(items))
     } else {
-        Ok(None)
+        take_group_request(alloc, name, items)
     }
 }

@@ -3,6 +3,7 @@ ghost use Rattle.std.specs.Prelude.{◌≡◌, ◌<◌, ◌^◌, ◌++◌, ◌�
 ghost use Rattle.serde_json.specs.Find.{as_bool};
 ghost use Rattle.serde_json.specs.View.{view, items_view};
 ghost use Rattle.ks_journal.specs.Reading.{first, below_in, whole_in, worker_at, count_at, truth_at, task_at, part_at, nibble, decimal_at, continues, task_from, bytes_from, bytes_onto, bytes_in, rec_in, pair_in, place_in, pair_at, place_at, only, at_end, byte_from};
+ghost use Rattle.ks_journal_line.specs.Parts.{timed_rec};
 
 use ks_record::{Blob, PartId, Rec, RecordRef, TaskId};
 use serde_json::Value;
@@ -255,6 +256,22 @@ fn record_of(
     Rec::of(alloc, rec)
 }
 
+// The record of this key and value, with the time that is left.
+fn timed_rec(
+    alloc: Global,
+    key: &Option<Blob>,
+    value: &Option<Blob>,
+    rest: &[Value],
+) -> Result<Option<Rec>, AllocError>
+    ensures { IfOk result (λ o. o ≡ timed_rec key.now value.now (items_view rest.now)) }
+{
+    let Some((ts, rest)) = take_u64(rest) else {
+        return Ok(None);
+    };
+    let rec = record_of(alloc, key, value, ts)?;
+    Ok(if_all(rest, rec))
+}
+
 pub(crate) fn read_rec(alloc: Global, value: &Value) -> Result<Option<Rec>, AllocError>
     ensures { IfOk result (λ o. o ≡ rec_in (view value.now)) }
 {
@@ -267,11 +284,7 @@ pub(crate) fn read_rec(alloc: Global, value: &Value) -> Result<Option<Rec>, Allo
     let Some((value, rest)) = take_bytes(alloc, rest)? else {
         return Ok(None);
     };
-    let Some((ts, rest)) = take_u64(rest) else {
-        return Ok(None);
-    };
-    let rec = record_of(alloc, &key, &value, ts)?;
-    Ok(if_all(rest, rec))
+    timed_rec(alloc, &key, &value, rest)
 }
 
 fn take_pair(items: &[Value]) -> Option<((u16, u64), &[Value])>
