@@ -1,5 +1,5 @@
 -- What a status tells is what the state says.
-use Rattle.std.proofs.Common.{◌≡◌, ℕ, zero, suc, ◌+◌, ◌-◌, ◌<◌, cond, nat_eq, List, [], ◌∷◌, ◌++◌, length, get_or, Option, Some, None, refl, sym, ap, subst, ◌∙◌, arith, eqb-true}
+use Rattle.std.proofs.Common.{◌≡◌, ℕ, zero, suc, ◌+◌, ◌-◌, ◌<◌, cond, nat_eq, List, [], ◌∷◌, ◌++◌, length, get_or, Option, Some, None, refl, sym, ap, subst, ◌∙◌, arith, eqb-true, drop, drop-cons}
 use Rattle.std.specs.Prelude.{map, Bool, true, false, ◌||◌}
 use Rattle.ks_record.specs.declared.record.PartId.{PartId}
 use Rattle.ks_record.specs.declared.record.TaskId.{TaskId}
@@ -23,6 +23,16 @@ pub one_end : (log : List Written) (topic part count n : ℕ) → part < count �
 one_end log topic part count n h is =
     let left : count - part ≡ suc (count - (part + 1)) = omega (arith, h) in
     ap (ends_on log topic part) left ∙ ap (λ m. (record { topic = topic; part = part }, m) ∷ ends_on log topic (part + 1) (count - (part + 1))) (sym is)
+
+one_up : (i : ℕ) → i + 1 ≡ suc i
+one_up i = omega arith
+
+-- the changelogs of one topic more
+pub next_topic : (setup : Setup) (log : List Written) (counts : List ℕ) (i d : ℕ) → i < length counts
+    → changelogs_on setup log i (drop i counts) ≡ ends_if setup log i (get_or counts i d) ++ changelogs_on setup log (i + 1) (drop (i + 1) counts)
+next_topic setup log counts i d h =
+    ap (changelogs_on setup log i) (drop-cons counts i d h)
+    ∙ ap (λ j. ends_if setup log i (get_or counts i d) ++ changelogs_on setup log (i + 1) (drop j counts)) (sym (one_up i))
 
 topic-are : (s : State) (log : List Written) (topic part count : ℕ) → ((p : PartId) → slots_in p log ≡ s.partition p) → ends_on log topic part count ≡ topic_ends s topic part count
 topic-are s log topic part zero is = refl

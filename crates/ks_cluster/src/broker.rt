@@ -34,10 +34,15 @@ impl Broker {
         ensures { IfOk result (λ b. IsNew (W.plan work.now) tasks.now b) }
     {
         let inputs = task_inputs(alloc, work, tasks)?;
+        let group = Group::new(alloc, inputs)?;
+        let Ok(txns) = Txns::new(alloc) else {
+            drop(group);
+            return Err(AllocError);
+        };
         Ok(Broker {
             log: Log::new(alloc),
-            txns: Txns::new(alloc)?,
-            group: Group::new(alloc, inputs)?,
+            txns,
+            group,
             parked: Seq::new(alloc),
         })
     }

@@ -446,16 +446,18 @@ impl<W: Work> Cluster<W> {
     {
         let group = &self.broker.group;
         let tasks = group.tasks();
+        let waiting = marker_count(&self.broker.txns)?;
         let members = copy_members(alloc, group.members())?;
         let held = copy_positions(alloc, group.held())?;
         let counts = self.counts.as_slice();
         let ends = changelog_ends(alloc, &self.work, tasks, counts, &self.broker.log)?;
+        let assignment = copy_given(alloc, group.assignment())?;
         Ok(Status {
             generation: group.generation(),
             members: Seq::of(members),
-            assignment: copy_given(alloc, group.assignment())?,
+            assignment,
             held: Seq::of(held),
-            waiting: marker_count(&self.broker.txns)?,
+            waiting,
             ends: Seq::of(ends),
         })
     }
@@ -493,9 +495,10 @@ impl<W: Work> Cluster<W> {
         let Cluster {
             work: _,
             counts: _,
-            broker: _,
+            broker,
             journal,
         } = self;
+        drop(broker);
         Seq::of(journal)
     }
 
