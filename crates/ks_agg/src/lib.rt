@@ -1,7 +1,7 @@
 //! Aggregates of tables and streams: what one item or one row adds, what it sends to its groups, and the row that is shown.
 #![tactic(auto)]
 
-ghost use Rattle.std.specs.Prelude.{◌≡◌, ◌++◌, map, Option, Some, None, option_copied, option_map, IfOk, OnOk};
+ghost use Rattle.std.specs.Prelude.{◌≡◌, ◌++◌, true, false, map, Option, Some, None, option_copied, option_map, IfOk, OnOk};
 ghost use Rattle.ks_query.specs.Aggregates.{stream_add, amount_in, table_apply, agg_row, table_parts, int_of, plus, minus, or_nothing, with_members, moved, share_under, same_share, deltas_of};
 
 use ks_record::{Key, Name, equal_bytes, equal_numbers};
@@ -135,6 +135,27 @@ fn push_delta(
     Ok(())
 }
 
+// The subtraction of a share, then the addition of another one.
+fn parts_between(
+    alloc: Global,
+    before: Option<(Key, i64)>,
+    now: Option<(Key, i64)>,
+) -> Result<Vec<(Key, Delta)>, AllocError>
+    ensures { IfOk result (λ v. v.items ≡ deltas_of false before ++ deltas_of true now) }
+{
+    let Ok(mut parts) = Vec::with_capacity(alloc, 2) else {
+        drop(before);
+        drop(now);
+        return Err(AllocError);
+    };
+    let Ok(()) = push_delta(&mut parts, false, before) else {
+        drop(now);
+        return Err(AllocError);
+    };
+    push_delta(&mut parts, true, now)?;
+    Ok(parts)
+}
+
 /// What a changed row of a table sends to its groups: the subtraction from the old group, then the addition to the new one;
 /// nothing where group and amount both stay. `field` is that of a sum, none for a count.
 pub fn table_parts(
@@ -147,12 +168,15 @@ pub fn table_parts(
         change.now.old change.now.new) }
 {
     let before = share_under(alloc, by, field, change.old.as_ref())?;
-    let now = share_under(alloc, by, field, change.new.as_ref())?;
+    let Ok(now) = share_under(alloc, by, field, change.new.as_ref()) else {
+        drop(before);
+        return Err(AllocError);
+    };
     if is_same_share(&before, &now) {
-        return Ok(Vec::new(alloc));
+        drop(before);
+        drop(now);
+        Ok(Vec::new(alloc))
+    } else {
+        parts_between(alloc, before, now)
     }
-    let mut parts = Vec::with_capacity(alloc, 2)?;
-    push_delta(&mut parts, false, before)?;
-    push_delta(&mut parts, true, now)?;
-    Ok(parts)
 }
