@@ -137,17 +137,25 @@ pub fn subscriptions_by<H: Hash128>(
     ensures direct { IfOk result (λ r. r.1
         ≡ is_direct fk.now change.now.key change.now.old change.now.new) }
 {
-    let before = foreign_key(alloc, fk, &change.key, change.old.as_ref())?;
     let mut out = Vec::with_capacity(alloc, 2)?;
+    let before = foreign_key(alloc, fk, &change.key, change.old.as_ref())?;
     let Some(row) = &change.new else {
         let direct = before.is_none();
         push_asked(&mut out, before, None, DELETE_AND_ANSWER, &change.key, part)?;
         return Ok((out, direct));
     };
-    let now = foreign_key(alloc, fk, &change.key, Some(row))?;
+    let Ok(now) = foreign_key(alloc, fk, &change.key, Some(row)) else {
+        drop(before);
+        return Err(AllocError);
+    };
     let direct = now.is_none();
-    if !is_same_key(&before, &now) {
-        push_asked(&mut out, before, hash, DELETE, &change.key, part)?;
+    if is_same_key(&before, &now) {
+        drop(before);
+    } else {
+        let Ok(()) = push_asked(&mut out, before, hash, DELETE, &change.key, part) else {
+            drop(now);
+            return Err(AllocError);
+        };
     }
     push_asked(&mut out, now, hash, ANSWER, &change.key, part)?;
     Ok((out, direct))
