@@ -1,7 +1,7 @@
 //! The right side of a foreign-key join: what it keeps of a subscription, and what it answers (KIP-213).
 #![tactic(auto)]
 
-ghost use Rattle.std.specs.Prelude.{◌≡◌, ◌++◌, Some, None, IfOk, OnOk, OnErr, option_copied, option_map};
+ghost use Rattle.std.specs.Prelude.{◌≡◌, ◌++◌, ◌∷◌, [], Some, None, IfOk, OnOk, OnErr, option_copied, option_map};
 ghost use Rattle.ks_def_runs.specs.Bytes.{by_bytes};
 ghost use Rattle.ks_def_runs.specs.Table.{write};
 ghost use Rattle.ks_wire.specs.Spelling.{subscription_key, subscriber_bytes, long_key};
@@ -127,8 +127,16 @@ pub fn on_subscription<S: KvStore>(
     ensures err { OnErr result (S.contents store.new ≡ S.contents store.old) }
 {
     let response = answer(subscription, right)?;
-    let key = write_subscription_key(alloc, foreign, subscription.left())?;
-    set_kept(alloc, store, key.as_slice(), kept_of(subscription))?;
+    let Ok(key) = write_subscription_key(alloc, foreign, subscription.left()) else {
+        drop(response);
+        return Err(AllocError);
+    };
+    let kept = set_kept(alloc, store, key.as_slice(), kept_of(subscription));
+    drop(key);
+    let Ok(()) = kept else {
+        drop(response);
+        return Err(AllocError);
+    };
     match response {
         Some(response) => Ok(Some((response, subscription.part()))),
         None => Ok(None),
@@ -164,6 +172,28 @@ fn read_kept(
     Ok(Some((left, subscriber)))
 }
 
+// The answer to a left key that the store keeps, behind those before it.
+fn push_answer(
+    answers: &mut Vec<(Key, Response, Option<u8>)>,
+    left: Key,
+    subscriber: Subscriber,
+    row: Option<&Row>,
+) -> Result<(), AllocError>
+    ensures { OnOk result (answers.new.items ≡ answers.old.items
+        ++ answer_all (option_copied row.entry) ((left, subscriber) ∷ [])) }
+{
+    let Ok(right) = copy_row(row) else {
+        drop(left);
+        return Err(AllocError);
+    };
+    let response = Response {
+        hash: Some(subscriber.hash),
+        right,
+    };
+    answers.push((left, response, subscriber.part))?;
+    Ok(())
+}
+
 /// What a changed right row answers: to each left key that the store keeps under it, in order, the hash that is kept and the new
 /// right row or none, and the partition that the subscription named, if it named one.
 pub fn on_right<S: KvStore>(
@@ -178,14 +208,9 @@ pub fn on_right<S: KvStore>(
     let pairs = store.prefix(&front)?;
     let mut answers = Vec::new(alloc);
     for (key, value) in &pairs {
-        let Some((left, subscriber)) = read_kept(alloc, key, value)? else {
-            continue;
-        };
-        let response = Response {
-            hash: Some(subscriber.hash),
-            right: copy_row(change.new.as_ref())?,
-        };
-        answers.push((left, response, subscriber.part))?;
+        if let Some((left, subscriber)) = read_kept(alloc, key, value)? {
+            push_answer(&mut answers, left, subscriber, change.new.as_ref())?;
+        }
     }
     Ok(answers)
 }
