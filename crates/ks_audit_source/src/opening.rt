@@ -86,7 +86,10 @@ fn or_fault(
     ensures { result ≡ or_fault found answer }
 {
     match found {
-        Some(found) => Some(found),
+        Some(found) => {
+            drop(answer);
+            Some(found)
+        }
         None => match answer {
             Ok(()) => None,
             Err(fault) => Some(Err(bad_line(fault))),
@@ -106,7 +109,10 @@ fn feed_line(
 {
     let mut items = Vec::new(alloc);
     let answer = reader.feed(line, &mut items)?;
-    let found = topology_in(alloc, items)?;
+    let Ok(found) = topology_in(alloc, items) else {
+        drop(answer);
+        return Err(AllocError);
+    };
     Ok(or_fault(found, answer))
 }
 
@@ -143,6 +149,7 @@ fn feed_lines<'p>(
         if found.is_some() {
             return Ok(with_more(found, more));
         }
+        drop(found);
         rest = more;
     }
     let found = feed_line(alloc, reader, rest)?;
@@ -166,7 +173,10 @@ fn end_reading(
 {
     let mut items = Vec::new(alloc);
     let answer = reader.finish(&mut items)?;
-    let found = topology_in(alloc, items)?;
+    let Ok(found) = topology_in(alloc, items) else {
+        drop(answer);
+        return Err(AllocError);
+    };
     match or_fault(found, answer) {
         Some(Ok((line, topology))) => Ok(Ok(OpenAudit {
             topology,
@@ -195,7 +205,10 @@ fn open_with(alloc: Global, found: TopologyLine<'_>, taken: u64) -> Result<OpenA
         topology,
         more,
     } = found;
-    let rest = Vec::from_slice(alloc, more)?;
+    let Ok(rest) = Vec::from_slice(alloc, more) else {
+        drop(topology);
+        return Err(AllocError);
+    };
     Ok(OpenAudit {
         topology,
         line,
@@ -230,12 +243,25 @@ pub fn open_audit<S: Source>(
     let mut reader = JobReader::new(alloc);
     let mut taken: u64 = 0;
     loop {
-        let count = input.take(buf)?;
+        let count = match input.take(buf) {
+            Ok(count) => count,
+            Err(_) => {
+                drop(reader);
+                return Err(SourceError::Fault);
+            }
+        };
         if count == 0 {
             return Ok(end_reading(alloc, reader, taken)?);
         }
         taken += count as u64;
-        match feed_lines(alloc, &mut reader, &buf[..count])? {
+        let found = match feed_lines(alloc, &mut reader, &buf[..count]) {
+            Ok(found) => found,
+            Err(_) => {
+                drop(reader);
+                return Err(SourceError::Memory);
+            }
+        };
+        match found {
             Some(Ok(found)) => {
                 drop(reader);
                 return Ok(Ok(open_with(alloc, found, taken)?));
@@ -244,7 +270,7 @@ pub fn open_audit<S: Source>(
                 drop(reader);
                 return Ok(Err(stop));
             }
-            None => {}
+            None => drop(found),
         }
     }
 }

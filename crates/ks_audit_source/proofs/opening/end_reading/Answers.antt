@@ -15,7 +15,7 @@ returns-in-Some-Ok-clause-ready c =
     let got = c.requires.0 in
     let none : c.new-items.result.items ≡ [] = search rules in
     let ended = subst (λ (l : List JobItem). IfSome c.args.reader (λ b. TellsFault c.in_ok-answer.answer (end_of b (item_views l)).reader × (item_views c.finish.new.items.items ≡ (end_of b (item_views l)).items))) none c.in_ok-answer.ensures.ended in
-    let finds = subst (λ o. EndFinds got o) (sym c.or_fault.ensures) (end_finds got c.args.reader c.finish.new.items.items c.in_ok-answer.answer c.requires.1 ended c.in_ok-found.found c.in_ok-found.ensures) in
+    let finds = subst (λ o. EndFinds got o) (sym c.or_fault.ensures) (end_finds got c.args.reader c.finish.new.items.items c.in_ok-answer.answer c.requires.1 ended c.in-Ok.found c.in-Ok.ensures) in
     let is : c.in-Some-Ok.field-0 ≡ Ok (c.in-Some-Ok.line, c.in-Some-Ok.topology) = search rules in
     let here = rw c.in-Some-Ok.is at finds in
     end_ready got (c.in-Some-Ok.line, c.in-Some-Ok.topology) (subst (λ r. EndFinds got (Some r)) is here)
@@ -32,7 +32,7 @@ finds_at got reader fresh items answer found told before none ended is e =
 pub returns-in-Some-Ok-clause-lacks : goal.returns-in-Some-Ok-clause-lacks
 returns-in-Some-Ok-clause-lacks c = λ got before.
     let none : c.new-items.result.items ≡ [] = search rules in
-    let finds = finds_at got c.args.reader c.new-items.result.items c.finish.new.items.items c.in_ok-answer.answer c.in_ok-found.found c.or_fault.result before none c.in_ok-answer.ensures.ended c.in_ok-found.ensures c.or_fault.ensures in
+    let finds = finds_at got c.args.reader c.new-items.result.items c.finish.new.items.items c.in_ok-answer.answer c.in-Ok.found c.or_fault.result before none c.in_ok-answer.ensures.ended c.in-Ok.ensures c.or_fault.ensures in
     let is : c.in-Some-Ok.field-0 ≡ Ok (c.in-Some-Ok.line, c.in-Some-Ok.topology) = search rules in
     let here = rw c.in-Some-Ok.is at finds in
     end_lacks got c.args.reader (c.in-Some-Ok.line, c.in-Some-Ok.topology) before (subst (λ r. EndFinds got (Some r)) is here)
@@ -40,7 +40,7 @@ returns-in-Some-Ok-clause-lacks c = λ got before.
 pub returns-in-Some-Err-clause-stops : goal.returns-in-Some-Err-clause-stops
 returns-in-Some-Err-clause-stops c = λ got before.
     let none : c.new-items.result.items ≡ [] = search rules in
-    let finds = finds_at got c.args.reader c.new-items.result.items c.finish.new.items.items c.in_ok-answer.answer c.in_ok-found.found c.or_fault.result before none c.in_ok-answer.ensures.ended c.in_ok-found.ensures c.or_fault.ensures in
+    let finds = finds_at got c.args.reader c.new-items.result.items c.finish.new.items.items c.in_ok-answer.answer c.in-Ok.found c.or_fault.result before none c.in_ok-answer.ensures.ended c.in-Ok.ensures c.or_fault.ensures in
     let is : c.in-Some-Err.field-0 ≡ Err c.in-Some-Err.stop = search rules in
     let here = rw c.in-Some-Err.is at finds in
     end_stops got c.args.reader c.in-Some-Err.stop before (subst (λ r. EndFinds got (Some r)) is here)
@@ -50,5 +50,5 @@ unreachable-requires c =
     let got = c.requires.0 in
     let none : c.new-items.result.items ≡ [] = search rules in
     let ended = subst (λ (l : List JobItem). IfSome c.args.reader (λ b. TellsFault c.in_ok-answer.answer (end_of b (item_views l)).reader × (item_views c.finish.new.items.items ≡ (end_of b (item_views l)).items))) none c.in_ok-answer.ensures.ended in
-    let finds = subst (λ o. EndFinds got o) (sym c.or_fault.ensures) (end_finds got c.args.reader c.finish.new.items.items c.in_ok-answer.answer c.requires.1 ended c.in_ok-found.found c.in_ok-found.ensures) in
+    let finds = subst (λ o. EndFinds got o) (sym c.or_fault.ensures) (end_finds got c.args.reader c.finish.new.items.items c.in_ok-answer.answer c.requires.1 ended c.in-Ok.found c.in-Ok.ensures) in
     absurd (rw c.in-None.is at finds)
