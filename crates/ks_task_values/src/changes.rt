@@ -191,8 +191,14 @@ fn is_other_made(
     ensures { IfOk result (λ c. c ≡ is_other (stored_in old.entry) (value_view new.now)) }
 {
     let before = stored_row(alloc, old)?;
-    let now = row_after(alloc, new)?;
-    Ok(is_changed_row(&before, &now))
+    let Ok(now) = row_after(alloc, new) else {
+        drop(before);
+        return Err(AllocError);
+    };
+    let is_changed = is_changed_row(&before, &now);
+    drop(before);
+    drop(now);
+    Ok(is_changed)
 }
 
 #[tactic(auto, using(crate::proofs::Compared::same_shown))]
@@ -218,8 +224,14 @@ fn is_other_bytes(alloc: Global, old: &[u8], new: &[u8]) -> Result<bool, AllocEr
         return Ok(false);
     }
     let before = decode(alloc, old)?;
-    let now = decode(alloc, new)?;
-    Ok(is_changed_row(&before, &now))
+    let Ok(now) = decode(alloc, new) else {
+        drop(before);
+        return Err(AllocError);
+    };
+    let is_changed = is_changed_row(&before, &now);
+    drop(before);
+    drop(now);
+    Ok(is_changed)
 }
 
 // The number that an aggregate's row shows.

@@ -1,8 +1,8 @@
 //! What a join on a foreign key stores (KIP-213).
-ghost use Rattle.std.specs.Prelude.{◌≡◌, IfOk, Some, None, option_copied};
+ghost use Rattle.std.specs.Prelude.{◌≡◌, IfOk, Some, None, is_none, option_copied};
 ghost use Rattle.ks_expr.specs.Terms.{set_of};
 ghost use Rattle.ks_plan.specs.declared.node.Topic.TheVariants.{Responses};
-ghost use Rattle.ks_def_tasks.specs.Foreign.{is_direct as direct_is, direct_row};
+ghost use Rattle.ks_def_tasks.specs.Foreign.{is_direct as direct_is, direct_row, key_of_row};
 ghost use Rattle.ks_def_tasks.specs.Step.{arrived, step_key, row_in, direct, responded};
 ghost use Rattle.ks_def_tasks.specs.Rules.{rules_of};
 ghost use Rattle.ks_task_nodes.specs.Records.{arrival_of, message_of};
@@ -23,6 +23,22 @@ use ks_task_nodes::{
 use ks_wire::Response;
 use std::alloc::{AllocError, Global};
 
+// Whether a left row of this key has no foreign key.
+fn is_without_key(
+    alloc: Global,
+    join: &ForeignKeyJoin<'_>,
+    key: &Key,
+    row: Option<&Row>,
+) -> Result<bool, AllocError>
+    ensures { IfOk result (λ b. b ≡ is_none
+        (key_of_row join.now.foreign_key.now key.now (option_copied row.entry))) }
+{
+    let foreign = foreign_key(alloc, join.foreign_key, key, row)?;
+    let is_without = foreign.is_none();
+    drop(foreign);
+    Ok(is_without)
+}
+
 // Whether no answer will come to a changed left row, so that the result is set at once. The row before is read only where there is none
 // after.
 fn is_direct(
@@ -36,10 +52,12 @@ fn is_direct(
         (row_in (olds_in values.now) join.now.left) new.now) }
 {
     match new {
-        Some(_) => Ok(foreign_key(alloc, join.foreign_key, key, new.as_ref())?.is_none()),
+        Some(_) => is_without_key(alloc, join, key, new.as_ref()),
         None => {
             let old = old_row(alloc, values, join.left)?;
-            Ok(foreign_key(alloc, join.foreign_key, key, old.as_ref())?.is_none())
+            let is_direct = is_without_key(alloc, join, key, old.as_ref());
+            drop(old);
+            is_direct
         }
     }
 }
@@ -74,9 +92,16 @@ fn direct_value<'a>(
         return Ok(NewValue::Unchanged(old));
     };
     let now = new_row(alloc, values, join.left)?;
-    if is_direct(alloc, join, key, values, &now)? {
-        Ok(value_of_row(left_alone(alloc, join, &now)?))
+    let Ok(is_direct) = is_direct(alloc, join, key, values, &now) else {
+        drop(now);
+        return Err(AllocError);
+    };
+    if is_direct {
+        let row = left_alone(alloc, join, &now);
+        drop(now);
+        Ok(value_of_row(row?))
     } else {
+        drop(now);
         Ok(NewValue::Unchanged(old))
     }
 }
@@ -100,11 +125,14 @@ fn responded_value<'a, H: Hash128>(
         return Ok(NewValue::Unchanged(old));
     };
     let left = new_row(alloc, values, join.left)?;
-    let (left, right) = (left.as_ref(), response.right.as_ref());
-    if !is_answer_to(hash_of_row::<H>(left), response) {
+    if !is_answer_to(hash_of_row::<H>(left.as_ref()), response) {
+        drop(left);
         return Ok(NewValue::Unchanged(old));
     }
-    Ok(value_of_row(join_rows(alloc, join.kind, join.set, left, right)?))
+    let right = response.right.as_ref();
+    let row = join_rows(alloc, join.kind, join.set, left.as_ref(), right);
+    drop(left);
+    Ok(value_of_row(row?))
 }
 
 /// What a join on a foreign key stores after the step: by its left row where that changed, else by a response to it. Want of memory is
@@ -142,7 +170,9 @@ fn is_awaited(
     match key {
         Some(key) => {
             let now = new_row(alloc, values, join.left)?;
-            Ok(!is_direct(alloc, join, key, values, &now)?)
+            let is_direct = is_direct(alloc, join, key, values, &now);
+            drop(now);
+            Ok(!is_direct?)
         }
         None => Ok(true),
     }

@@ -34,7 +34,9 @@ fn hash_after<H: Hash128>(alloc: Global, new: &NewValue<'_>) -> Result<Option<u1
         NewValue::Unchanged(Some(StoredValue::Row(bytes))) => Ok(hash_stored::<H>(bytes)),
         _ => {
             let row = row_after(alloc, new)?;
-            Ok(hash_of_row::<H>(row.as_ref()))
+            let hash = hash_of_row::<H>(row.as_ref());
+            drop(row);
+            Ok(hash)
         }
     }
 }
@@ -52,7 +54,9 @@ pub fn new_hash<H: Hash128>(
         Some(live) => hash_after::<H>(alloc, &live.new),
         None => {
             let row = new_row(alloc, values, number)?;
-            Ok(hash_of_row::<H>(row.as_ref()))
+            let hash = hash_of_row::<H>(row.as_ref());
+            drop(row);
+            Ok(hash)
         }
     }
 }

@@ -1,5 +1,5 @@
 //! The items that streams pass on, node by node.
-ghost use Rattle.std.specs.Prelude.{◌≡◌, ◌++◌, ◌∷◌, [], IfOk, OnOk, map, option_map, option_copied};
+ghost use Rattle.std.specs.Prelude.{◌≡◌, ◌++◌, ◌∷◌, [], Some, IfOk, OnOk, map, option_map, option_copied};
 ghost use Rattle.ks_expr.specs.Terms.{test_of, set_of};
 ghost use Rattle.ks_query.specs.Streams.{filter_item, map_item, rekey_item};
 ghost use Rattle.ks_plan.specs.Plan.Kind.{StreamSource};
@@ -39,9 +39,14 @@ pub fn copy_key(key: &Option<Key>) -> Result<Option<Key>, AllocError>
 fn copy_item(item: &Item) -> Result<Item, AllocError>
     ensures { IfOk result (λ i. item_view i ≡ item_view item.now) }
 {
+    let key = copy_key(&item.key)?;
+    let Ok(row) = item.row.clone() else {
+        drop(key);
+        return Err(AllocError);
+    };
     Ok(Item {
-        key: copy_key(&item.key)?,
-        row: item.row.clone()?,
+        key,
+        row,
         time: item.time,
     })
 }
@@ -56,16 +61,24 @@ pub fn item_at(items: &[Option<Item>], number: u8) -> Option<&Item>
     }
 }
 
+// The item of a row, under a copy of a key.
+fn item_under(key: &Option<Key>, row: Row, time: u64) -> Result<Option<Item>, AllocError>
+    ensures { IfOk result (λ o. option_map item_view o
+        ≡ Some (record { key = key.now; row = row; time = time })) }
+{
+    let Ok(key) = copy_key(key) else {
+        drop(row);
+        return Err(AllocError);
+    };
+    Ok(Some(Item { key, row, time }))
+}
+
 fn filter_one(test: &Pred, item: &Item) -> Result<Option<Item>, AllocError>
     ensures { IfOk result (λ o. option_map item_view o
         ≡ filter_item (test_of test.now) (item_view item.now)) }
 {
     match filter_row(test, Some(&item.row))? {
-        Some(row) => Ok(Some(Item {
-            key: copy_key(&item.key)?,
-            row,
-            time: item.time,
-        })),
+        Some(row) => item_under(&item.key, row, item.time),
         None => Ok(None),
     }
 }
@@ -75,11 +88,7 @@ fn map_one(alloc: Global, set: &Proj, item: &Item) -> Result<Option<Item>, Alloc
         ≡ map_item (set_of set.now) (item_view item.now)) }
 {
     match map_row(alloc, set, Some(&item.row))? {
-        Some(row) => Ok(Some(Item {
-            key: copy_key(&item.key)?,
-            row,
-            time: item.time,
-        })),
+        Some(row) => item_under(&item.key, row, item.time),
         None => Ok(None),
     }
 }
@@ -89,11 +98,17 @@ fn rekey_one(alloc: Global, field: &Name, item: &Item) -> Result<Option<Item>, A
         ≡ rekey_item field.now (item_view item.now)) }
 {
     match key_of_field(alloc, &item.row, field.as_str().as_bytes())? {
-        Some(key) => Ok(Some(Item {
-            key: Some(key),
-            row: item.row.clone()?,
-            time: item.time,
-        })),
+        Some(key) => {
+            let Ok(row) = item.row.clone() else {
+                drop(key);
+                return Err(AllocError);
+            };
+            Ok(Some(Item {
+                key: Some(key),
+                row,
+                time: item.time,
+            }))
+        }
         None => Ok(None),
     }
 }
@@ -115,11 +130,7 @@ fn source_item(
             key,
             row: Some(row),
         } => match row.row(alloc)? {
-            Some(row) => Ok(Some(Item {
-                key: copy_key(key)?,
-                row,
-                time: stamped.time,
-            })),
+            Some(row) => item_under(key, row, stamped.time),
             None => Ok(None),
         },
         _ => Ok(None),
@@ -201,11 +212,17 @@ fn repartitioned_item(
     }
     match &stamped.payload {
         Payload::Row { group, row } => match row.row(alloc)? {
-            Some(row) => Ok(Some(Item {
-                key: Some(group.clone()?),
-                row,
-                time: stamped.time,
-            })),
+            Some(row) => {
+                let Ok(group) = group.clone() else {
+                    drop(row);
+                    return Err(AllocError);
+                };
+                Ok(Some(Item {
+                    key: Some(group),
+                    row,
+                    time: stamped.time,
+                }))
+            }
             None => Ok(None),
         },
         _ => Ok(None),

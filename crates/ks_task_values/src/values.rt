@@ -83,7 +83,9 @@ fn filter_value<'a>(
         return Ok(NewValue::Unchanged(old));
     }
     let row = new_row(alloc, values, from)?;
-    Ok(value_of_row(filter_row(test, row.as_ref())?))
+    let kept = filter_row(test, row.as_ref());
+    drop(row);
+    Ok(value_of_row(kept?))
 }
 
 fn map_value<'a>(
@@ -102,7 +104,9 @@ fn map_value<'a>(
         return Ok(NewValue::Unchanged(old));
     }
     let row = new_row(alloc, values, from)?;
-    Ok(value_of_row(map_row(alloc, set, row.as_ref())?))
+    let made = map_row(alloc, set, row.as_ref());
+    drop(row);
+    Ok(value_of_row(made?))
 }
 
 fn join_value<'a>(
@@ -117,9 +121,14 @@ fn join_value<'a>(
 {
     if is_changed(values, join.left) || is_changed(values, join.right) {
         let left = new_row(alloc, values, join.left)?;
-        let right = new_row(alloc, values, join.right)?;
-        let row = join_rows(alloc, join.kind, join.set, left.as_ref(), right.as_ref())?;
-        Ok(value_of_row(row))
+        let Ok(right) = new_row(alloc, values, join.right) else {
+            drop(left);
+            return Err(AllocError);
+        };
+        let row = join_rows(alloc, join.kind, join.set, left.as_ref(), right.as_ref());
+        drop(left);
+        drop(right);
+        Ok(value_of_row(row?))
     } else {
         Ok(NewValue::Unchanged(old))
     }
@@ -191,7 +200,9 @@ fn new_value<'a, H: Hash128>(
             ..
         } => {
             let item = item_into(alloc, values.items, number, *from, *through, stamped)?;
-            Ok(stream_aggregate_value(*field, old, &item))
+            let value = stream_aggregate_value(*field, old, &item);
+            drop(item);
+            Ok(value)
         }
         Processor::TableAggregate { field, .. } => {
             Ok(table_aggregate_value(number, *field, old, stamped))
@@ -303,7 +314,10 @@ fn push_value<'v, H: Hash128>(
         live: live.as_slice(),
     };
     let new = new_value::<H>(alloc, node, old, &values, step.stamped)?;
-    let is_changed = is_other_row(alloc, old, &new)?;
+    let Ok(is_changed) = is_other_row(alloc, old, &new) else {
+        drop(new);
+        return Err(AllocError);
+    };
     live.push(LiveValue {
         number: node.topics.number,
         old,
