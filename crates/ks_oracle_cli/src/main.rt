@@ -2,7 +2,7 @@
 //! prints the tables as `streams` prints those of a settled job. Beside the engine, to compare it with.
 #![tactic(auto)]
 
-use ks_job::{JobItem, JobReader};
+use ks_job::{JobFault, JobItem, JobReader};
 use ks_oracle::{JobRecord, evaluate};
 use ks_query::printed;
 use ks_record::{Blob, Key, Rec};
@@ -34,7 +34,10 @@ fn row_of(alloc: Global, value: Option<&[u8]>) -> Result<Option<Row>, AllocError
 
 fn record_of(alloc: Global, topic: u16, rec: &Rec) -> Result<JobRecord, AllocError> {
     let key = key_of(alloc, rec.key())?;
-    let row = row_of(alloc, rec.value())?;
+    let Ok(row) = row_of(alloc, rec.value()) else {
+        drop(key);
+        return Err(AllocError);
+    };
     Ok(JobRecord::new(topic, key, row, rec.ts()))
 }
 
@@ -49,17 +52,34 @@ fn records_of(alloc: Global, items: &[JobItem]) -> Result<Vec<JobRecord>, AllocE
     Ok(records)
 }
 
+// Whether a reader's answer tells no fault.
+fn is_good(answer: Result<Result<(), JobFault>, AllocError>) -> Result<bool, AllocError> {
+    let answer = answer?;
+    let is_good = answer.is_ok();
+    drop(answer);
+    Ok(is_good)
+}
+
 // The items of a job; none where a line is faulty.
 fn items_of(alloc: Global, input: &[u8]) -> Result<Option<Vec<JobItem>>, AllocError> {
     let mut reader = JobReader::new(alloc);
     let mut items = Vec::new(alloc);
-    if reader.feed(input, &mut items)?.is_err() {
-        return Ok(None);
+    match is_good(reader.feed(input, &mut items)) {
+        Ok(true) => {}
+        Ok(false) => {
+            drop(reader);
+            return Ok(None);
+        }
+        Err(error) => {
+            drop(reader);
+            return Err(error);
+        }
     }
-    if reader.finish(&mut items)?.is_err() {
-        return Ok(None);
+    if is_good(reader.finish(&mut items))? {
+        Ok(Some(items))
+    } else {
+        Ok(None)
     }
-    Ok(Some(items))
 }
 
 // The topology's draft, which is a job's first item.
@@ -74,13 +94,29 @@ fn draft_of(items: Vec<JobItem>) -> Option<Draft> {
     }
 }
 
+// The text of the tables of a topology, which is let go.
+fn tables_text(
+    alloc: Global,
+    topology: Topology,
+    records: &[JobRecord],
+) -> Result<Blob, AllocError> {
+    let tables = evaluate(alloc, &topology, records);
+    drop(topology);
+    let tables = tables?;
+    let text = printed(alloc, &tables);
+    drop(tables);
+    text
+}
+
 // The text of the tables; none where the topology is faulty.
 fn text_of(alloc: Global, draft: Draft, records: &[JobRecord]) -> Result<Option<Blob>, AllocError> {
-    let Ok(topology) = Topology::build(alloc, draft)? else {
-        return Ok(None);
-    };
-    let tables = evaluate(alloc, &topology, records)?;
-    Ok(Some(printed(alloc, &tables)?))
+    match Topology::build(alloc, draft)? {
+        Ok(topology) => Ok(Some(tables_text(alloc, topology, records)?)),
+        Err(fault) => {
+            drop(fault);
+            Ok(None)
+        }
+    }
 }
 
 // The text of the tables that a job prints; none where it is faulty.
