@@ -1,8 +1,9 @@
 //! The lines that a run writes.
-ghost use Rattle.std.specs.Prelude.{◌≡◌, ◌++◌, IfOk, string_bytes};
+ghost use Rattle.std.specs.Prelude.{◌≡◌, ◌++◌, [], IfOk, OnOk, decimal, string_bytes};
 ghost use Rattle.std.specs.List.{flat_map};
 ghost use Rattle.std.specs.Thread.{IsSync};
 ghost use Rattle.ks_query.specs.Printed.{row_line, table_text, tables_text};
+ghost use Rattle.ks_job_record.specs.Texts.{name_text as text_of_name};
 ghost use Rattle.ks_run_output.specs.Texts.{settled_text, late_text, collision_text, bad_words_text, read_fault_text};
 
 use ks_job_record::name_text;
@@ -59,9 +60,23 @@ fn print_table<R: Threads + Sync>(rt: &R, alloc: Global, table: Table) -> Result
 {
     let Table { name, rows } = table;
     let rows = rows.into_vec();
-    let mut text = print_head(alloc, name.as_str(), rows.len())?;
+    let head = print_head(alloc, name.as_str(), rows.len());
+    drop(name);
+    let Ok(mut text) = head else {
+        drop(rows);
+        return Err(AllocError);
+    };
     let halvings = if rows.len() < MANY { 0 } else { 2 };
-    text.push_str(&print_wide(rt, alloc, rows, halvings)?)?;
+    let Ok(lines) = print_wide(rt, alloc, rows, halvings) else {
+        drop(text);
+        return Err(AllocError);
+    };
+    let pushed = text.push_str(&lines);
+    drop(lines);
+    let Ok(()) = pushed else {
+        drop(text);
+        return Err(AllocError);
+    };
     Ok(text)
 }
 
@@ -113,9 +128,54 @@ pub fn print_late<R: Threads + Sync>(
     Ok(text.into_bytes())
 }
 
+// A number behind a text.
+fn push_number(alloc: Global, text: &mut String, number: u64) -> Result<(), AllocError>
+    ensures { OnOk result (string_bytes text.new ≡ string_bytes text.old ++ decimal number) }
+{
+    let digits = number.to_string(alloc)?;
+    let pushed = text.push_str(&digits);
+    drop(digits);
+    pushed
+}
+
+// A key as a JSON text behind a text.
+fn push_key(alloc: Global, text: &mut String, key: &[u8]) -> Result<(), AllocError>
+    ensures { OnOk result (string_bytes text.new
+        ≡ string_bytes text.old ++ text_of_name key.now) }
+{
+    let name = name_text(alloc, key)?;
+    let pushed = text.push_str(&name);
+    drop(name);
+    pushed
+}
+
+// The line of a collision into an empty text.
+#[tactic(auto, unfolding(crate::specs::Texts::collision_text))]
+fn write_collision(
+    alloc: Global,
+    text: &mut String,
+    node: &str,
+    key: &[u8],
+    first: u64,
+    second: u64,
+) -> Result<(), AllocError>
+    requires { string_bytes text.old ≡ [] }
+    ensures { OnOk result (string_bytes text.new
+        ≡ collision_text node.now key.now first second) }
+{
+    text.push_str("collision ")?;
+    text.push_str(node)?;
+    text.push_str(" ")?;
+    push_key(alloc, text, key)?;
+    text.push_str(" ")?;
+    push_number(alloc, text, first)?;
+    text.push_str(" ")?;
+    push_number(alloc, text, second)?;
+    text.push_str("\n")
+}
+
 /// That two rows of a left key of a join on a foreign key have one hash: the join's name, the key, and the offsets of the two records in
 /// the left table's changelog. Want of memory is the one error.
-#[tactic(auto, unfolding(crate::specs::Texts::collision_text))]
 pub fn print_collision(
     alloc: Global,
     node: &str,
@@ -125,15 +185,11 @@ pub fn print_collision(
 ) -> Result<Vec<u8>, AllocError>
     ensures { IfOk result (λ v. v.items ≡ collision_text node.now key.now first second) }
 {
-    let mut text = String::from_str(alloc, "collision ")?;
-    text.push_str(node)?;
-    text.push_str(" ")?;
-    text.push_str(&name_text(alloc, key)?)?;
-    text.push_str(" ")?;
-    text.push_str(&first.to_string(alloc)?)?;
-    text.push_str(" ")?;
-    text.push_str(&second.to_string(alloc)?)?;
-    text.push_str("\n")?;
+    let mut text = String::new(alloc);
+    let Ok(()) = write_collision(alloc, &mut text, node, key, first, second) else {
+        drop(text);
+        return Err(AllocError);
+    };
     Ok(text.into_bytes())
 }
 
