@@ -154,9 +154,12 @@ fn run_begun<
         gates,
         question,
     };
-    let (ended, asked) = run_workers::<H, R, W, S>(
+    let Ok((ended, asked)) = run_workers::<H, R, W, S>(
         rt, alloc, topology, empty, intake, input, crew,
-    )?;
+    ) else {
+        drop(refusal);
+        return Err(AllocError);
+    };
     let wanted = wanted_by(settings.journal, refusal, asked);
     end_by::<H, R, W>(rt, alloc, topology, ended, settings.cache, &wanted)
 }
@@ -223,7 +226,13 @@ pub fn settle_job<H: Processing + Send + Sync, R: Threads + Wait + Sync + Random
         drop(crew);
         return Err(AllocError);
     };
-    let Ok(topology) = built else { unreachable!() };
+    let topology = match built {
+        Ok(topology) => topology,
+        Err(fault) => {
+            drop(fault);
+            unreachable!()
+        }
+    };
     share_topology();
     let placing = placing_of(&crew.settings);
     let work = TaskWork::<H>::new(&topology, Some(placing));
