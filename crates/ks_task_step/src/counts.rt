@@ -35,7 +35,9 @@ fn count_in(
         rest = more;
     }
     let none = TaskStore::new(alloc, 0);
-    count(alloc, &none, key, time, window.window())
+    let counted = count(alloc, &none, key, time, window.window());
+    drop(none);
+    counted
 }
 
 /// How many pairs of a windowed count's item and a window were late, and the records for its changelog. Want of memory is the one error.
@@ -69,8 +71,15 @@ pub fn count_of(
             };
             let logs = step.changelogs;
             match &item.key {
-                Some(key) => count_in(alloc, logs, topics.changelog, key, item.time, window),
-                None => Ok((0, RecordList::new(alloc))),
+                Some(key) => {
+                    let counted = count_in(alloc, logs, topics.changelog, key, item.time, window);
+                    drop(item);
+                    counted
+                }
+                None => {
+                    drop(item);
+                    Ok((0, RecordList::new(alloc)))
+                }
             }
         }
         _ => Ok((0, RecordList::new(alloc))),

@@ -99,7 +99,9 @@ fn push_subscriptions(
     for (foreign, subscription) in asked {
         let value = write_subscription(alloc, subscription)?;
         let to = subscription_place(node, foreign);
-        push_send(out, to, foreign, value.as_slice(), time)?;
+        let pushed = push_send(out, to, foreign, value.as_slice(), time);
+        drop(value);
+        pushed?;
     }
     Ok(())
 }
@@ -120,7 +122,9 @@ fn push_response(
         return Ok(());
     };
     let value = write_response(alloc, response)?;
-    push_send(out, to, left, value.as_slice(), time)
+    let pushed = push_send(out, to, left, value.as_slice(), time);
+    drop(value);
+    pushed
 }
 
 fn push_responses(
@@ -156,7 +160,9 @@ fn asked_by_left<H: Hash128>(
 {
     let hash = new_hash::<H>(alloc, values, join.left)?;
     let change = change_at(alloc, values, key.clone()?, join.left)?;
-    let (asked, _) = subscriptions_by::<H>(alloc, join.foreign_key, part, &change, hash)?;
+    let asked = subscriptions_by::<H>(alloc, join.foreign_key, part, &change, hash);
+    drop(change);
+    let (asked, _) = asked?;
     Ok(asked)
 }
 
@@ -177,7 +183,9 @@ fn responses_in(
         rest = more;
     }
     let none = TaskStore::new(alloc, 0);
-    on_right(alloc, &none, change)
+    let answers = on_right(alloc, &none, change);
+    drop(none);
+    answers
 }
 
 fn responses_to(
@@ -212,7 +220,9 @@ fn push_right(
         change.now.key)))) }
 {
     let responses = responses_to(alloc, changelogs, node, change)?;
-    push_responses(alloc, out, node, &responses, time)
+    let pushed = push_responses(alloc, out, node, &responses, time);
+    drop(responses);
+    pushed
 }
 
 #[tactic(auto, using(crate::proofs::Asking::asked_is))]
@@ -235,7 +245,9 @@ fn push_left_if<H: Hash128>(
     if is_changed(values, join.left) {
         let part = named_partition(node, step.partition);
         let asked = asked_by_left::<H>(alloc, join, part, values, key)?;
-        push_subscriptions(alloc, out, node, &asked, step.stamped.time)
+        let pushed = push_subscriptions(alloc, out, node, &asked, step.stamped.time);
+        drop(asked);
+        pushed
     } else {
         Ok(())
     }
@@ -257,14 +269,16 @@ fn push_right_if(
 {
     if is_changed(values, right) {
         let change = change_at(alloc, values, key.clone()?, right)?;
-        push_right(
+        let pushed = push_right(
             alloc,
             out,
             step.changelogs,
             node,
             &change,
             step.stamped.time,
-        )
+        );
+        drop(change);
+        pushed
     } else {
         Ok(())
     }
@@ -334,7 +348,9 @@ fn push_answer_to(
     };
     let left = subscription.left();
     let to = response_place(node, left, subscription.part());
-    push_response(alloc, out, to, left, &response, time)
+    let pushed = push_response(alloc, out, to, left, &response, time);
+    drop(response);
+    pushed
 }
 
 /// The answer to a subscription, with the right row of the moment. Want of memory is the one error.
@@ -361,7 +377,9 @@ pub fn push_answer(
         } => {
             let row = right_row(alloc, step, right, foreign)?;
             let time = step.stamped.time;
-            push_answer_to(alloc, out, node, subscription, row.as_ref(), time)
+            let pushed = push_answer_to(alloc, out, node, subscription, row.as_ref(), time);
+            drop(row);
+            pushed
         }
         _ => Ok(()),
     }
@@ -435,7 +453,9 @@ fn push_new_subscriber(
         topic: node.topics.hash_changelog,
         part: step.partition,
     };
-    push_told(out, to, key.as_slice(), &value, step.stamped.time)
+    let pushed = push_told(out, to, key.as_slice(), &value, step.stamped.time);
+    drop(value);
+    pushed
 }
 
 fn push_other_subscriber(
@@ -456,9 +476,12 @@ fn push_other_subscriber(
     let old = subscriber_at(step.changelogs, node, &key);
     let new = kept_of(subscription);
     if is_same_subscriber(old, new) {
+        drop(key);
         Ok(())
     } else {
-        push_new_subscriber(alloc, out, step, node, &key, new)
+        let pushed = push_new_subscriber(alloc, out, step, node, &key, new);
+        drop(key);
+        pushed
     }
 }
 

@@ -61,13 +61,10 @@ fn push_changelog_record(
         topic: node.topics.changelog,
         part: step.partition,
     };
-    push_told(
-        out,
-        part,
-        key.as_str().as_bytes(),
-        &value,
-        step.stamped.time,
-    )
+    let key = key.as_str().as_bytes();
+    let pushed = push_told(out, part, key, &value, step.stamped.time);
+    drop(value);
+    pushed
 }
 
 // What the changelog of a windowed count is told of an item; how many pairs of the item and a window were late. Of any other node nothing.

@@ -95,7 +95,9 @@ fn push_deltas(
     for (group, delta) in deltas {
         let value = write_delta(alloc, delta)?;
         let to = group_place(node, group);
-        push_send(out, to, group, value.as_slice(), time)?;
+        let pushed = push_send(out, to, group, value.as_slice(), time);
+        drop(value);
+        pushed?;
     }
     Ok(())
 }
@@ -125,13 +127,10 @@ fn push_item(
     let Some(group) = group_of(alloc, by, item)? else {
         return Ok(());
     };
-    push_send(
-        out,
-        group_place(node, &group),
-        &group,
-        item.row.as_bytes(),
-        time,
-    )
+    let to = group_place(node, &group);
+    let pushed = push_send(out, to, &group, item.row.as_bytes(), time);
+    drop(group);
+    pushed
 }
 
 // Any key: what a table sends to its groups is told by the rows alone.
@@ -178,7 +177,9 @@ fn push_table_change(
 {
     if is_changed(values, from) {
         let change = change_at(alloc, values, any_key(alloc)?, from)?;
-        push_row_change(alloc, out, node, by, field, &change, time)
+        let pushed = push_row_change(alloc, out, node, by, field, &change, time);
+        drop(change);
+        pushed
     } else {
         Ok(())
     }
