@@ -57,8 +57,16 @@ fn judge_answer(
         (if is_first then topology_stop (item_views items.now) else None) (answer_stop answer)) }
 {
     if is_first {
-        if let Some(stop) = refused(alloc, items)? {
-            return Ok(Some(stop));
+        let Ok(found) = refused(alloc, items) else {
+            drop(answer);
+            return Err(AllocError);
+        };
+        match found {
+            Some(stop) => {
+                drop(answer);
+                return Ok(Some(stop));
+            }
+            None => drop(found),
         }
     }
     match answer {

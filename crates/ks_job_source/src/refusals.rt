@@ -34,14 +34,13 @@ fn print_topology_fault(alloc: Global, fault: &TopoFault) -> Result<Vec<u8>, All
             Ok(text)
         }
         TopoFault::TooMany { what, limit } => {
-            let what = what.clone()?;
-            fault_text(
-                alloc,
-                &JobKind::TooMany {
-                    what,
-                    limit: *limit,
-                },
-            )
+            let kind = JobKind::TooMany {
+                what: what.clone()?,
+                limit: *limit,
+            };
+            let text = fault_text(alloc, &kind);
+            drop(kind);
+            text
         }
         TopoFault::BadWindow { name } => print_named(alloc, "15 BadWindow ", name.as_slice()),
         TopoFault::SinkOnly { name } => print_named(alloc, "16 SinkOnly ", name.as_slice()),

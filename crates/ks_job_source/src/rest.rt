@@ -114,7 +114,13 @@ fn read_next<R: Threads + Sync, S: Source>(
     ensures fault { result ≡ Err SourceError.Fault → Rose (S.faults input.old) (S.faults input.new)
         × Keeps (S.left input.old) (S.left input.new) }
 {
-    let count = input.take(buf)?;
+    let count = match input.take(buf) {
+        Ok(count) => count,
+        Err(_) => {
+            drop(reader);
+            return Err(SourceError::Fault);
+        }
+    };
     if count == 0 {
         let standing = take_end(reader, items)?;
         return Ok((standing, 0));
@@ -160,8 +166,12 @@ impl JobRest {
             × Keeps (S.left input.old) (S.left input.new) }
     {
         let mut items = Vec::new(alloc);
-        let Standing::Reading(reader) = mem::replace(&mut self.standing, Standing::Lost) else {
-            unreachable!()
+        let reader = match mem::replace(&mut self.standing, Standing::Lost) {
+            Standing::Reading(reader) => reader,
+            standing => {
+                drop(standing);
+                unreachable!()
+            }
         };
         let (standing, count) = read_next(rt, input, reader, &mut self.buf, &mut items)?;
         drop(mem::replace(&mut self.standing, standing));

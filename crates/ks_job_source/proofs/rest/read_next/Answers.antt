@@ -8,9 +8,9 @@ pub returns-then-count-eq0-clause-goes : goal.returns-then-count-eq0-clause-goes
 returns-then-count-eq0-clause-goes g c =
     let left = g.S.Source.left c.args.input.now in
     let now = g.S.Source.left c.take.new.self in
-    let none : c.in_ok-count.count ≡ 0 = omega (arith, c.if-count-eq0.true) in
+    let none : c.in-Ok.count ≡ 0 = omega (arith, c.if-count-eq0.true) in
     steps_end left now c.args.reader c.in_ok-standing.standing (item_views c.take_end.new.items.items)
-    (subst (λ n. Consumes left now (take n c.take.new.buf)) none c.in_ok-count.ensures.bytes.0) (c.in_ok-count.ensures.bytes.1 none (omega (arith, c.requires.room, c.take.auto.buf)))
+    (subst (λ n. Consumes left now (take n c.take.new.buf)) none c.in-Ok.ensures.bytes.0) (c.in-Ok.ensures.bytes.1 none (omega (arith, c.requires.room, c.take.auto.buf)))
     c.in_ok-standing.ensures.standing c.in_ok-standing.ensures.items
 
 pub returns-then-count-eq0-clause-past : goal.returns-then-count-eq0-clause-past
@@ -18,10 +18,10 @@ returns-then-count-eq0-clause-past g c = past_end c.args.reader c.in_ok-standing
 
 pub returns-clause-goes : goal.returns-clause-goes
 returns-clause-goes g c =
-    steps_piece (g.S.Source.left c.args.input.now) (g.S.Source.left c.take.new.self) c.args.reader c.in_ok-standing-2.standing (item_views c.take_piece.new.items.items) (take c.in_ok-count.count c.take.new.buf)
-    c.in_ok-count.ensures.bytes.0 c.in_ok-standing-2.ensures.standing c.in_ok-standing-2.ensures.items
+    steps_piece (g.S.Source.left c.args.input.now) (g.S.Source.left c.take.new.self) c.args.reader c.in_ok-standing-2.standing (item_views c.take_piece.new.items.items) (take c.in-Ok.count c.take.new.buf)
+    c.in-Ok.ensures.bytes.0 c.in_ok-standing-2.ensures.standing c.in_ok-standing-2.ensures.items
 
 pub returns-clause-past : goal.returns-clause-past
 returns-clause-past g c =
-    past_piece c.args.reader c.in_ok-standing-2.standing (item_views c.take_piece.new.items.items) (take c.in_ok-count.count c.take.new.buf) c.in_ok-count.count
-    (let b = c.in_ok-count.ensures.bound in omega (arith, length-take {A = ℕ})) (omega (arith, c.if-count-eq0.false)) c.in_ok-standing-2.ensures.standing c.in_ok-standing-2.ensures.items
+    past_piece c.args.reader c.in_ok-standing-2.standing (item_views c.take_piece.new.items.items) (take c.in-Ok.count c.take.new.buf) c.in-Ok.count
+    (let b = c.in-Ok.ensures.bound in omega (arith, length-take {A = ℕ})) (omega (arith, c.if-count-eq0.false)) c.in_ok-standing-2.ensures.standing c.in_ok-standing-2.ensures.items
