@@ -40,7 +40,13 @@ impl<W: Work> JobFeed<W> {
     pub fn into_pass(self) -> Pass<SharedState<W>>
         ensures { result ≡ self.pass }
     {
-        let JobFeed { pass, .. } = self;
+        let JobFeed {
+            records,
+            rest,
+            pass,
+        } = self;
+        drop(records);
+        drop(rest);
         pass
     }
 }
