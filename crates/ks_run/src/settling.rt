@@ -161,7 +161,9 @@ fn run_begun<
         return Err(AllocError);
     };
     let wanted = wanted_by(settings.journal, refusal, asked);
-    end_by::<H, R, W>(rt, alloc, topology, ended, settings.cache, &wanted)
+    let answer = end_by::<H, R, W>(rt, alloc, topology, ended, settings.cache, &wanted);
+    drop(wanted);
+    answer
 }
 
 // The run of a job's tasks.
@@ -236,5 +238,7 @@ pub fn settle_job<H: Processing + Send + Sync, R: Threads + Wait + Sync + Random
     share_topology();
     let placing = placing_of(&crew.settings);
     let work = TaskWork::<H>::new(&topology, Some(placing));
-    settle::<H, R, TaskWork<H>, S>(rt, alloc, &topology, work, intake, input, crew)
+    let answer = settle::<H, R, TaskWork<H>, S>(rt, alloc, &topology, work, intake, input, crew);
+    drop(topology);
+    answer
 }

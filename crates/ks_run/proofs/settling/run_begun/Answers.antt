@@ -39,8 +39,8 @@ run_workers-requires-clause-question g c κs within =
     let d = draft_of c.args.topology.now in
     subst (λ q. IfSome q (λ a. ask_fault d a ≡ None)) (sym c.unless_refused-question.ensures) (good_question d c.args.crew.question c.bad_ask-refusal.result c.bad_ask-refusal.ensures)
 
-pub end_by-requires-clause-setup : goal.end_by-requires-clause-setup
-end_by-requires-clause-setup g c κs within =
+pub end_by-answer-requires-clause-setup : goal.end_by-answer-requires-clause-setup
+end_by-answer-requires-clause-setup g c κs within =
     let d = draft_of c.args.topology.now in
     let hash = g.H.Hash128.hash_of in
     let crew = c.args.crew in
@@ -49,8 +49,8 @@ end_by-requires-clause-setup g c κs within =
     filled_start hash g.W.Work.plan g.W.Work.good placing (wanted_in crew.settings.journal crew.question) d c.args.empty c.in-Ok.ended.cluster c.args.intake
     (g.S.Source.left c.args.input.now) (g.S.Source.left c.run_workers.new.input) c.in-Ok.ended.end begun.start begun.wanted c.requires.job c.in-Ok.ensures.worked
 
-pub end_by-requires-clause-placing : goal.end_by-requires-clause-placing
-end_by-requires-clause-placing g c κs within =
+pub end_by-answer-requires-clause-placing : goal.end_by-answer-requires-clause-placing
+end_by-answer-requires-clause-placing g c κs within =
     let d = draft_of c.args.topology.now in
     let hash = g.H.Hash128.hash_of in
     let crew = c.args.crew in
@@ -62,8 +62,8 @@ end_by-requires-clause-placing g c κs within =
           (g.S.Source.left c.args.input.now) (g.S.Source.left c.run_workers.new.input) c.in-Ok.ended.end begun.start begun.wanted c.requires.job c.in-Ok.ensures.worked,
     )
 
-pub end_by-requires-clause-may : goal.end_by-requires-clause-may
-end_by-requires-clause-may g c κs within =
+pub end_by-answer-requires-clause-may : goal.end_by-answer-requires-clause-may
+end_by-answer-requires-clause-may g c κs within =
     let d = draft_of c.args.topology.now in
     subst (MayTell d (state_of g.W.Work.plan c.in-Ok.ended.cluster)) (sym c.wanted_by-wanted.ensures)
     (may_tell g.W.Work.plan d c.in-Ok.ended.cluster c.args.crew.settings.journal c.bad_ask-refusal.result c.unless_refused-question.result c.in-Ok.asked c.in-Ok.ensures.asked
@@ -79,11 +79,11 @@ returns g c =
     let refusal = c.bad_ask-refusal.result in
     let asked = c.in-Ok.asked in
     let begun = c.requires.begun in
-    IfOk-weaker c.end_by.result _ _
+    IfOk-weaker c.end_by-answer.result _ _
     (λ a h. ran_so hash g.W.Work.plan g.W.Work.good placing (wanted_in shown crew.question) d c.args.empty c.in-Ok.ended.cluster c.args.intake
     (g.S.Source.left c.args.input.now) (g.S.Source.left c.run_workers.new.input) c.in-Ok.ended.end begun.start begun.wanted c.requires.job c.in-Ok.ensures.worked
     c.nodes-nodes.ensures.well_formed c.topology_fits.ensures c.hashes_fit.ensures refusal (wanted_of (tail_of shown refusal asked)) (refusal_is d shown crew.question refusal c.bad_ask-refusal.ensures)
     (wanted_so g.W.Work.plan d c.in-Ok.ended.cluster shown crew.question refusal asked
     (subst (λ q. AreAnswered g.W.Work.plan d c.in-Ok.ended.cluster q asked) c.unless_refused-question.ensures c.in-Ok.ensures.asked))
     (g.S.Source.faults c.args.input.now) (g.S.Source.faults c.run_workers.new.input) a.status a.text.items a.journal c.in-Ok.ensures.faults (ends_so g.W.Work.plan g.W.Work.good (rules_of hash) d c.in-Ok.ended.cluster c.in-Ok.ended.end shown refusal asked c.wanted_by-wanted.result c.wanted_by-wanted.ensures a.status a.text.items a.journal h))
-    c.end_by.ensures
+    c.end_by-answer.ensures

@@ -17,22 +17,22 @@ use Rattle.ks_run.specs.Settling.{RunsJob}
 use Rattle.ks_run.proofs.settling.settle_job.Goals as goal
 
 -- Threads may share the work: its topology, its placing and the name of a hash.
-pub settle-requires-sync-W : goal.settle-requires-sync-W
-settle-requires-sync-W g c κs within = param_sync _ _ (arg_sync _ no _ (declared_sync (TaskWork.the_type _ _) (search (c.share_topology.ensures, sendable) depth 20, (search (sendable, crosses) depth 20, (search (sendable, crosses) depth 20, tt)))))
+pub settle-answer-requires-sync-W : goal.settle-answer-requires-sync-W
+settle-answer-requires-sync-W g c κs within = param_sync _ _ (arg_sync _ no _ (declared_sync (TaskWork.the_type _ _) (search (c.share_topology.ensures, sendable) depth 20, (search (sendable, crosses) depth 20, (search (sendable, crosses) depth 20, tt)))))
 
-pub settle-requires-clause-placing : goal.settle-requires-clause-placing
-settle-requires-clause-placing g c κs within =
+pub settle-answer-requires-clause-placing : goal.settle-answer-requires-clause-placing
+settle-answer-requires-clause-placing g c κs within =
     ap₂ (λ t p. placed_by (plan_in t) p) c.new-work.ensures.topology (c.new-work.ensures.placing ∙ ap Some c.placing_of-placing.ensures)
 
-pub settle-requires-clause-job : goal.settle-requires-clause-job
-settle-requires-clause-job g c κs within =
+pub settle-answer-requires-clause-job : goal.settle-answer-requires-clause-job
+settle-answer-requires-clause-job g c κs within =
     let built = rw c.in-Ok-built.is at c.in-Ok.ensures in
     subst (λ d. IsReadable d (item_views c.args.job.records.items) c.args.job.rest) (sym built.1) c.requires.job
 
 pub returns : goal.returns
 returns g c =
     let built = rw c.in-Ok-built.is at c.in-Ok.ensures in
-    IfOk-weaker c.settle.result _ _
+    IfOk-weaker c.settle-answer.result _ _
     (λ a h. subst (λ d. RunsJob (rules_of g.H.Hash128.hash_of) (placing_of c.args.crew.settings) (wanted_in c.args.crew.settings.journal c.args.crew.question) d (item_views c.args.job.records.items) c.args.job.rest.standing
-    (g.S.Source.left c.args.input.now) (g.S.Source.left c.settle.new.input) (g.S.Source.faults c.args.input.now) (g.S.Source.faults c.settle.new.input) a.status a.text.items a.journal) built.1 h)
-    c.settle.ensures
+    (g.S.Source.left c.args.input.now) (g.S.Source.left c.settle-answer.new.input) (g.S.Source.faults c.args.input.now) (g.S.Source.faults c.settle-answer.new.input) a.status a.text.items a.journal) built.1 h)
+    c.settle-answer.ensures
