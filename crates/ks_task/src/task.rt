@@ -148,7 +148,9 @@ fn process_record<H: Processing>(
                 partition: at.part,
                 stamped: &stamped,
             };
-            H::process(alloc, made, &step)
+            let late = H::process(alloc, made, &step);
+            drop(stamped);
+            late
         }
         None => Ok(0),
     }
