@@ -1,10 +1,9 @@
 //! Hashes against other implementations; docs/formats.md says which.
 use ks_hash::{Constant, Hash128, Murmur3, murmur2, partition_of};
 use std::process::Abort;
-use std::test::Fail;
 
 // Of the first 0, 1, 2 .. bytes of the list whose byte i is (37 * i + 11) % 256: Murmur2 and MurmurHash3.
-const HASHES: [(u32, u128); 32] = [
+const HASHES: &[(u32, u128)] = &[
     (0x106e_08d9, 0x00000000_00000000_00000000_00000000),
     (0x14a1_b3bb, 0x932fc7cc_e617f1e7_7a434b81_6c4508dc),
     (0x62dd_e1df, 0xcff7e5ae_5471b39d_8549c3b2_77c47536),
@@ -43,30 +42,33 @@ fn hashed<H: Hash128>(bytes: &[u8]) -> u128 {
     H::hash(bytes)
 }
 
-fn expect_hash<R: Abort>(rt: &R, found: u128, expected: u128, length: usize) {
-    assert_eq!(rt; found, expected, "of {length} bytes");
+fn expect_number<R: Abort>(rt: &R, found: u128, expected: u128) {
+    assert_eq!(rt; found, expected);
+}
+
+fn expect_hashes<R: Abort>(rt: &R, bytes: &[u8], short: u32, long: u128) {
+    expect_number(rt, u128::from(murmur2(bytes)), u128::from(short));
+    expect_number(rt, hashed::<Murmur3>(bytes), long);
+    expect_number(rt, hashed::<Constant>(bytes), 0);
+}
+
+// The byte of the list that follows so many.
+fn byte_at(length: usize) -> u8 {
+    ((37 * (length % 256) + 11) % 256) as u8
 }
 
 #[test]
-fn every_tail(rt: HostRuntime) -> Result<(), Fail> {
+fn every_tail(rt: HostRuntime) {
     let mut bytes = Vec::new(rt.alloc());
     for (short, long) in HASHES {
-        let length = bytes.len();
-        expect_hash(&rt, u128::from(murmur2(&bytes)), u128::from(short), length);
-        expect_hash(&rt, hashed::<Murmur3>(&bytes), long, length);
-        expect_hash(&rt, hashed::<Constant>(&bytes), 0, length);
-        bytes.push(((37 * (length % 256) + 11) % 256) as u8)?;
+        expect_hashes(&rt, &bytes, *short, *long);
+        bytes.push(byte_at(bytes.len())).expect(&rt, "memory");
     }
-    Ok(())
-}
-
-fn expect_key<R: Abort>(rt: &R, found: i64, expected: i64, key: &str) {
-    assert_eq!(rt; found, expected, "of {key}");
 }
 
 /// Keys with their Murmur2, as a signed number, and their partition among four.
-const KEYS: [(&str, i32, u8); 6] = [
-    ("21", -973_932_308i32, 0u8),
+const KEYS: &[(&str, i32, u8)] = &[
+    ("21", -973_932_308, 0),
     ("foobar", -790_332_482, 2),
     ("abc", 479_470_107, 3),
     ("a-little-bit-long-string", -985_981_536, 0),
@@ -78,22 +80,19 @@ const KEYS: [(&str, i32, u8); 6] = [
     ),
 ];
 
+fn expect_key<R: Abort>(rt: &R, key: &[u8], signed: i32, partition: u8) {
+    expect_number(
+        rt,
+        u128::from(murmur2(key)),
+        u128::from(signed.cast_unsigned()),
+    );
+    expect_number(rt, u128::from(partition_of(key, 4)), u128::from(partition));
+    expect_number(rt, u128::from(partition_of(key, 1)), 0);
+}
+
 #[test]
 fn known_keys(rt: HostRuntime) {
     for (key, signed, partition) in KEYS {
-        let bytes = key.as_bytes();
-        expect_key(
-            &rt,
-            i64::from(murmur2(bytes).cast_signed()),
-            i64::from(signed),
-            key,
-        );
-        expect_key(
-            &rt,
-            i64::from(partition_of(bytes, 4)),
-            i64::from(partition),
-            key,
-        );
-        expect_key(&rt, i64::from(partition_of(bytes, 1)), 0, key);
+        expect_key(&rt, key.as_bytes(), *signed, *partition);
     }
 }

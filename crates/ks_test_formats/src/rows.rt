@@ -3,7 +3,6 @@ use ks_record::{Name, Text};
 use ks_row::{Field, Row, decode, encode, reread};
 use std::alloc::{AllocError, Global};
 use std::process::Abort;
-use std::test::Fail;
 
 #[derive(Clone, Copy)]
 enum Value<'a> {
@@ -11,27 +10,33 @@ enum Value<'a> {
     Words(&'a str),
 }
 
-fn member(alloc: Global, name: &str, value: Value) -> Result<Option<(Name, Field)>, AllocError> {
-    let Some(name) = Name::of_text(alloc, name)? else {
-        return Ok(None);
-    };
+fn field<R: Abort>(rt: &R, alloc: Global, value: Value) -> Field {
     match value {
-        Value::Number(number) => Ok(Some((name, Field::Int(number)))),
-        Value::Words(words) => match Text::of_text(alloc, words)? {
-            Some(text) => Ok(Some((name, Field::Text(text)))),
-            None => Ok(None),
+        Value::Number(number) => Field::Int(number),
+        Value::Words(words) => match Text::of_text(alloc, words) {
+            Ok(Some(text)) => Field::Text(text),
+            _ => rt.abort(),
         },
     }
 }
 
+fn member<R: Abort>(rt: &R, alloc: Global, name: &str, value: Value) -> (Name, Field) {
+    match Name::of_text(alloc, name) {
+        Ok(Some(name)) => (name, field(rt, alloc, value)),
+        _ => rt.abort(),
+    }
+}
+
 // The row of these members; none where they are none.
-fn row_of(alloc: Global, members: &[(&str, Value)]) -> Result<Option<Row>, AllocError> {
+fn row_of<R: Abort>(
+    rt: &R,
+    alloc: Global,
+    members: &[(&str, Value)],
+) -> Result<Option<Row>, AllocError> {
     let mut fields = Vec::new(alloc);
     for (name, value) in members {
-        match member(alloc, name, *value)? {
-            Some(field) => fields.push(field)?,
-            None => return Ok(None),
-        }
+        let field = member(rt, alloc, name, *value);
+        fields.push(field).expect(rt, "memory");
     }
     Row::of(alloc, fields)
 }
@@ -52,15 +57,8 @@ fn push_row(alloc: Global, row: &Row, text: &mut Vec<u8>) -> Result<(), AllocErr
     text.extend_from_slice(encode(alloc, row)?.as_slice())
 }
 
-// The bytes of a row, once it was read from its own bytes; no byte where there is no row.
-fn push_known(alloc: Global, row: Option<&Row>, text: &mut Vec<u8>) -> Result<(), AllocError> {
-    match row {
-        Some(row) => push_reread(alloc, row, text),
-        None => Ok(()),
-    }
-}
-
-fn expect_text<R: Abort>(rt: &R, found: &[u8], expected: &[u8]) {
+/// Both texts are the same.
+pub fn expect_text<R: Abort>(rt: &R, found: &[u8], expected: &[u8]) {
     assert_eq!(rt; found, expected);
 }
 
@@ -68,15 +66,17 @@ fn expect_text<R: Abort>(rt: &R, found: &[u8], expected: &[u8]) {
 fn expect_bytes<R: Abort>(
     rt: &R,
     alloc: Global,
-    row: Option<Row>,
+    row: Result<Option<Row>, AllocError>,
     bytes: &[u8],
-) -> Result<(), Fail> {
+) {
     let mut text = Vec::new(alloc);
-    let pushed = push_known(alloc, row.as_ref(), &mut text);
+    match &row {
+        Ok(Some(row)) => push_reread(alloc, row, &mut text).expect(rt, "memory"),
+        Ok(None) => {}
+        Err(_) => rt.abort(),
+    }
     drop(row);
-    pushed?;
     expect_text(rt, text.as_slice(), bytes);
-    Ok(())
 }
 
 /// Members in any order, and the bytes of their row; no byte where they are no row.
@@ -123,14 +123,13 @@ const NO_ROWS: &[&[u8]] = &[
 ];
 
 #[test]
-fn rows_and_their_bytes(rt: HostRuntime) -> Result<(), Fail> {
+fn rows_and_their_bytes(rt: HostRuntime) {
     let alloc = rt.alloc();
     for (members, bytes) in ROWS {
-        expect_bytes(&rt, alloc, row_of(alloc, members)?, bytes)?;
-        expect_bytes(&rt, alloc, decode(alloc, bytes)?, bytes)?;
+        expect_bytes(&rt, alloc, row_of(&rt, alloc, members), bytes);
+        expect_bytes(&rt, alloc, decode(alloc, bytes), bytes);
     }
     for bytes in NO_ROWS {
-        assert!(rt; decode(alloc, bytes)?.is_none());
+        expect_bytes(&rt, alloc, decode(alloc, bytes), b"");
     }
-    Ok(())
 }

@@ -1,72 +1,81 @@
 //! Topologies from their lines, with their layout: subtopologies, internal topics, drain order, tasks. (No run prints it.)
-use ks_job::{JobItem, JobReader};
+use crate::rows::expect_text;
+use ks_job::{JobFault, JobItem, JobReader};
 use ks_topo::{Draft, Topology};
 use std::alloc::{AllocError, Global};
 use std::process::Abort;
-use std::test::Fail;
 
-/// Each is `SUBTOPOLOGIES OF THE NODES | TOPICS | DRAIN ORDER | INPUTS BY SUBTOPOLOGY | CHANGELOGS BY SUBTOPOLOGY | TASKS => LINE`.
-const LAYOUTS: &str = r#"
-0 1 2 3 | t/2 app-a-repartition/2 app-b-repartition/2 app-c-repartition/2 app-s-changelog/2 app-a-changelog/2 app-b-changelog/2 app-c-changelog/2 | 0 1 2 3 | 0;1;2;3 | 4;5;6;7 | 0_0 0_1 1_0 1_1 2_0 2_1 3_0 3_1 => {"app":"app","topics":{"t":2},"nodes":[{"name":"s","op":"table","topic":"t"},{"name":"a","op":"count","from":"s","by":"g"},{"name":"b","op":"sum","from":"a","by":"h","field":"f"},{"name":"c","op":"count","from":"b","by":"k"}],"print":[]}
-0 0 | t/3 app-j-subscription-registration-topic/3 app-j-subscription-response-topic/3 app-x-changelog/3 app-j-changelog/3 app-j-subscription-store-changelog/3 | 0 1 2 | 0,1,2 | 3,4,5 | 0_0 0_1 0_2 => {"app":"app","topics":{"t":3},"nodes":[{"name":"x","op":"table","topic":"t"},{"name":"j","op":"fk_join","left":"x","right":"x","fk":"f","kind":"left","set":{"a":{"left":"a"}}}],"print":[]}
-0 0 0 | t/2 app-g-repartition/2 app-x-changelog/2 app-g-changelog/2 app-j-changelog/2 | 0 1 | 0,1 | 2,3,4 | 0_0 0_1 => {"app":"app","topics":{"t":2},"nodes":[{"name":"x","op":"table","topic":"t"},{"name":"g","op":"count","from":"x","by":"r"},{"name":"j","op":"join","left":"x","right":"g","kind":"outer","set":{"a":{"left":"a"}}}],"print":[]}
-0 0 0 0 0 | a/1 b/1 c/1 d/1 app-x-changelog/1 app-y-changelog/1 app-z-changelog/1 app-j-changelog/1 app-k-changelog/1 | 0 1 2 | 0,1,2 | 4,5,6,7,8 | 0_0 => {"app":"app","topics":{"d":1,"c":1,"b":1,"a":1},"nodes":[{"name":"x","op":"table","topic":"c"},{"name":"y","op":"table","topic":"a"},{"name":"z","op":"table","topic":"b"},{"name":"j","op":"join","left":"y","right":"z","kind":"inner","set":{"a":{"left":"a"}}},{"name":"k","op":"join","left":"j","right":"x","kind":"left","set":{"a":{"left":"a"}}}],"print":[]}
-0 1 2 | t/1 app-z-repartition/1 app-b-repartition/1 app-s-changelog/1 app-z-changelog/1 app-b-changelog/1 | 0 1 2 | 0;1;2 | 3;4;5 | 0_0 1_0 2_0 => {"app":"app","topics":{"t":1},"nodes":[{"name":"s","op":"table","topic":"t"},{"name":"z","op":"count","from":"s","by":"g"},{"name":"b","op":"count","from":"s","by":"g"}],"print":[]}
-0 1 0 0 | a/2 b/3 c/2 app-x-changelog/2 app-y-changelog/3 app-z-changelog/2 app-j-changelog/2 | 0 1 2 | 0,2;1 | 3,5,6;4 | 0_0 0_1 1_0 1_1 1_2 => {"app":"app","topics":{"a":2,"b":3,"c":2},"nodes":[{"name":"x","op":"table","topic":"a"},{"name":"y","op":"table","topic":"b"},{"name":"z","op":"table","topic":"c"},{"name":"j","op":"join","left":"x","right":"z","kind":"inner","set":{"a":{"left":"a"}}}],"print":[]}
-0 0 1 0 | t/2 app-n-repartition/2 app-n-changelog/2 app-w-changelog/2 | 0 1 | 0;1 | 3;2 | 0_0 0_1 1_0 1_1 => {"app":"app","topics":{"t":2},"nodes":[{"name":"s","op":"stream","topic":"t"},{"name":"k","op":"select_key","from":"s","key":"k"},{"name":"n","op":"count","from":"k"},{"name":"w","op":"windowed_count","from":"s","size":5}],"print":[]}
-0 1 0 2 3 | customers/4 orders/8 load-e-subscription-registration-topic/4 load-e-subscription-response-topic/8 load-totals-repartition/8 load-orders_per_region-repartition/8 load-o-changelog/8 load-c-changelog/4 load-e-changelog/8 load-e-subscription-store-changelog/4 load-totals-changelog/8 load-orders_per_region-changelog/8 | 0 1 2 3 4 5 | 1,3;0,2;4;5 | 6,8;7,9;10;11 | 0_0 0_1 0_2 0_3 0_4 0_5 0_6 0_7 1_0 1_1 1_2 1_3 2_0 2_1 2_2 2_3 2_4 2_5 2_6 2_7 3_0 3_1 3_2 3_3 3_4 3_5 3_6 3_7 => {"app":"load","topics":{"customers":4,"orders":8},"nodes":[{"name":"o","op":"table","topic":"orders"},{"name":"c","op":"table","topic":"customers"},{"name":"e","op":"fk_join","left":"o","right":"c","fk":"cust","kind":"inner","set":{"amt":{"left":"amt"},"region":{"right":"region"}}},{"name":"totals","op":"sum","from":"e","by":"region","field":"amt"},{"name":"orders_per_region","op":"count","from":"e","by":"region"}],"print":["totals","orders_per_region"]}
- |  |  |  |  |  => {"app":"a","topics":{},"nodes":[],"print":[]}
-"#;
+/// Each is `SUBTOPOLOGIES OF THE NODES | TOPICS | DRAIN ORDER | INPUTS BY SUBTOPOLOGY | CHANGELOGS BY SUBTOPOLOGY | TASKS`, and the line.
+const LAYOUTS: &[(&str, &str)] = &[
+    (
+        "0 1 2 3 | t/2 app-a-repartition/2 app-b-repartition/2 app-c-repartition/2 app-s-changelog/2 app-a-changelog/2 app-b-changelog/2 app-c-changelog/2 | 0 1 2 3 | 0;1;2;3 | 4;5;6;7 | 0_0 0_1 1_0 1_1 2_0 2_1 3_0 3_1",
+        r#"{"app":"app","topics":{"t":2},"nodes":[{"name":"s","op":"table","topic":"t"},{"name":"a","op":"count","from":"s","by":"g"},{"name":"b","op":"sum","from":"a","by":"h","field":"f"},{"name":"c","op":"count","from":"b","by":"k"}],"print":[]}"#,
+    ),
+    (
+        "0 0 | t/3 app-j-subscription-registration-topic/3 app-j-subscription-response-topic/3 app-x-changelog/3 app-j-changelog/3 app-j-subscription-store-changelog/3 | 0 1 2 | 0,1,2 | 3,4,5 | 0_0 0_1 0_2",
+        r#"{"app":"app","topics":{"t":3},"nodes":[{"name":"x","op":"table","topic":"t"},{"name":"j","op":"fk_join","left":"x","right":"x","fk":"f","kind":"left","set":{"a":{"left":"a"}}}],"print":[]}"#,
+    ),
+    (
+        "0 0 0 | t/2 app-g-repartition/2 app-x-changelog/2 app-g-changelog/2 app-j-changelog/2 | 0 1 | 0,1 | 2,3,4 | 0_0 0_1",
+        r#"{"app":"app","topics":{"t":2},"nodes":[{"name":"x","op":"table","topic":"t"},{"name":"g","op":"count","from":"x","by":"r"},{"name":"j","op":"join","left":"x","right":"g","kind":"outer","set":{"a":{"left":"a"}}}],"print":[]}"#,
+    ),
+    (
+        "0 0 0 0 0 | a/1 b/1 c/1 d/1 app-x-changelog/1 app-y-changelog/1 app-z-changelog/1 app-j-changelog/1 app-k-changelog/1 | 0 1 2 | 0,1,2 | 4,5,6,7,8 | 0_0",
+        r#"{"app":"app","topics":{"d":1,"c":1,"b":1,"a":1},"nodes":[{"name":"x","op":"table","topic":"c"},{"name":"y","op":"table","topic":"a"},{"name":"z","op":"table","topic":"b"},{"name":"j","op":"join","left":"y","right":"z","kind":"inner","set":{"a":{"left":"a"}}},{"name":"k","op":"join","left":"j","right":"x","kind":"left","set":{"a":{"left":"a"}}}],"print":[]}"#,
+    ),
+    (
+        "0 1 2 | t/1 app-z-repartition/1 app-b-repartition/1 app-s-changelog/1 app-z-changelog/1 app-b-changelog/1 | 0 1 2 | 0;1;2 | 3;4;5 | 0_0 1_0 2_0",
+        r#"{"app":"app","topics":{"t":1},"nodes":[{"name":"s","op":"table","topic":"t"},{"name":"z","op":"count","from":"s","by":"g"},{"name":"b","op":"count","from":"s","by":"g"}],"print":[]}"#,
+    ),
+    (
+        "0 1 0 0 | a/2 b/3 c/2 app-x-changelog/2 app-y-changelog/3 app-z-changelog/2 app-j-changelog/2 | 0 1 2 | 0,2;1 | 3,5,6;4 | 0_0 0_1 1_0 1_1 1_2",
+        r#"{"app":"app","topics":{"a":2,"b":3,"c":2},"nodes":[{"name":"x","op":"table","topic":"a"},{"name":"y","op":"table","topic":"b"},{"name":"z","op":"table","topic":"c"},{"name":"j","op":"join","left":"x","right":"z","kind":"inner","set":{"a":{"left":"a"}}}],"print":[]}"#,
+    ),
+    (
+        "0 0 1 0 | t/2 app-n-repartition/2 app-n-changelog/2 app-w-changelog/2 | 0 1 | 0;1 | 3;2 | 0_0 0_1 1_0 1_1",
+        r#"{"app":"app","topics":{"t":2},"nodes":[{"name":"s","op":"stream","topic":"t"},{"name":"k","op":"select_key","from":"s","key":"k"},{"name":"n","op":"count","from":"k"},{"name":"w","op":"windowed_count","from":"s","size":5}],"print":[]}"#,
+    ),
+    (
+        "0 1 0 2 3 | customers/4 orders/8 load-e-subscription-registration-topic/4 load-e-subscription-response-topic/8 load-totals-repartition/8 load-orders_per_region-repartition/8 load-o-changelog/8 load-c-changelog/4 load-e-changelog/8 load-e-subscription-store-changelog/4 load-totals-changelog/8 load-orders_per_region-changelog/8 | 0 1 2 3 4 5 | 1,3;0,2;4;5 | 6,8;7,9;10;11 | 0_0 0_1 0_2 0_3 0_4 0_5 0_6 0_7 1_0 1_1 1_2 1_3 2_0 2_1 2_2 2_3 2_4 2_5 2_6 2_7 3_0 3_1 3_2 3_3 3_4 3_5 3_6 3_7",
+        r#"{"app":"load","topics":{"customers":4,"orders":8},"nodes":[{"name":"o","op":"table","topic":"orders"},{"name":"c","op":"table","topic":"customers"},{"name":"e","op":"fk_join","left":"o","right":"c","fk":"cust","kind":"inner","set":{"amt":{"left":"amt"},"region":{"right":"region"}}},{"name":"totals","op":"sum","from":"e","by":"region","field":"amt"},{"name":"orders_per_region","op":"count","from":"e","by":"region"}],"print":["totals","orders_per_region"]}"#,
+    ),
+    (
+        " |  |  |  |  | ",
+        r#"{"app":"a","topics":{},"nodes":[],"print":[]}"#,
+    ),
+];
 
-// Feeds a line to a reader; false where it is faulty.
-fn feed_line(
-    reader: &mut JobReader,
-    line: &str,
-    items: &mut Vec<JobItem>,
-) -> Result<bool, AllocError> {
-    Ok(reader.feed(line.as_bytes(), items)?.is_ok())
+// A reader found no fault.
+fn expect_read<R: Abort>(rt: &R, read: Result<Result<(), JobFault>, AllocError>) {
+    let has_read = matches!(&read, Ok(Ok(())));
+    drop(read);
+    assert!(rt; has_read);
 }
 
-// Reads a line; false where it is faulty.
-fn read_line(alloc: Global, line: &str, items: &mut Vec<JobItem>) -> Result<bool, AllocError> {
-    let mut reader = JobReader::new(alloc);
-    match feed_line(&mut reader, line, items) {
-        Ok(true) => Ok(reader.finish(items)?.is_ok()),
-        other => {
-            drop(reader);
-            other
-        }
-    }
-}
-
-// The topology among what was read last.
-fn last_draft(items: &mut Vec<JobItem>) -> Option<Draft> {
-    match items.pop() {
-        Some(JobItem::Topology { draft, .. }) => Some(draft),
-        other => {
-            drop(other);
-            None
-        }
-    }
-}
-
-// The topology of a line, by this list of items; none where there is none.
-fn draft_by(
-    alloc: Global,
-    line: &str,
-    items: &mut Vec<JobItem>,
-) -> Result<Option<Draft>, AllocError> {
-    if read_line(alloc, line, items)? {
-        return Ok(last_draft(items));
-    }
-    Ok(None)
-}
-
-fn draft_of(alloc: Global, line: &str) -> Result<Option<Draft>, AllocError> {
+// What a line has; the test ends where it is faulty.
+fn items_of<R: Abort>(rt: &R, alloc: Global, line: &str) -> Vec<JobItem> {
     let mut items = Vec::new(alloc);
-    let draft = draft_by(alloc, line, &mut items);
-    drop(items);
-    draft
+    let mut reader = JobReader::new(alloc);
+    expect_read(rt, reader.feed(line.as_bytes(), &mut items));
+    expect_read(rt, reader.finish(&mut items));
+    items
+}
+
+// The topology of a line, which may have a fault.
+fn draft_of<R: Abort>(rt: &R, alloc: Global, line: &str) -> Draft {
+    let mut items = items_of(rt, alloc, line);
+    match items.pop() {
+        Some(JobItem::Topology { draft, .. }) => draft,
+        _ => rt.abort(),
+    }
+}
+
+// The topology of a line; the test ends where it has a fault.
+fn topology_of<R: Abort>(rt: &R, alloc: Global, line: &str) -> Topology {
+    match Topology::build(alloc, draft_of(rt, alloc, line)) {
+        Ok(Ok(topology)) => topology,
+        _ => rt.abort(),
+    }
 }
 
 fn push_number(text: &mut Vec<u8>, alloc: Global, number: u64) -> Result<(), AllocError> {
@@ -169,62 +178,18 @@ fn push_layout(text: &mut Vec<u8>, alloc: Global, topology: &Topology) -> Result
     push_tasks(text, alloc, topology)
 }
 
-// The topology has this layout.
-fn expect_layout<R: Abort>(
-    rt: &R,
-    alloc: Global,
-    topology: &Topology,
-    expected: &str,
-    line: &str,
-) -> Result<(), Fail> {
+// The topology of a line has this layout.
+fn expect_layout<R: Abort>(rt: &R, alloc: Global, expected: &str, line: &str) {
+    let topology = topology_of(rt, alloc, line);
     let mut text = Vec::new(alloc);
-    push_layout(&mut text, alloc, topology)?;
-    assert_eq!(rt; text.as_slice(), expected.as_bytes(), "{line}");
-    Ok(())
-}
-
-// The topology of a draft, where it has no fault.
-fn built(alloc: Global, draft: Draft) -> Result<Option<Topology>, AllocError> {
-    match Topology::build(alloc, draft)? {
-        Ok(topology) => Ok(Some(topology)),
-        Err(fault) => {
-            drop(fault);
-            Ok(None)
-        }
-    }
-}
-
-// The topology of a line, where it has no fault.
-fn topology_of(alloc: Global, line: &str) -> Result<Option<Topology>, AllocError> {
-    match draft_of(alloc, line)? {
-        Some(draft) => built(alloc, draft),
-        None => Ok(None),
-    }
-}
-
-// The topology of a line has this layout; whether there is one.
-fn expect_case<R: Abort>(rt: &R, alloc: Global, expected: &str, line: &str) -> Result<bool, Fail> {
-    match topology_of(alloc, line)? {
-        Some(topology) => {
-            let told = expect_layout(rt, alloc, &topology, expected, line);
-            drop(topology);
-            told?;
-            Ok(true)
-        }
-        None => Ok(false),
-    }
+    push_layout(&mut text, alloc, &topology).expect(rt, "memory");
+    drop(topology);
+    expect_text(rt, text.as_slice(), expected.as_bytes());
 }
 
 #[test]
-fn layouts(rt: HostRuntime) -> Result<(), Fail> {
-    let mut count = 0u64;
-    for case in LAYOUTS.lines() {
-        let Some((expected, line)) = case.split_once(" => ") else {
-            continue;
-        };
-        let is_built = expect_case(&rt, rt.alloc(), expected, line)?;
-        count = count.wrapping_add(is_built as u64);
+fn layouts(rt: HostRuntime) {
+    for (expected, line) in LAYOUTS {
+        expect_layout(&rt, rt.alloc(), expected, line);
     }
-    assert_eq!(rt; count, 9);
-    Ok(())
 }

@@ -1,4 +1,5 @@
 //! What tasks say to one another and keep, as bytes.
+use crate::rows::expect_text;
 use ks_record::Blob;
 use ks_wire::{
     read_agg, read_delta, read_response, read_subscriber, read_subscription, read_subscription_key,
@@ -7,7 +8,6 @@ use ks_wire::{
 };
 use std::alloc::{AllocError, Global};
 use std::process::Abort;
-use std::test::Fail;
 
 /// What bytes are read as.
 #[derive(Clone, Copy)]
@@ -108,13 +108,13 @@ fn again(alloc: Global, kind: Kind, bytes: &[u8]) -> Result<Option<Blob>, AllocE
     }
 }
 
-// The bytes are read, and written again as they were.
-fn expect_again<R: Abort>(rt: &R, alloc: Global, kind: Kind, bytes: &[u8]) -> Result<(), Fail> {
-    match &again(alloc, kind, bytes)? {
-        Some(found) => assert_eq!(rt; found.as_slice(), bytes),
-        None => panic!(rt),
+// The bytes that were read and written again; `none` where they were no such thing.
+fn expect_again<R: Abort>(rt: &R, again: Result<Option<Blob>, AllocError>, expected: &[u8]) {
+    match &again {
+        Ok(Some(found)) => expect_text(rt, found.as_slice(), expected),
+        Ok(None) => expect_text(rt, b"none", expected),
+        Err(_) => rt.abort(),
     }
-    Ok(())
 }
 
 /// Bytes that are of their kind.
@@ -224,13 +224,12 @@ const NO_VALUES: &[(Kind, &[u8])] = &[
 ];
 
 #[test]
-fn bytes_and_values(rt: HostRuntime) -> Result<(), Fail> {
+fn bytes_and_values(rt: HostRuntime) {
     let alloc = rt.alloc();
     for (kind, bytes) in VALUES {
-        expect_again(&rt, alloc, *kind, bytes)?;
+        expect_again(&rt, again(alloc, *kind, bytes), bytes);
     }
     for (kind, bytes) in NO_VALUES {
-        assert!(rt; again(alloc, *kind, bytes)?.is_none());
+        expect_again(&rt, again(alloc, *kind, bytes), b"none");
     }
-    Ok(())
 }
