@@ -1,9 +1,9 @@
 //! Worked rows: which assignments are good. Tasks are those of subtopology 0, named by their partition.
+use crate::replies::expect_number;
 use ks_assign::{Client, Held, Wants, are_clients, are_tasks_apart, assign, check};
 use ks_record::{Assignment, Seq, TaskId};
-use std::alloc::{AllocError, Global};
+use std::alloc::Global;
 use std::process::Abort;
-use std::test::Fail;
 
 const ZERO: TaskId = TaskId { sub: 0, part: 0 };
 
@@ -88,37 +88,39 @@ const TWO_WARMUPS: Wants = Wants {
     warmups: 2,
 };
 
-fn add_client(
-    alloc: Global,
-    clients: &mut Vec<Client>,
-    instance: u8,
-    workers: &[u8],
-) -> Result<(), AllocError> {
-    let workers = Vec::from_slice(alloc, workers)?;
-    clients.push(Client {
+fn client<R: Abort>(rt: &R, alloc: Global, instance: u8, workers: &[u8]) -> Client {
+    let workers = Vec::from_slice(alloc, workers).expect(rt, "memory");
+    Client {
         instance,
         workers: Seq::of(workers),
-    })?;
-    Ok(())
+    }
 }
 
-fn clients_of(alloc: Global, row: &Row) -> Result<Vec<Client>, AllocError> {
+fn clients_of<R: Abort>(rt: &R, alloc: Global, row: &Row) -> Vec<Client> {
     let mut clients = Vec::new(alloc);
     for (instance, workers) in row.clients {
-        add_client(alloc, &mut clients, *instance, workers)?;
+        let client = client(rt, alloc, *instance, workers);
+        clients.push(client).expect(rt, "memory");
     }
-    Ok(clients)
+    clients
 }
 
-// The places of a mask: bit 2 * t + w says that task t stands at worker w.
-fn places(alloc: Global, mask: u32) -> Result<Vec<(TaskId, u8)>, AllocError> {
+/// Bit 2 * t + w says that task t stands at worker w: each bit, and its task and worker.
+const PLACES: &[(u32, u8, u8)] = &[(1, 0, 0), (2, 0, 1), (4, 1, 0), (8, 1, 1)];
+
+// The places of a mask.
+fn places<R: Abort>(rt: &R, alloc: Global, mask: u32) -> Seq<(TaskId, u8)> {
     let mut made = Vec::new(alloc);
-    for (bit, task, worker) in [(1, 0, 0), (2, 0, 1), (4, 1, 0), (8, 1, 1)] {
-        if mask & bit != 0 {
-            made.push((TaskId { sub: 0, part: task }, worker))?;
+    for (bit, part, worker) in PLACES {
+        if mask & *bit != 0 {
+            let task = TaskId {
+                sub: 0,
+                part: *part,
+            };
+            made.push((task, *worker)).expect(rt, "memory");
         }
     }
-    Ok(made)
+    Seq::of(made)
 }
 
 // Whether an assignment that goes then is good.
@@ -129,41 +131,42 @@ fn is_checked(clients: &[Client], row: &Row, a: Assignment) -> bool {
 }
 
 // Whether active tasks and warmups by two masks are good.
-fn is_good(
+fn is_good<R: Abort>(
+    rt: &R,
     alloc: Global,
     clients: &[Client],
     row: &Row,
     active: u32,
     warmup: u32,
-) -> Result<bool, AllocError> {
-    let active = places(alloc, active)?;
-    let warmup = places(alloc, warmup)?;
+) -> bool {
     let a = Assignment {
-        active: Seq::of(active),
+        active: places(rt, alloc, active),
         standby: Seq::new(alloc),
-        warmup: Seq::of(warmup),
+        warmup: places(rt, alloc, warmup),
     };
-    Ok(is_checked(clients, row, a))
+    is_checked(clients, row, a)
 }
 
 // How many assignments by masks are good.
-fn count_good(alloc: Global, clients: &[Client], row: &Row) -> Result<u32, AllocError> {
+fn count_good<R: Abort>(rt: &R, alloc: Global, clients: &[Client], row: &Row) -> u32 {
     let mut count: u32 = 0;
     for both in 0..256_u32 {
-        if is_good(alloc, clients, row, both % 16, both / 16)? {
+        if is_good(rt, alloc, clients, row, both % 16, both / 16) {
             count = count.wrapping_add(1);
         }
     }
-    Ok(count)
+    count
 }
 
 // Whether `assign` gives a good assignment.
-fn is_assigned(alloc: Global, clients: &[Client], row: &Row) -> Result<bool, AllocError> {
+fn is_assigned<R: Abort>(rt: &R, alloc: Global, clients: &[Client], row: &Row) -> bool {
     if !(are_clients(clients) && are_tasks_apart(&TASKS)) {
-        return Ok(false);
+        return false;
     }
-    let a = assign(alloc, &TASKS, clients, row.held, &row.wants)?;
-    Ok(is_checked(clients, row, a))
+    match assign(alloc, &TASKS, clients, row.held, &row.wants) {
+        Ok(a) => is_checked(clients, row, a),
+        Err(_) => rt.abort(),
+    }
 }
 
 /// A row, active tasks and warmups, and whether these are good. 1: task 0 at worker 0; 2: at worker 1; 4: task 1 at worker 0; 8: at worker 1.
@@ -181,45 +184,27 @@ const ROWS: &[(Row, u32, u32, bool)] = &[
     (FEW, 5, 0, false),
 ];
 
-fn expect_good<R: Abort>(rt: &R, good: bool, want: bool, active: u32, warmup: u32) {
-    assert_eq!(rt; good, want, "{active} {warmup}");
-}
-
-fn expect_row<R: Abort>(
-    rt: &R,
-    alloc: Global,
-    row: &Row,
-    active: u32,
-    warmup: u32,
-    want: bool,
-) -> Result<(), Fail> {
-    let clients = clients_of(alloc, row)?;
-    let good = is_good(alloc, &clients, row, active, warmup)?;
-    expect_good(rt, good, want, active, warmup);
-    let is_assigned = is_assigned(alloc, &clients, row)?;
-    drop(clients);
-    assert!(rt; is_assigned);
-    Ok(())
+fn expect_row<R: Abort>(rt: &R, alloc: Global, row: &Row, active: u32, warmup: u32, want: bool) {
+    let clients = clients_of(rt, alloc, row);
+    let is_good = is_good(rt, alloc, &clients, row, active, warmup);
+    expect_number(rt, u32::from(is_good), u32::from(want));
+    expect_number(rt, u32::from(is_assigned(rt, alloc, &clients, row)), 1);
 }
 
 #[test]
-fn worked_rows(rt: HostRuntime) -> Result<(), Fail> {
+fn worked_rows(rt: HostRuntime) {
     for (row, active, warmup, want) in ROWS {
-        expect_row(&rt, rt.alloc(), row, *active, *warmup, *want)?;
+        expect_row(&rt, rt.alloc(), row, *active, *warmup, *want);
     }
-    Ok(())
 }
 
-fn expect_count<R: Abort>(rt: &R, alloc: Global, row: &Row, want: u32) -> Result<(), Fail> {
-    let clients = clients_of(alloc, row)?;
-    let count = count_good(alloc, &clients, row)?;
-    drop(clients);
-    assert_eq!(rt; count, want);
-    Ok(())
+fn expect_count<R: Abort>(rt: &R, alloc: Global, row: &Row, want: u32) {
+    let clients = clients_of(rt, alloc, row);
+    expect_number(rt, count_good(rt, alloc, &clients, row), want);
 }
 
 #[test]
-fn nothing_else_is_good(rt: HostRuntime) -> Result<(), Fail> {
-    expect_count(&rt, rt.alloc(), &TWO, 1)?;
-    expect_count(&rt, rt.alloc(), &FEW, 2)
+fn nothing_else_is_good(rt: HostRuntime) {
+    expect_count(&rt, rt.alloc(), &TWO, 1);
+    expect_count(&rt, rt.alloc(), &FEW, 2);
 }

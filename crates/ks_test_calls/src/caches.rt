@@ -1,14 +1,13 @@
 //! A store with a cache, call by call.
 ghost use Rattle.std.specs.Prelude.{◌≤◌};
 
-use crate::replies::{expect_text, push_replies};
-use crate::stores::push_pairs;
+use crate::given::blob;
+use crate::replies::{expect_text, push_number, push_replies};
+use crate::stores::{push_pairs, put};
 use ks_cache::{CachedStore, run_cached};
-use ks_record::Blob;
 use ks_store::{KvStore, OrderedStore, StoreCall};
 use std::alloc::{AllocError, Global};
 use std::process::Abort;
-use std::test::Fail;
 
 /// A call of a store with a cache.
 #[derive(Clone, Copy)]
@@ -32,52 +31,42 @@ const STEPS: &[(Step, &str)] = &[
 ];
 
 /// An empty store that holds back so many pairs.
-pub fn new_cached(alloc: Global, capacity: u32) -> Result<CachedStore<OrderedStore>, AllocError>
+pub fn new_cached<R: Abort>(rt: &R, alloc: Global, capacity: u32) -> CachedStore<OrderedStore>
     requires { 1 ≤ capacity }
 {
     match CachedStore::new(alloc, OrderedStore::new(alloc, 1), capacity) {
-        Ok(store) => Ok(store),
-        Err(_) => Err(AllocError),
-    }
-}
-
-fn put(alloc: Global, key: &[u8], value: &[u8]) -> Result<StoreCall, AllocError> {
-    let key = Blob::from_slice(alloc, key)?;
-    Ok(StoreCall::Put(key, Blob::from_slice(alloc, value)?))
-}
-
-// The call of a step; a flush is none.
-fn call_of(alloc: Global, step: &Step) -> Result<Option<StoreCall>, AllocError> {
-    match *step {
-        Step::Put(key, value) => Ok(Some(put(alloc, key, value)?)),
-        Step::Delete(key) => Ok(Some(StoreCall::Delete(Blob::from_slice(alloc, key)?))),
-        Step::Get(key) => Ok(Some(StoreCall::Get(Blob::from_slice(alloc, key)?))),
-        Step::Flush => Ok(None),
+        Ok(store) => store,
+        Err(_) => rt.abort(),
     }
 }
 
 // Makes a call, and tells the reply.
-fn make_call(
+fn make_call<R: Abort>(
+    rt: &R,
     alloc: Global,
     store: &mut CachedStore<OrderedStore>,
     call: StoreCall,
     text: &mut Vec<u8>,
 ) -> Result<(), AllocError> {
-    let replies = run_cached(alloc, store, &[call])?;
-    push_replies(alloc, replies.as_slice(), text)
+    let replies = run_cached(alloc, store, &[call]).expect(rt, "memory");
+    push_replies(alloc, &replies, text)
 }
 
 // Takes a step, and tells the reply.
-fn take_step(
+fn take_step<R: Abort>(
+    rt: &R,
     alloc: Global,
     store: &mut CachedStore<OrderedStore>,
     step: &Step,
     text: &mut Vec<u8>,
 ) -> Result<(), AllocError> {
-    match call_of(alloc, step)? {
-        Some(call) => make_call(alloc, store, call, text),
-        None => store.flush(),
-    }
+    let call = match *step {
+        Step::Put(key, value) => put(rt, alloc, key, value),
+        Step::Delete(key) => StoreCall::Delete(blob(rt, alloc, key)),
+        Step::Get(key) => StoreCall::Get(blob(rt, alloc, key)),
+        Step::Flush => return store.flush(),
+    };
+    make_call(rt, alloc, store, call, text)
 }
 
 // What is held back of what there is, and what stands below.
@@ -86,31 +75,25 @@ fn push_held(
     text: &mut Vec<u8>,
     store: &CachedStore<OrderedStore>,
 ) -> Result<(), AllocError> {
-    text.extend_from_slice(store.cached().to_string(alloc)?.as_bytes())?;
-    text.extend_from_slice(b" of ")?;
-    text.extend_from_slice(store.len().to_string(alloc)?.as_bytes())?;
-    text.extend_from_slice(b", below ")?;
+    push_number(alloc, store.cached() as u64, b" of ", text)?;
+    push_number(alloc, store.len() as u64, b", below ", text)?;
     push_pairs(store.inner(), b"", text)
 }
 
 // Takes the steps of the table, one after another.
-fn take_steps<R: Abort>(
-    rt: &R,
-    alloc: Global,
-    store: &mut CachedStore<OrderedStore>,
-) -> Result<(), Fail> {
+fn take_steps<R: Abort>(rt: &R, alloc: Global, store: &mut CachedStore<OrderedStore>) {
     let mut text = Vec::new(alloc);
     for (step, expected) in STEPS {
         text.clear();
-        take_step(alloc, store, step, &mut text)?;
-        push_held(alloc, &mut text, store)?;
-        expect_text(rt, text.as_slice(), expected.as_bytes());
+        take_step(rt, alloc, store, step, &mut text).expect(rt, "memory");
+        push_held(alloc, &mut text, store).expect(rt, "memory");
+        expect_text(rt, &text, expected.as_bytes());
     }
-    Ok(())
 }
 
 #[test]
-fn the_oldest_write_goes_through(rt: HostRuntime) -> Result<(), Fail> {
-    let mut store = new_cached(rt.alloc(), 2)?;
-    take_steps(&rt, rt.alloc(), &mut store)
+fn the_oldest_write_goes_through(rt: HostRuntime) {
+    let mut store = new_cached(&rt, rt.alloc(), 2);
+    take_steps(&rt, rt.alloc(), &mut store);
+    drop(store);
 }

@@ -3,7 +3,7 @@
 use crate::caches::new_cached;
 use crate::given::{Given, new_given};
 use crate::joins::{join_after, respond_to, subscribe};
-use crate::replies::expect_text;
+use crate::replies::{expect_text, push_number};
 use crate::stores::{change_right, count, get, list, push_pairs, restore_one, take_subscription};
 use crate::tables::{COUNTED, FORMS, LEFT, NAMED, RIGHT, STORED};
 use ks_expr::JoinKind;
@@ -11,7 +11,6 @@ use ks_hash::Murmur3;
 use ks_store::{KvStore, OrderedStore, PlainStore};
 use std::alloc::{AllocError, Global};
 use std::process::Abort;
-use std::test::Fail;
 
 /// Where the foreign key of a left row comes from.
 #[derive(Clone, Copy)]
@@ -93,8 +92,11 @@ pub enum Call {
     },
 }
 
+const ALL: &[&[(Call, &[u8])]] = &[LEFT, FORMS, RIGHT, NAMED, COUNTED, STORED];
+
 // The answer of a store, behind the text.
-fn push_stored<S: KvStore>(
+fn push_stored<R: Abort, S: KvStore>(
+    rt: &R,
     alloc: Global,
     given: &Given,
     store: &mut S,
@@ -106,8 +108,8 @@ fn push_stored<S: KvStore>(
         Call::Restore { key, value } => restore_one(alloc, store, key, value),
         Call::Get { key } => get(store, key, text),
         Call::Prefix { front } => push_pairs(store, front, text),
-        Call::Length => text.extend_from_slice(store.len().to_string(alloc)?.as_bytes()),
-        Call::List { key, value, front } => list(alloc, store, key, value, front, text),
+        Call::Length => push_number(alloc, store.len() as u64, b"", text),
+        Call::List { key, value, front } => list(rt, alloc, store, key, value, front, text),
         _ => Ok(()),
     }
 }
@@ -131,50 +133,43 @@ fn push_answer<R: Abort, S: KvStore>(
             left,
             hash,
             right,
-        } => respond_to::<Murmur3>(alloc, given, kind, left, (hash, right), text),
+        } => respond_to::<Murmur3, R>(rt, alloc, given, kind, left, (hash, right), text),
         Call::OnSubscription { asked, right } => {
             take_subscription(rt, alloc, given, store, asked, right, text)
         }
         Call::OnRight { right } => change_right(rt, alloc, store, right, text),
-        _ => push_stored(alloc, given, store, call, text),
+        _ => push_stored(rt, alloc, given, store, call, text),
     }
 }
 
 // Makes the calls on a store of their own.
-fn run_all<R: Abort, S: KvStore>(
+fn run_all<R: Abort, S: KvStore + Drop>(
     rt: &R,
     alloc: Global,
     given: &Given,
-    store: &mut S,
+    mut store: S,
     calls: &[(Call, &[u8])],
-) -> Result<(), Fail> {
+) {
     let mut text = Vec::new(alloc);
     for (call, expected) in calls {
         text.clear();
-        push_answer(rt, alloc, given, store, call, &mut text)?;
-        expect_text(rt, text.as_slice(), expected);
+        push_answer(rt, alloc, given, &mut store, call, &mut text).expect(rt, "memory");
+        expect_text(rt, &text, expected);
     }
-    Ok(())
 }
 
 // Each store answers the same.
-fn run_on_each<R: Abort>(
-    rt: &R,
-    alloc: Global,
-    given: &Given,
-    calls: &[(Call, &[u8])],
-) -> Result<(), Fail> {
-    run_all(rt, alloc, given, &mut PlainStore::new(alloc), calls)?;
-    run_all(rt, alloc, given, &mut OrderedStore::new(alloc, 1), calls)?;
-    run_all(rt, alloc, given, &mut new_cached(alloc, 1)?, calls)
+fn run_on_each<R: Abort>(rt: &R, alloc: Global, given: &Given, calls: &[(Call, &[u8])]) {
+    run_all(rt, alloc, given, PlainStore::new(alloc), calls);
+    run_all(rt, alloc, given, OrderedStore::new(alloc, 1), calls);
+    run_all(rt, alloc, given, new_cached(rt, alloc, 1), calls);
 }
 
 #[test]
-fn calls_and_answers(rt: HostRuntime) -> Result<(), Fail> {
-    let alloc = rt.alloc();
-    let given = new_given(&rt, alloc)?;
-    for calls in [LEFT, FORMS, RIGHT, NAMED, COUNTED, STORED] {
-        run_on_each(&rt, alloc, &given, calls)?;
+fn calls_and_answers(rt: HostRuntime) {
+    let given = new_given(&rt, rt.alloc());
+    for calls in ALL {
+        run_on_each(&rt, rt.alloc(), &given, calls);
     }
-    Ok(())
+    drop(given);
 }

@@ -2,12 +2,12 @@
 ghost use Rattle.std.specs.Prelude.{◌≡◌, ◌≤◌, false, IfSome};
 
 use crate::calls::{Changed, Form};
-use crate::given::{Given, change, foreign_key};
+use crate::given::{Given, change, foreign_key, row};
 use ks_expr::{Fk, JoinKind};
 use ks_fk_left::{Answer, respond, subscriptions};
 use ks_hash::Hash128;
 use ks_record::Key;
-use ks_row::{Change, Row, decode, encode};
+use ks_row::{Change, Row, encode};
 use ks_table_ops::joined_after;
 use ks_wire::{Response, Subscription, write_subscription};
 use std::alloc::{AllocError, Global};
@@ -23,8 +23,8 @@ pub fn is_above(part: Option<u8>, most: u8) -> bool
     }
 }
 
-fn push_row(alloc: Global, row: Option<Row>, text: &mut Vec<u8>) -> Result<(), AllocError> {
-    match &row {
+fn push_row(alloc: Global, row: Option<&Row>, text: &mut Vec<u8>) -> Result<(), AllocError> {
+    match row {
         Some(row) => text.extend_from_slice(encode(alloc, row)?.as_slice()),
         None => Ok(()),
     }
@@ -38,7 +38,9 @@ fn push_joined(
     text: &mut Vec<u8>,
 ) -> Result<(), AllocError> {
     let row = joined_after(alloc, JoinKind::Inner, &given.set, left, right)?;
-    push_row(alloc, row, text)
+    let pushed = push_row(alloc, row.as_ref(), text);
+    drop(row);
+    pushed
 }
 
 /// The row of an inner join of these changes.
@@ -50,9 +52,12 @@ pub fn join_after<R: Abort>(
     right: Changed,
     text: &mut Vec<u8>,
 ) -> Result<(), AllocError> {
-    let left = change(rt, alloc, left)?;
-    let right = change(rt, alloc, right)?;
-    push_joined(alloc, given, &left, &right, text)
+    let left = change(rt, alloc, left);
+    let right = change(rt, alloc, right);
+    let pushed = push_joined(alloc, given, &left, &right, text);
+    drop(left);
+    drop(right);
+    pushed
 }
 
 fn push_asked(
@@ -71,10 +76,14 @@ fn push_asked(
 fn push_all_asked(
     alloc: Global,
     sent: &[(Key, Subscription)],
+    is_direct: bool,
     text: &mut Vec<u8>,
 ) -> Result<(), AllocError> {
     for (foreign, subscription) in sent {
         push_asked(alloc, foreign, subscription, text)?;
+    }
+    if is_direct {
+        return text.extend_from_slice(b"direct");
     }
     Ok(())
 }
@@ -90,11 +99,7 @@ fn push_subscriptions<H: Hash128>(
         return text.extend_from_slice(b"nothing");
     }
     let (sent, is_direct) = subscriptions::<H>(alloc, fk, part, change)?;
-    push_all_asked(alloc, sent.as_slice(), text)?;
-    if is_direct {
-        text.extend_from_slice(b"direct")?;
-    }
-    Ok(())
+    push_all_asked(alloc, sent.as_slice(), is_direct, text)
 }
 
 /// What a changed left row asks, each as the foreign key and the subscription.
@@ -106,9 +111,12 @@ pub fn subscribe<H: Hash128, R: Abort>(
     left: Changed,
     text: &mut Vec<u8>,
 ) -> Result<(), AllocError> {
-    let fk = foreign_key(rt, alloc, fk)?;
-    let change = change(rt, alloc, left)?;
-    push_subscriptions::<H>(alloc, &fk, part, &change, text)
+    let fk = foreign_key(rt, alloc, fk);
+    let change = change(rt, alloc, left);
+    let pushed = push_subscriptions::<H>(alloc, &fk, part, &change, text);
+    drop(change);
+    drop(fk);
+    pushed
 }
 
 fn push_response<H: Hash128>(
@@ -120,13 +128,14 @@ fn push_response<H: Hash128>(
     text: &mut Vec<u8>,
 ) -> Result<(), AllocError> {
     match respond::<H>(alloc, kind, &given.set, left, response)? {
-        Answer::Set(row) => push_row(alloc, row, text),
+        Answer::Set(row) => push_row(alloc, row.as_ref(), text),
         Answer::Stale => text.extend_from_slice(b"stale"),
     }
 }
 
 /// What an answer does to the result of a join.
-pub fn respond_to<H: Hash128>(
+pub fn respond_to<H: Hash128, R: Abort>(
+    rt: &R,
     alloc: Global,
     given: &Given,
     kind: JoinKind,
@@ -134,9 +143,13 @@ pub fn respond_to<H: Hash128>(
     answer: (Option<u128>, &[u8]),
     text: &mut Vec<u8>,
 ) -> Result<(), AllocError> {
-    let left = decode(alloc, left)?;
-    let (hash, right) = answer;
-    let right = decode(alloc, right)?;
-    let response = Response { hash, right };
-    push_response::<H>(alloc, given, kind, left.as_ref(), &response, text)
+    let left = row(rt, alloc, left);
+    let response = Response {
+        hash: answer.0,
+        right: row(rt, alloc, answer.1),
+    };
+    let pushed = push_response::<H>(alloc, given, kind, left.as_ref(), &response, text);
+    drop(response);
+    drop(left);
+    pushed
 }

@@ -1,11 +1,11 @@
 //! What stands on a store: the right side of foreign-key joins, windows, the store's own calls.
 use crate::calls::{Asked, Changed};
-use crate::given::{Given, change, key};
+use crate::given::{Given, blob, change, key, row};
 use crate::joins::is_above;
-use crate::replies::push_replies;
+use crate::replies::{push_number, push_replies};
 use ks_fk_right::{on_right, on_subscription};
 use ks_record::{Blob, Key, Rec, RecordRef};
-use ks_row::{Row, decode};
+use ks_row::Row;
 use ks_store::{KvStore, StoreCall, restore, run_calls};
 use ks_window::{Window, apply};
 use ks_wire::{Response, Subscription, write_response};
@@ -24,7 +24,7 @@ fn push_response(
         return Ok(());
     };
     text.extend_from_slice(b"to ")?;
-    text.extend_from_slice(part.to_string(alloc)?.as_bytes())
+    push_number(alloc, u64::from(part), b"", text)
 }
 
 fn push_answer<S: KvStore>(
@@ -58,10 +58,13 @@ pub fn take_subscription<R: Abort, S: KvStore>(
     if asked.instruction > 3 || is_above(asked.part, 63) {
         return text.extend_from_slice(b"nothing");
     }
-    let left = key(rt, alloc, asked.left)?;
+    let left = key(rt, alloc, asked.left);
     let subscription = Subscription::new(asked.hash, asked.instruction, left, asked.part);
-    let right = decode(alloc, right)?;
-    push_answer(alloc, given, store, &subscription, right.as_ref(), text)
+    let right = row(rt, alloc, right);
+    let pushed = push_answer(alloc, given, store, &subscription, right.as_ref(), text);
+    drop(subscription);
+    drop(right);
+    pushed
 }
 
 fn push_told(
@@ -97,9 +100,20 @@ pub fn change_right<R: Abort, S: KvStore>(
     right: Changed,
     text: &mut Vec<u8>,
 ) -> Result<(), AllocError> {
-    let change = change(rt, alloc, right)?;
-    let answers = on_right(alloc, store, &change)?;
+    let change = change(rt, alloc, right);
+    let answers = on_right(alloc, store, &change).expect(rt, "memory");
+    drop(change);
     push_all_told(alloc, answers.as_slice(), text)
+}
+
+fn push_counted(
+    alloc: Global,
+    late: u64,
+    recs: usize,
+    text: &mut Vec<u8>,
+) -> Result<(), AllocError> {
+    push_number(alloc, late, b" late, records ", text)?;
+    push_number(alloc, recs as u64, b"", text)
 }
 
 /// Counts a record of this time: how many windows were late, and how many records it made.
@@ -116,9 +130,7 @@ pub fn count<S: KvStore>(
         grace: 5,
     };
     let (late, recs) = apply(alloc, store, &given.counted, t, &window)?;
-    text.extend_from_slice(late.to_string(alloc)?.as_bytes())?;
-    text.extend_from_slice(b" late, records ")?;
-    text.extend_from_slice(recs.len().to_string(alloc)?.as_bytes())
+    push_counted(alloc, late, recs.len(), text)
 }
 
 /// Restores a record into a store.
@@ -145,40 +157,47 @@ fn push_pair(key: &Blob, value: &Blob, text: &mut Vec<u8>) -> Result<(), AllocEr
     Ok(())
 }
 
+fn push_all_pairs(pairs: &[(Blob, Blob)], text: &mut Vec<u8>) -> Result<(), AllocError> {
+    for (key, value) in pairs {
+        push_pair(key, value, text)?;
+    }
+    Ok(())
+}
+
 /// The pairs of a store whose key begins so, each as `KEY=VALUE` with a blank behind it.
 pub fn push_pairs<S: KvStore>(
     store: &S,
     front: &[u8],
     text: &mut Vec<u8>,
 ) -> Result<(), AllocError> {
-    for (key, value) in &store.prefix(front)? {
-        push_pair(key, value, text)?;
-    }
-    Ok(())
+    let pairs = store.prefix(front)?;
+    push_all_pairs(&pairs, text)
 }
 
-fn put(alloc: Global, key: &[u8], value: &[u8]) -> Result<StoreCall, AllocError> {
-    let key = Blob::from_slice(alloc, key)?;
-    Ok(StoreCall::Put(key, Blob::from_slice(alloc, value)?))
+/// The call that puts a pair.
+pub fn put<R: Abort>(rt: &R, alloc: Global, key: &[u8], value: &[u8]) -> StoreCall {
+    StoreCall::Put(blob(rt, alloc, key), blob(rt, alloc, value))
 }
 
-fn calls_of(
+fn calls_of<R: Abort>(
+    rt: &R,
     alloc: Global,
     key: &[u8],
     value: &[u8],
     front: &[u8],
-) -> Result<Vec<StoreCall>, AllocError> {
-    let mut calls = Vec::new(alloc);
-    calls.push(put(alloc, key, value)?)?;
-    calls.push(StoreCall::Get(Blob::from_slice(alloc, key)?))?;
-    calls.push(StoreCall::Prefix(Blob::from_slice(alloc, front)?))?;
-    calls.push(StoreCall::Delete(Blob::from_slice(alloc, key)?))?;
-    calls.push(StoreCall::Get(Blob::from_slice(alloc, key)?))?;
-    Ok(calls)
+) -> [StoreCall; 5] {
+    [
+        put(rt, alloc, key, value),
+        StoreCall::Get(blob(rt, alloc, key)),
+        StoreCall::Prefix(blob(rt, alloc, front)),
+        StoreCall::Delete(blob(rt, alloc, key)),
+        StoreCall::Get(blob(rt, alloc, key)),
+    ]
 }
 
 /// The replies to a list of calls.
-pub fn list<S: KvStore>(
+pub fn list<R: Abort, S: KvStore>(
+    rt: &R,
     alloc: Global,
     store: &mut S,
     key: &[u8],
@@ -186,7 +205,8 @@ pub fn list<S: KvStore>(
     front: &[u8],
     text: &mut Vec<u8>,
 ) -> Result<(), AllocError> {
-    let calls = calls_of(alloc, key, value, front)?;
-    let replies = run_calls(alloc, store, calls.as_slice())?;
-    push_replies(alloc, replies.as_slice(), text)
+    let calls = calls_of(rt, alloc, key, value, front);
+    let replies = run_calls(alloc, store, &calls).expect(rt, "memory");
+    drop(calls);
+    push_replies(alloc, &replies, text)
 }
