@@ -1,9 +1,10 @@
-//! Runs in which a worker is cut off at each of its steps.
-ghost use Rattle.std.specs.Prelude.{◌≡◌, ◌≤◌, ◌+◌, ℕ, IfOk, length, Some};
+//! Runs in which a worker is cut off at each of its steps. Want of memory ends the test.
+ghost use Rattle.std.specs.Prelude.{◌≡◌, ◌≤◌, ◌+◌, ℕ, length, Some};
 ghost use Rattle.ks_edge.specs.Counts.{stops_of, calls_of, one_if, HasRoom};
 ghost use Rattle.ks_words.specs.Ranges.{HasRanges};
 
 use crate::rows::{TOTALS, TOTALS_SHOWN};
+use crate::runs::{boxed, expect_number, idle_gates, owned, put_first};
 use crate::workers::{ORDER, SHOWN, limited, run_with, two_threads, with_cache};
 use ks_edge::{Act, Gate, ScriptGate, SteadyGate, TurnView};
 use ks_hash::Murmur3;
@@ -14,7 +15,6 @@ use std::process::Abort;
 use std::random::RandomSource;
 use std::sync::atomic::{AtomicU64, Ordering};
 use std::sync::{Arc, Wait};
-use std::test::Fail;
 use std::thread::Threads;
 
 /// The most turns that are kept.
@@ -93,20 +93,17 @@ fn no_turns(alloc: Global) -> Result<Kept, AllocError> {
 }
 
 // A gate that keeps what it does, and fifteen that nobody asks.
-fn keeping_gates(alloc: Global, kept: &Kept) -> Result<Vec<Box<dyn Gate + Send>>, AllocError>
-    ensures { IfOk result (λ gates. length gates.items ≡ 16) }
+fn keeping_gates<R: Abort>(rt: &R, alloc: Global, kept: &Kept) -> Vec<Box<dyn Gate + Send>>
+    ensures { length result.items ≡ 16 }
 {
-    let mut gates: Vec<Box<dyn Gate + Send>> = Vec::new(alloc);
-    for _ in 0..15usize {
-        gates.push(Box::new(alloc, SteadyGate::new())?)?;
-    }
     let gate = KeepingGate {
         inner: SteadyGate::new(),
         turn: 0,
-        kept: Arc::try_clone(kept)?,
+        kept: Arc::try_clone(kept).expect(rt, "a counter"),
     };
-    gates.insert(0, Box::new(alloc, gate)?)?;
-    Ok(gates)
+    let mut gates = idle_gates(rt, alloc, 15);
+    put_first(rt, &mut gates, boxed(rt, alloc, gate));
+    gates
 }
 
 // The act of this number, in this turn; none where there was none.
@@ -120,66 +117,66 @@ fn act_of(turn: usize, number: u64) -> Option<Act> {
     }
 }
 
+// The act and the steps of a turn; none where there was none.
+fn turn_of(kept: &[AtomicU64], turn: usize) -> Option<(Act, u32)> {
+    let number = kept.get(turn)?.load(Ordering::SeqCst);
+    let act = act_of(turn, number)?;
+    Some((act, (number % ACT) as u32))
+}
+
 // The acts and the steps of each turn.
-fn turns_of(alloc: Global, kept: &Kept) -> Result<Vec<(Act, u32)>, AllocError> {
+fn turns_of<R: Abort>(rt: &R, alloc: Global, kept: &[AtomicU64]) -> Vec<(Act, u32)> {
     let mut turns = Vec::new(alloc);
     for turn in 1..TURNS {
-        let Some(number) = kept.get(turn) else {
-            return Ok(turns);
-        };
-        let number = number.load(Ordering::SeqCst);
-        let Some(act) = act_of(turn, number) else {
-            return Ok(turns);
-        };
-        turns.push((act, (number % ACT) as u32))?;
+        match turn_of(kept, turn) {
+            Some(found) => turns.push(found).expect(rt, "memory"),
+            None => return turns,
+        }
     }
-    Ok(turns)
+    turns
 }
 
-fn acts_of(alloc: Global, turns: &[(Act, u32)]) -> Result<Vec<Act>, AllocError> {
+fn acts_of<R: Abort>(rt: &R, alloc: Global, turns: &[(Act, u32)]) -> Vec<Act> {
     let mut acts = Vec::new(alloc);
-    for turn in turns {
-        acts.push(turn.0)?;
+    for (act, _) in turns {
+        acts.push(*act).expect(rt, "memory");
     }
-    Ok(acts)
+    acts
 }
 
-// Two gates with these acts, the first of which is cut off at this turn and step, and fourteen without acts.
-fn cut_gates(
+// A gate with these acts, so many times, that is cut off where this says.
+fn script<R: Abort>(
+    rt: &R,
     alloc: Global,
-    acts: Vec<Act>,
-    others: Vec<Act>,
-    turn: u64,
-    step: u32,
-) -> Result<Vec<Box<dyn Gate + Send>>, AllocError>
-    ensures { IfOk result (λ gates. length gates.items ≡ 16) }
-{
-    let mut gates: Vec<Box<dyn Gate + Send>> = Vec::new(alloc);
-    for _ in 0..14usize {
-        gates.push(Box::new(alloc, ScriptGate::new(Vec::new(alloc), Vec::new(alloc)))?)?;
-    }
-    let mut cuts = Vec::new(alloc);
-    cuts.push((turn, step))?;
-    gates.insert(
-        0,
-        Box::new(alloc, ScriptGate::new(others, Vec::new(alloc)))?,
-    )?;
-    gates.insert(0, Box::new(alloc, ScriptGate::new(acts, cuts))?)?;
-    Ok(gates)
-}
-
-// These acts, so many times.
-fn repeated(alloc: Global, acts: &[Act], times: u32) -> Result<Vec<Act>, AllocError> {
+    acts: &[Act],
+    times: u32,
+    cuts: &[(u64, u32)],
+) -> Box<ScriptGate> {
     let mut all = Vec::new(alloc);
     for _ in 0..times {
-        all.extend_from_slice(acts)?;
+        all.extend_from_slice(acts).expect(rt, "memory");
     }
-    Ok(all)
+    boxed(rt, alloc, ScriptGate::new(all, owned(rt, alloc, cuts)))
+}
+
+// Two gates, and fourteen without acts.
+fn two_gates<R: Abort>(
+    rt: &R,
+    alloc: Global,
+    first: Box<ScriptGate>,
+    second: Box<ScriptGate>,
+) -> Vec<Box<dyn Gate + Send>>
+    ensures { length result.items ≡ 16 }
+{
+    let mut gates = idle_gates(rt, alloc, 14);
+    put_first(rt, &mut gates, second);
+    put_first(rt, &mut gates, first);
+    gates
 }
 
 // How many epochs worker 0 began.
-fn count_epochs(entries: &[Entry]) -> usize {
-    let mut epochs: usize = 0;
+fn count_epochs(entries: &[Entry]) -> u64 {
+    let mut epochs: u64 = 0;
     for entry in entries {
         if let Request::Init { w: 0 } = &entry.request {
             epochs = epochs.saturating_add(1);
@@ -188,62 +185,92 @@ fn count_epochs(entries: &[Entry]) -> usize {
     epochs
 }
 
-// Runs the job by these settings once for each step of these turns, at which its worker is cut off. It begins anew each time: in a second
-// epoch, but where it was cut off before it began its first.
+// Runs the job by these settings; its worker is cut off at this turn, from 0, and step. It begins anew: in a second epoch, but where it was
+// cut off before it began its first.
+fn expect_cut<R: Threads + Wait + Sync + RandomSource + Abort>(
+    rt: &R,
+    alloc: Global,
+    acts: &[Act],
+    settings: &Settings,
+    turn: usize,
+    step: u32,
+)
+    requires settings { HasRanges settings.now }
+{
+    let first = script(
+        rt,
+        alloc,
+        acts,
+        1,
+        &[((turn as u64).saturating_add(1), step)],
+    );
+    let gates = two_gates(rt, alloc, first, script(rt, alloc, &[], 1, &[]));
+    let journal = run_with::<Murmur3, R>(rt, alloc, settings, ORDER, gates, (0, SHOWN));
+    let begun = count_epochs(journal.as_slice());
+    drop(journal);
+    expect_number(rt, begun, if turn == 0 && step == 0 { 1 } else { 2 });
+}
+
+// The same once for each step of these turns.
 fn expect_cut_off<R: Threads + Wait + Sync + RandomSource + Abort>(
     rt: &R,
     alloc: Global,
     turns: &[(Act, u32)],
     settings: &Settings,
-) -> Result<(), Fail>
+)
     requires settings { HasRanges settings.now }
 {
+    let acts = acts_of(rt, alloc, turns);
     for turn in 0..turns.len() {
         for step in 0..turns[turn].1 {
-            let acts = acts_of(alloc, turns)?;
-            let gates = cut_gates(alloc, acts, Vec::new(alloc), turn as u64 + 1, step)?;
-            let ended = run_with::<Murmur3, R>(rt, alloc, settings, ORDER, gates, SHOWN)?;
-            assert_eq!(rt; ended.status, 0);
-            let begun = if turn == 0 && step == 0 { 1 } else { 2 };
-            assert_eq!(rt; count_epochs(ended.journal.as_slice()), begun);
+            expect_cut(rt, alloc, &acts, settings, turn, step);
         }
     }
-    Ok(())
+}
+
+// The acts and the steps of each turn of a worker that works by the rule.
+fn turns_by_rule<R: Threads + Wait + Sync + RandomSource + Abort>(
+    rt: &R,
+    alloc: Global,
+) -> Vec<(Act, u32)> {
+    let kept = no_turns(alloc).expect(rt, "memory");
+    let gates = keeping_gates(rt, alloc, &kept);
+    drop(run_with::<Murmur3, R>(rt, alloc, &limited(), ORDER, gates, (0, SHOWN)));
+    turns_of(rt, alloc, &kept)
 }
 
 /// Wherever a worker that works by the rule is cut off, the tables are the same, also where each store holds two writes back.
 #[test]
-fn a_worker_is_cut_off_at_each_step(rt: HostRuntime) -> Result<(), Fail> {
-    let alloc = rt.alloc();
-    let kept = no_turns(alloc)?;
-    let gates = keeping_gates(alloc, &kept)?;
-    let ended = run_with::<Murmur3, HostRuntime>(&rt, alloc, &limited(), ORDER, gates, SHOWN)?;
-    assert_eq!(rt; ended.status, 0);
-    let turns = turns_of(alloc, &kept)?;
-    assert!(rt; turns.len() > 16 && turns.len() < 99);
-    expect_cut_off(&rt, alloc, turns.as_slice(), &Settings::usual())?;
-    expect_cut_off(&rt, alloc, turns.as_slice(), &with_cache())
+fn a_worker_is_cut_off_at_each_step(rt: HostRuntime) {
+    let turns = turns_by_rule(&rt, rt.alloc());
+    expect_number(&rt, u64::from(turns.len() > 16 && turns.len() < 99), 1);
+    expect_cut_off(&rt, rt.alloc(), &turns, &Settings::usual());
+    expect_cut_off(&rt, rt.alloc(), &turns, &with_cache());
 }
 
-/// A worker that is removed again and again by another one is cut off as well.
+// A worker that is removed again and again by another one is cut off at this turn and step.
+fn expect_removed<R: Threads + Wait + Sync + RandomSource + Abort>(
+    rt: &R,
+    alloc: Global,
+    turn: u64,
+    step: u32,
+) {
+    let first = script(rt, alloc, &[Act::Work(0), Act::Commit], 10, &[(turn, step)]);
+    let second = script(
+        rt,
+        alloc,
+        &[Act::Work(0), Act::Commit, Act::Evict(0)],
+        20,
+        &[],
+    );
+    let (gates, ends) = (two_gates(rt, alloc, first, second), (0, TOTALS_SHOWN));
+    drop(run_with::<Murmur3, R>(rt, alloc, &two_threads(), TOTALS, gates, ends));
+}
+
+/// A worker that is removed again and again by another one is cut off as well: at each of eight steps of twenty turns.
 #[test]
-fn a_removed_worker_is_cut_off(rt: HostRuntime) -> Result<(), Fail> {
-    let alloc = rt.alloc();
-    for turn in 1..21u64 {
-        for step in 0..8u32 {
-            let acts = repeated(alloc, &[Act::Work(0), Act::Commit], 10)?;
-            let others = repeated(alloc, &[Act::Work(0), Act::Commit, Act::Evict(0)], 20)?;
-            let gates = cut_gates(alloc, acts, others, turn, step)?;
-            let ended = run_with::<Murmur3, HostRuntime>(
-                &rt,
-                alloc,
-                &two_threads(),
-                TOTALS,
-                gates,
-                TOTALS_SHOWN,
-            )?;
-            assert_eq!(rt; ended.status, 0);
-        }
+fn a_removed_worker_is_cut_off(rt: HostRuntime) {
+    for cut in 0..160u32 {
+        expect_removed(&rt, rt.alloc(), u64::from(1 + cut / 8), cut % 8);
     }
-    Ok(())
 }

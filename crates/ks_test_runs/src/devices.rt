@@ -1,8 +1,10 @@
 //! Inputs that end early and sources that fail, wherever that is.
 use crate::rows::TABLE_JOB;
-use crate::runs::{Piece, expect_piece};
+use crate::runs::{expect_from, owned, source};
 use crate::workers::{ORDER, SHOWN};
-use std::test::Fail;
+use ks_edge::MemSource;
+use std::alloc::Global;
+use std::process::Abort;
 
 /// What the front of the job is answered, and its status: a line that is cut off is no JSON, and what ends with a line is a job.
 fn answer_to(front: &[u8], job: &[u8]) -> (u8, &'static str) {
@@ -26,34 +28,26 @@ fn answer_to(front: &[u8], job: &[u8]) -> (u8, &'static str) {
 }
 
 #[test]
-fn a_job_ends_anywhere(rt: HostRuntime) -> Result<(), Fail> {
+fn a_job_ends_anywhere(rt: HostRuntime) {
     let job = ORDER.as_bytes();
     for length in 0..job.len() {
-        let (status, output) = answer_to(&job[..length], job);
-        let piece = Piece {
-            input: &job[..length],
-            size: 0,
-            failing: None,
-            status,
-            output,
-        };
-        expect_piece(&rt, rt.alloc(), &piece)?;
+        let front = &job[..length];
+        let input = source(&rt, rt.alloc(), front);
+        expect_from(&rt, rt.alloc(), input, answer_to(front, job));
     }
-    Ok(())
+}
+
+// A source that gives single bytes and fails at this call.
+fn failing_source<R: Abort>(rt: &R, alloc: Global, bytes: &[u8], call: u64) -> MemSource {
+    let sizes = vec![in alloc; 1usize; bytes.len()].expect(rt, "memory");
+    MemSource::new(owned(rt, alloc, bytes), sizes, owned(rt, alloc, &[call]))
 }
 
 #[test]
-fn a_source_fails_anywhere(rt: HostRuntime) -> Result<(), Fail> {
+fn a_source_fails_anywhere(rt: HostRuntime) {
     let job = TABLE_JOB.as_bytes();
     for call in 0..job.len() as u64 {
-        let piece = Piece {
-            input: job,
-            size: 1,
-            failing: Some(call),
-            status: 6,
-            output: "read fault\n",
-        };
-        expect_piece(&rt, rt.alloc(), &piece)?;
+        let input = failing_source(&rt, rt.alloc(), job, call);
+        expect_from(&rt, rt.alloc(), input, (6, "read fault\n"));
     }
-    Ok(())
 }

@@ -1,15 +1,16 @@
-//! Runs whose gates never stop their worker.
-ghost use Rattle.std.specs.Prelude.{◌≡◌, ◌+◌, ℕ, IfOk, length};
+//! Runs whose gates never stop their worker. Want of memory ends the test.
+ghost use Rattle.std.specs.Prelude.{◌≡◌, ◌+◌, ℕ, length};
 ghost use Rattle.ks_edge.specs.Counts.{stops_of, calls_of, one_if, HasRoom};
 
+use crate::runs::{boxed, expect_number, put_first};
 use crate::workers::{ORDER, SHOWN, run_with};
 use ks_edge::{Act, Gate, TurnView};
 use ks_hash::Murmur3;
 use ks_words::Settings;
-use std::alloc::{AllocError, Global};
+use std::alloc::Global;
+use std::process::Abort;
 use std::sync::Arc;
 use std::sync::atomic::{AtomicU64, Ordering};
-use std::test::Fail;
 
 /// Lets its worker read now and then, and drop what it read; it never lets it commit, and never stops it.
 #[derive(Drop)]
@@ -47,32 +48,31 @@ impl Gate for EndlessGate {
 }
 
 // Sixteen such gates.
-fn endless_gates(
+fn endless_gates<R: Abort>(
+    rt: &R,
     alloc: Global,
     told: &Arc<AtomicU64, Global>,
-) -> Result<Vec<Box<dyn Gate + Send>>, AllocError>
-    ensures { IfOk result (λ gates. length gates.items ≡ 16) }
+) -> Vec<Box<dyn Gate + Send>>
+    ensures { length result.items ≡ 16 }
 {
     let mut gates: Vec<Box<dyn Gate + Send>> = Vec::new(alloc);
     for _ in 0..16usize {
         let gate = EndlessGate {
             asked: 0,
-            told: Arc::try_clone(told)?,
+            told: Arc::try_clone(told).expect(rt, "a counter"),
         };
-        gates.push(Box::new(alloc, gate)?)?;
+        put_first(rt, &mut gates, boxed(rt, alloc, gate));
     }
-    Ok(gates)
+    gates
 }
 
 /// A worker that is never stopped and commits nothing takes a million turns, and the run ends.
 #[test]
-fn a_run_without_a_stop_ends(rt: HostRuntime) -> Result<(), Fail> {
+fn a_run_without_a_stop_ends(rt: HostRuntime) {
     let alloc = rt.alloc();
-    let told = Arc::new(alloc, AtomicU64::new(0))?;
-    let gates = endless_gates(alloc, &told)?;
-    let settings = Settings::usual();
-    let ended = run_with::<Murmur3, HostRuntime>(&rt, alloc, &settings, ORDER, gates, SHOWN)?;
-    assert_eq!(rt; ended.status, 0);
-    assert_eq!(rt; told.load(Ordering::SeqCst), 1_000_000);
-    Ok(())
+    let told = Arc::new(alloc, AtomicU64::new(0)).expect(&rt, "memory");
+    let gates = endless_gates(&rt, alloc, &told);
+    let (settings, ends) = (Settings::usual(), (0, SHOWN));
+    drop(run_with::<Murmur3, HostRuntime>(&rt, alloc, &settings, ORDER, gates, ends));
+    expect_number(&rt, told.load(Ordering::SeqCst), 1_000_000);
 }

@@ -1,16 +1,18 @@
-//! Records that are fed while the workers run.
-ghost use Rattle.std.specs.Prelude.{◌≡◌, IfOk, Some, length};
+//! Records that are fed while the workers run. Want of memory ends the test.
+ghost use Rattle.std.specs.Prelude.{◌≡◌, Some, length};
 
-use crate::workers::{ORDER, SHOWN};
-use ks_edge::{Act, Failed, Gate, MemSink, MemSource, ScriptGate, Source, TurnView};
+use crate::runs::{boxed, expect_number, idle_gates, owned, put_first};
+use crate::workers::{ORDER, SHOWN, run_from};
+use ks_edge::{Act, Failed, Gate, MemSource, Source, TurnView};
 use ks_hash::Murmur3;
-use ks_history::{Entry, Request};
-use ks_run::run_job;
+use ks_history::{Entry, Journal, Request};
 use ks_words::Settings;
 use std::alloc::{AllocError, Global};
-use std::sync::Arc;
+use std::process::Abort;
+use std::random::RandomSource;
 use std::sync::atomic::{AtomicU64, Ordering};
-use std::test::Fail;
+use std::sync::{Arc, Wait};
+use std::thread::Threads;
 
 const TOPOLOGY: &[u8] =
     b"{\"app\":\"a\",\"topics\":{\"t\":1},\"nodes\":[{\"name\":\"x\",\"op\":\"table\",\"topic\":\"t\"}],\"print\":[\"x\"]}\n";
@@ -89,23 +91,33 @@ fn comes_to_be_told(told: &AtomicU64) -> bool {
 }
 
 // One gate that tells that it was asked, and fifteen that nobody asks.
-fn waiting_gates(
+fn waiting_gates<R: Abort>(
+    rt: &R,
     alloc: Global,
     told: &Arc<AtomicU64, Global>,
-) -> Result<Vec<Box<dyn Gate + Send>>, AllocError>
-    ensures { IfOk result (λ gates. length gates.items ≡ 16) }
+) -> Vec<Box<dyn Gate + Send>>
+    ensures { length result.items ≡ 16 }
 {
-    let mut gates: Vec<Box<dyn Gate + Send>> = Vec::new(alloc);
-    for _ in 0..15usize {
-        gates.push(Box::new(alloc, ScriptGate::new(Vec::new(alloc), Vec::new(alloc)))?)?;
-    }
     let gate = WaitingGate {
-        told: Arc::try_clone(told)?,
+        told: Arc::try_clone(told).expect(rt, "a counter"),
         asked: 0,
         stops: 0,
     };
-    gates.insert(0, Box::new(alloc, gate)?)?;
-    Ok(gates)
+    let mut gates = idle_gates(rt, alloc, 15);
+    put_first(rt, &mut gates, boxed(rt, alloc, gate));
+    gates
+}
+
+// The run of a job that a source gives, whose gate tells that it was asked, ends with this status and output; its journal.
+fn run_told<S: Source + Send, R: Threads + Wait + Sync + RandomSource + Abort>(
+    rt: &R,
+    alloc: Global,
+    told: &Arc<AtomicU64, Global>,
+    input: &mut S,
+    ends: (u8, &str),
+) -> Journal {
+    let gates = waiting_gates(rt, alloc, told);
+    run_from::<Murmur3, R, S>(rt, alloc, &Settings::usual(), input, gates, ends)
 }
 
 // The length of the first line, with its line feed.
@@ -118,30 +130,30 @@ fn first_line(job: &[u8]) -> usize {
     job.len()
 }
 
-/// The source gives the records only once the worker's gate was asked: a run that reads all before its workers begin would never get them.
-#[test]
-fn the_rest_comes_once_a_gate_was_asked(rt: HostRuntime) -> Result<(), Fail> {
-    let alloc = rt.alloc();
-    let told = Arc::new(alloc, AtomicU64::new(0))?;
-    let bytes = Vec::from_slice(alloc, ORDER.as_bytes())?;
-    let mut sizes = Vec::new(alloc);
-    sizes.push(first_line(ORDER.as_bytes()))?;
-    let mut input = HeldSource {
-        bytes: MemSource::new(bytes, sizes, Vec::new(alloc)),
-        told: Arc::try_clone(&told)?,
+// A source that holds back what follows the first line of a job.
+fn held_source<R: Abort>(
+    rt: &R,
+    alloc: Global,
+    told: &Arc<AtomicU64, Global>,
+    job: &[u8],
+) -> HeldSource {
+    let sizes = owned(rt, alloc, &[first_line(job)]);
+    HeldSource {
+        bytes: MemSource::new(owned(rt, alloc, job), sizes, Vec::new(alloc)),
+        told: Arc::try_clone(told).expect(rt, "a counter"),
         has_begun: false,
         has_met: false,
-    };
-    let mut out = MemSink::new(alloc, Vec::new(alloc));
-    let gates = waiting_gates(alloc, &told)?;
-    let settings = Settings::usual();
-    let ended = run_job::<Murmur3, HostRuntime, HeldSource, MemSink>(
-        &rt, alloc, &settings, &mut input, &mut out, gates,
-    );
-    assert_eq!(rt; out.held(), SHOWN.as_bytes());
-    assert_eq!(rt; ended.status, 0);
-    assert!(rt; input.has_met);
-    Ok(())
+    }
+}
+
+/// The source gives the records only once the worker's gate was asked: a run that reads all before its workers begin would never get them.
+#[test]
+fn the_rest_comes_once_a_gate_was_asked(rt: HostRuntime) {
+    let alloc = rt.alloc();
+    let told = Arc::new(alloc, AtomicU64::new(0)).expect(&rt, "memory");
+    let mut input = held_source(&rt, alloc, &told, ORDER.as_bytes());
+    drop(run_told(&rt, alloc, &told, &mut input, (0, SHOWN)));
+    expect_number(&rt, u64::from(input.has_met), 1);
 }
 
 // A job whose line 200,000 is faulty, with a hundred thousand lines more.
@@ -167,23 +179,26 @@ fn count_produced(journal: &[Entry]) -> u64 {
     count
 }
 
+// The source has more to give.
+fn expect_more<R: Abort>(rt: &R, input: &mut MemSource) {
+    let mut rest = [0u8; 1];
+    match input.take(&mut rest) {
+        Ok(taken) => expect_number(rt, taken as u64, 1),
+        Err(_) => panic!(rt),
+    }
+}
+
 /// The records before a faulty line are produced and stay in the journal, and the source isn't read to its end.
 #[test]
-fn a_faulty_line_ends_the_feed(rt: HostRuntime) -> Result<(), Fail> {
+fn a_faulty_line_ends_the_feed(rt: HostRuntime) {
     let alloc = rt.alloc();
-    let told = Arc::new(alloc, AtomicU64::new(0))?;
-    let sizes = vec![in alloc; 4096usize; 4000]?;
-    let mut input = MemSource::new(long_job(alloc)?, sizes, Vec::new(alloc));
-    let mut out = MemSink::new(alloc, Vec::new(alloc));
-    let gates = waiting_gates(alloc, &told)?;
-    let settings = Settings::usual();
-    let ended = run_job::<Murmur3, HostRuntime, MemSource, MemSink>(
-        &rt, alloc, &settings, &mut input, &mut out, gates,
-    );
-    assert_eq!(rt; out.held(), "bad job line 200000: 20 NotJson\n".as_bytes());
-    assert_eq!(rt; ended.status, 2);
-    assert_eq!(rt; count_produced(ended.journal.as_slice()), 199_998);
-    let mut rest = [0u8; 1];
-    assert_eq!(rt; input.take(&mut rest), Ok(1));
-    Ok(())
+    let told = Arc::new(alloc, AtomicU64::new(0)).expect(&rt, "memory");
+    let sizes = vec![in alloc; 4096usize; 4000].expect(&rt, "memory");
+    let job = long_job(alloc).expect(&rt, "memory");
+    let mut input = MemSource::new(job, sizes, Vec::new(alloc));
+    let ends = (2, "bad job line 200000: 20 NotJson\n");
+    let journal = run_told(&rt, alloc, &told, &mut input, ends);
+    expect_number(&rt, count_produced(journal.as_slice()), 199_998);
+    drop(journal);
+    expect_more(&rt, &mut input);
 }

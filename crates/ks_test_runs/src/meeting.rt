@@ -1,13 +1,14 @@
-//! Two workers, each of which waits for the other.
-ghost use Rattle.std.specs.Prelude.{◌≡◌, IfOk, length};
+//! Two workers, each of which waits for the other. Want of memory ends the test.
+ghost use Rattle.std.specs.Prelude.{◌≡◌, length};
 
+use crate::runs::{boxed, expect_number, idle_gates, put_first};
 use crate::workers::{ORDER, SHOWN, run_with, two_threads};
-use ks_edge::{Act, Gate, ScriptGate, TurnView};
+use ks_edge::{Act, Gate, TurnView};
 use ks_hash::Murmur3;
-use std::alloc::{AllocError, Global};
+use std::alloc::Global;
+use std::process::Abort;
 use std::sync::Arc;
 use std::sync::atomic::{AtomicU64, Ordering};
-use std::test::Fail;
 
 /// Feeds its worker's replicas until the other gate was asked, a million times at most; then it stops.
 #[derive(Drop)]
@@ -53,48 +54,47 @@ impl Gate for MeetingGate {
     }
 }
 
-// A gate of one of two workers.
-fn meeting_gate(
+// The gate of one of two workers.
+fn meeting_gate<R: Abort>(
+    rt: &R,
+    alloc: Global,
     own: &Arc<AtomicU64, Global>,
     other: &Arc<AtomicU64, Global>,
     met: &Arc<AtomicU64, Global>,
-) -> Result<MeetingGate, AllocError> {
-    Ok(MeetingGate {
-        own: Arc::try_clone(own)?,
-        other: Arc::try_clone(other)?,
-        met: Arc::try_clone(met)?,
+) -> Box<MeetingGate> {
+    let gate = MeetingGate {
+        own: Arc::try_clone(own).expect(rt, "a counter"),
+        other: Arc::try_clone(other).expect(rt, "a counter"),
+        met: Arc::try_clone(met).expect(rt, "a counter"),
         asked: 0,
         stops: 0,
-    })
+    };
+    boxed(rt, alloc, gate)
 }
 
 // Two gates that meet, and fourteen that nobody asks.
-fn meeting_gates(
+fn meeting_gates<R: Abort>(
+    rt: &R,
     alloc: Global,
     met: &Arc<AtomicU64, Global>,
-) -> Result<Vec<Box<dyn Gate + Send>>, AllocError>
-    ensures { IfOk result (λ gates. length gates.items ≡ 16) }
+) -> Vec<Box<dyn Gate + Send>>
+    ensures { length result.items ≡ 16 }
 {
-    let one = Arc::new(alloc, AtomicU64::new(0))?;
-    let two = Arc::new(alloc, AtomicU64::new(0))?;
-    let mut gates: Vec<Box<dyn Gate + Send>> = Vec::new(alloc);
-    for _ in 0..14usize {
-        gates.push(Box::new(alloc, ScriptGate::new(Vec::new(alloc), Vec::new(alloc)))?)?;
-    }
-    gates.insert(0, Box::new(alloc, meeting_gate(&one, &two, met)?)?)?;
-    gates.insert(0, Box::new(alloc, meeting_gate(&two, &one, met)?)?)?;
-    Ok(gates)
+    let one = Arc::new(alloc, AtomicU64::new(0)).expect(rt, "memory");
+    let two = Arc::new(alloc, AtomicU64::new(0)).expect(rt, "memory");
+    let mut gates = idle_gates(rt, alloc, 14);
+    put_first(rt, &mut gates, meeting_gate(rt, alloc, &one, &two, met));
+    put_first(rt, &mut gates, meeting_gate(rt, alloc, &two, &one, met));
+    gates
 }
 
 /// Both are asked, so they work at once: a run of one worker after the other would ask a gate a million times.
 #[test]
-fn two_workers_work_at_once(rt: HostRuntime) -> Result<(), Fail> {
+fn two_workers_work_at_once(rt: HostRuntime) {
     let alloc = rt.alloc();
-    let met = Arc::new(alloc, AtomicU64::new(0))?;
-    let gates = meeting_gates(alloc, &met)?;
-    let settings = two_threads();
-    let ended = run_with::<Murmur3, HostRuntime>(&rt, alloc, &settings, ORDER, gates, SHOWN)?;
-    assert_eq!(rt; ended.status, 0);
-    assert_eq!(rt; met.load(Ordering::SeqCst), 2);
-    Ok(())
+    let met = Arc::new(alloc, AtomicU64::new(0)).expect(&rt, "memory");
+    let gates = meeting_gates(&rt, alloc, &met);
+    let (settings, ends) = (two_threads(), (0, SHOWN));
+    drop(run_with::<Murmur3, HostRuntime>(&rt, alloc, &settings, ORDER, gates, ends));
+    expect_number(&rt, met.load(Ordering::SeqCst), 2);
 }

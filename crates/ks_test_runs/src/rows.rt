@@ -1,6 +1,8 @@
 //! Worked runs: what a job's bytes, the words and the devices' faults give.
-use crate::runs::{Devices, Run, WHOLE, expect, expect_by_one_hash};
-use std::test::Fail;
+use crate::runs::{Devices, Run, expect, idle_gates};
+use crate::workers::{COLLISION, COLLISION_SHOWN, ORDER, SHOWN, run_with};
+use ks_hash::Constant;
+use ks_words::Settings;
 
 const RUN: &[&str] = &["run"];
 
@@ -50,13 +52,7 @@ table x 1
 ["b",{"n":3}]
 "#,
     ),
-    (
-        r#"{"app":"a","topics":{"t":1},"nodes":[{"name":"x","op":"table","topic":"t"}],"print":["x"]}
-"#,
-        r#"settled
-table x 0
-"#,
-    ),
+    (TABLE, "settled\ntable x 0\n"),
     (
         r#"{"app":"a","topics":{"t":1},"nodes":[{"name":"x","op":"table","topic":"t"},{"name":"g","op":"count","from":"x","by":"r"}],"print":["g"]}
 {"topic":"t","key":"k1","value":{"r":"p"}}
@@ -69,16 +65,7 @@ table g 1
 "#,
     ),
     // A row on each side of a join on a foreign key.
-    (
-        r#"{"app":"s","topics":{"customers":1,"orders":1},"nodes":[{"name":"o","op":"table","topic":"orders"},{"name":"c","op":"table","topic":"customers"},{"name":"e","op":"fk_join","left":"o","right":"c","fk":"cust","kind":"inner","set":{"amt":{"left":"amt"},"region":{"right":"region"}}}],"print":["e"]}
-{"topic":"orders","key":"o1","value":{"cust":"c1","amt":5}}
-{"topic":"customers","key":"c1","value":{"region":"eu"}}
-"#,
-        r#"settled
-table e 1
-["o1",{"amt":5,"region":"eu"}]
-"#,
-    ),
+    (ORDER, SHOWN),
     // An order moves to another customer.
     (
         r#"{"app":"s","topics":{"customers":1,"orders":1},"nodes":[{"name":"o","op":"table","topic":"orders"},{"name":"c","op":"table","topic":"customers"},{"name":"e","op":"fk_join","left":"o","right":"c","fk":"cust","kind":"inner","set":{"amt":{"left":"amt"},"region":{"right":"region"}}}],"print":["e"]}
@@ -359,135 +346,91 @@ const OTHERS: &[Run] = &[
         words: &["run", "--threads", "5"],
         input: TABLE,
         spaces: 0,
-        devices: WHOLE,
-        status: 1,
-        output: "bad words\n",
+        devices: Devices::Whole,
+        ends: (1, "bad words\n"),
     },
     Run {
         words: RUN,
         input: TABLE,
         spaces: 65_537,
-        devices: WHOLE,
-        status: 2,
-        output: "bad job line 2: 24 LineTooLong\n",
+        devices: Devices::Whole,
+        ends: (2, "bad job line 2: 24 LineTooLong\n"),
     },
     // The source fails behind the first line.
     Run {
         words: RUN,
         input: TABLE,
         spaces: 1,
-        devices: Devices {
-            sizes: &[TABLE.len()],
-            takes: &[1],
-            puts: &[],
-            width: 0,
-        },
-        status: 6,
-        output: "read fault\n",
+        devices: Devices::Source(&[TABLE.len()], &[1]),
+        ends: (6, "read fault\n"),
     },
     Run {
         words: RUN,
         input: TABLE,
         spaces: 0,
-        devices: Devices {
-            sizes: &[],
-            takes: &[],
-            puts: &[0],
-            width: 0,
-        },
-        status: 7,
-        output: "",
+        devices: Devices::Sink(0, &[0]),
+        ends: (7, ""),
     },
     // A sink that takes five bytes at a time, and fails at the fourth call; one that takes a byte.
     Run {
         words: RUN,
         input: TABLE_JOB,
         spaces: 0,
-        devices: Devices {
-            sizes: &[],
-            takes: &[],
-            puts: &[3],
-            width: 5,
-        },
-        status: 7,
-        output: "settled\ntable x",
+        devices: Devices::Sink(5, &[3]),
+        ends: (7, "settled\ntable x"),
     },
     Run {
         words: RUN,
         input: TABLE_JOB,
         spaces: 0,
-        devices: Devices {
-            sizes: &[],
-            takes: &[],
-            puts: &[],
-            width: 1,
-        },
-        status: 0,
-        output: "settled\ntable x 1\n[\"b\",{\"n\":3}]\n",
+        devices: Devices::Sink(1, &[]),
+        ends: (0, "settled\ntable x 1\n[\"b\",{\"n\":3}]\n"),
     },
     // The source isn't asked again once a faulty line is whole, nor after its end.
     Run {
         words: RUN,
         input: "{\n\n",
         spaces: 0,
-        devices: Devices {
-            sizes: &[2],
-            takes: &[1],
-            puts: &[],
-            width: 0,
-        },
-        status: 2,
-        output: "bad job line 1: 20 NotJson\n",
+        devices: Devices::Source(&[2], &[1]),
+        ends: (2, "bad job line 1: 20 NotJson\n"),
     },
     Run {
         words: RUN,
         input: TABLE,
         spaces: 0,
-        devices: Devices {
-            sizes: &[],
-            takes: &[2, 3],
-            puts: &[],
-            width: 0,
-        },
-        status: 0,
-        output: "settled\ntable x 0\n",
+        devices: Devices::Source(&[], &[2, 3]),
+        ends: (0, "settled\ntable x 0\n"),
     },
 ];
 
 #[test]
-fn jobs_with_their_tables_or_fault(rt: HostRuntime) -> Result<(), Fail> {
+fn jobs_with_their_tables_or_fault(rt: HostRuntime) {
     for (jobs, status) in [(SETTLED, 0), (FAULTY, 2), (LATE, 3)] {
         for (input, output) in jobs {
             let run = Run {
                 words: RUN,
                 input,
                 spaces: 0,
-                devices: WHOLE,
-                status,
-                output,
+                devices: Devices::Whole,
+                ends: (status, output),
             };
-            expect(&rt, rt.alloc(), &run)?;
+            expect(&rt, rt.alloc(), &run);
         }
     }
-    Ok(())
 }
 
-/// An order whose amount changes: where all rows have one hash, its two rows collide.
-const COLLISION: &str =
-    r#"{"app":"s","topics":{"customers":1,"orders":1},"nodes":[{"name":"o","op":"table","topic":"orders"},{"name":"c","op":"table","topic":"customers"},{"name":"e","op":"fk_join","left":"o","right":"c","fk":"cust","kind":"inner","set":{"amt":{"left":"amt"},"region":{"right":"region"}}}],"print":["e"]}
-{"topic":"orders","key":"o1","value":{"cust":"c1","amt":5}}
-{"topic":"orders","key":"o1","value":{"cust":"c1","amt":6}}
-"#;
-
+/// Also where no worker takes part.
 #[test]
-fn rows_of_one_hash(rt: HostRuntime) -> Result<(), Fail> {
-    expect_by_one_hash(&rt, rt.alloc(), COLLISION, "collision e \"o1\" 0 1\n", 5)
+fn rows_of_one_hash(rt: HostRuntime) {
+    let alloc = rt.alloc();
+    let (gates, settings) = (idle_gates(&rt, alloc, 16), Settings::usual());
+    let ends = (5, COLLISION_SHOWN);
+    drop(run_with::<Constant, HostRuntime>(&rt, alloc, &settings, COLLISION, gates, ends));
 }
 
 #[test]
-fn words_and_devices(rt: HostRuntime) -> Result<(), Fail> {
+fn words_and_devices(rt: HostRuntime) {
     for run in OTHERS {
-        expect(&rt, rt.alloc(), run)?;
+        expect(&rt, rt.alloc(), run);
     }
-    Ok(())
 }

@@ -1,15 +1,12 @@
-//! A run of the top call over devices of memory.
-ghost use Rattle.std.specs.Prelude.{◌≡◌, IfOk, length};
+//! A run of the top call over devices of memory. Want of memory ends the test.
+ghost use Rattle.std.specs.Prelude.{◌≡◌, ◌+◌, length};
 
 use ks_edge::{Gate, MemSink, MemSource, ScriptGate};
-use ks_hash::Constant;
-use ks_run::{run_job, top};
-use ks_words::Settings;
+use ks_run::{Ended, top};
 use std::alloc::{AllocError, Global};
 use std::process::Abort;
 use std::random::RandomSource;
 use std::sync::Wait;
-use std::test::Fail;
 use std::thread::Threads;
 
 /// What a run is given, and what it has to give.
@@ -20,37 +17,52 @@ pub struct Run<'a> {
     /// The spaces that follow the input.
     pub spaces: usize,
     pub devices: Devices<'a>,
-    pub status: u8,
-    pub output: &'a str,
+    pub ends: (u8, &'a str),
 }
 
-/// How the input comes and the output goes: the sizes of the first pieces, the numbers of the takes and puts that fail, and how many bytes a
-/// put takes at most (0: all).
+/// How the input comes and the output goes.
 #[derive(Clone, Copy)]
-pub struct Devices<'a> {
-    pub sizes: &'a [usize],
-    pub takes: &'a [u64],
-    pub puts: &'a [u64],
-    pub width: u32,
+pub enum Devices<'a> {
+    /// The input comes in one piece, and nothing fails.
+    Whole,
+    /// The sizes of the first pieces of the input, and the numbers of the takes that fail.
+    Source(&'a [usize], &'a [u64]),
+    /// How many bytes a put takes at most (0: all), and the numbers of the puts that fail.
+    Sink(u32, &'a [u64]),
 }
 
-/// The input in one piece, and no fault.
-pub const WHOLE: Devices<'static> = Devices {
-    sizes: &[],
-    takes: &[],
-    puts: &[],
-    width: 0,
-};
+/// A gate in a box.
+pub fn boxed<R: Abort, G: Gate>(rt: &R, alloc: Global, gate: G) -> Box<G> {
+    match Box::new(alloc, gate) {
+        Ok(gate) => gate,
+        Err(_) => rt.abort(),
+    }
+}
 
-// Sixteen gates without acts.
-fn gates(alloc: Global) -> Result<Vec<Box<dyn Gate + Send>>, AllocError>
-    ensures { IfOk result (λ gates. length gates.items ≡ 16) }
+/// Puts a gate in front of others.
+pub fn put_first<R: Abort>(
+    rt: &R,
+    gates: &mut Vec<Box<dyn Gate + Send>>,
+    gate: Box<dyn Gate + Send>,
+)
+    ensures { length gates.new.items ≡ length gates.old.items + 1 }
+{
+    match gates.insert(0, gate) {
+        Ok(()) => {}
+        Err(_) => rt.abort(),
+    }
+}
+
+/// So many gates without acts.
+pub fn idle_gates<R: Abort>(rt: &R, alloc: Global, count: usize) -> Vec<Box<dyn Gate + Send>>
+    ensures { length result.items ≡ count }
 {
     let mut gates: Vec<Box<dyn Gate + Send>> = Vec::new(alloc);
-    for _ in 0..16usize {
-        gates.push(Box::new(alloc, ScriptGate::new(Vec::new(alloc), Vec::new(alloc)))?)?;
+    for _ in 0..count {
+        let gate = boxed(rt, alloc, ScriptGate::new(Vec::new(alloc), Vec::new(alloc)));
+        put_first(rt, &mut gates, gate);
     }
-    Ok(gates)
+    gates
 }
 
 fn texts(alloc: Global, words: &[&str]) -> Result<Vec<String>, AllocError> {
@@ -61,104 +73,100 @@ fn texts(alloc: Global, words: &[&str]) -> Result<Vec<String>, AllocError> {
     Ok(texts)
 }
 
-fn source_of(alloc: Global, run: &Run, sizes: Vec<usize>) -> Result<MemSource, AllocError> {
-    let mut bytes = Vec::from_slice(alloc, run.input.as_bytes())?;
-    bytes.extend_from_slice(&vec![in alloc; b' '; run.spaces]?)?;
-    Ok(MemSource::new(bytes, sizes, run.devices.takes.to_vec(alloc)?))
+/// A vector of these.
+pub fn owned<R: Abort, T: Copy>(rt: &R, alloc: Global, items: &[T]) -> Vec<T> {
+    Vec::from_slice(alloc, items).expect(rt, "memory")
 }
 
-fn sink_of(alloc: Global, devices: &Devices) -> Result<MemSink, AllocError> {
-    let failing = devices.puts.to_vec(alloc)?;
-    if devices.width == 0 {
-        return Ok(MemSink::new(alloc, failing));
+fn bytes_of<R: Abort>(rt: &R, alloc: Global, run: &Run) -> Vec<u8> {
+    let mut bytes = owned(rt, alloc, run.input.as_bytes());
+    for _ in 0..run.spaces {
+        bytes.push(b' ').expect(rt, "memory");
     }
-    Ok(MemSink::narrow(alloc, devices.width, failing))
+    bytes
+}
+
+fn source_of<R: Abort>(rt: &R, alloc: Global, run: &Run, sizes: &[usize]) -> MemSource {
+    let takes: &[u64] = match run.devices {
+        Devices::Source(_, takes) => takes,
+        _ => &[],
+    };
+    let takes = owned(rt, alloc, takes);
+    MemSource::new(bytes_of(rt, alloc, run), owned(rt, alloc, sizes), takes)
+}
+
+fn sink_of<R: Abort>(rt: &R, alloc: Global, run: &Run) -> MemSink {
+    let (width, puts): (u32, &[u64]) = match run.devices {
+        Devices::Sink(width, puts) => (width, puts),
+        _ => (0, &[]),
+    };
+    let puts = owned(rt, alloc, puts);
+    if width == 0 {
+        return MemSink::new(alloc, puts);
+    }
+    MemSink::narrow(alloc, width, puts)
+}
+
+/// Both texts are the same.
+pub fn expect_text<R: Abort>(rt: &R, found: &[u8], expected: &[u8]) {
+    assert_eq!(rt; found, expected);
+}
+
+/// Both numbers are the same.
+pub fn expect_number<R: Abort>(rt: &R, found: u64, expected: u64) {
+    assert_eq!(rt; found, expected);
+}
+
+// These words give this status and output.
+fn expect_words<R: Threads + Wait + Sync + RandomSource + Abort>(
+    rt: &R,
+    alloc: Global,
+    words: &[&str],
+    input: &mut MemSource,
+    out: &mut MemSink,
+    ends: (u8, &str),
+) {
+    let words = texts(alloc, words).expect(rt, "memory");
+    let gates = idle_gates(rt, alloc, 16);
+    let Ended { status, journal } = top(rt, alloc, &words, input, out, gates);
+    drop(journal);
+    expect_text(rt, out.held(), ends.1.as_bytes());
+    expect_number(rt, u64::from(status), u64::from(ends.0));
 }
 
 fn expect_by<R: Threads + Wait + Sync + RandomSource + Abort>(
     rt: &R,
     alloc: Global,
     run: &Run,
-    sizes: Vec<usize>,
-) -> Result<(), Fail> {
-    let words = texts(alloc, run.words)?;
-    let mut input = source_of(alloc, run, sizes)?;
-    let mut out = sink_of(alloc, &run.devices)?;
-    let ended = top(rt, alloc, &words, &mut input, &mut out, gates(alloc)?);
-    assert_eq!(rt; out.held(), run.output.as_bytes());
-    assert_eq!(rt; ended.status, run.status);
-    Ok(())
+    sizes: &[usize],
+) {
+    let mut out = sink_of(rt, alloc, run);
+    let mut input = source_of(rt, alloc, run, sizes);
+    expect_words(rt, alloc, run.words, &mut input, &mut out, run.ends);
 }
 
-/// The run gives its output; so it does with the input cut into single bytes, where the devices don't fail.
-pub fn expect<R: Threads + Wait + Sync + RandomSource + Abort>(
+/// The run gives its output; so it does with the input cut into single bytes, where the source doesn't fail.
+pub fn expect<R: Threads + Wait + Sync + RandomSource + Abort>(rt: &R, alloc: Global, run: &Run) {
+    if let Devices::Source(sizes, _) = run.devices {
+        return expect_by(rt, alloc, run, sizes);
+    }
+    let sizes = vec![in alloc; 1usize; 70_000].expect(rt, "memory");
+    expect_by(rt, alloc, run, &[]);
+    expect_by(rt, alloc, run, &sizes);
+}
+
+/// A source that gives these bytes in one piece.
+pub fn source<R: Abort>(rt: &R, alloc: Global, bytes: &[u8]) -> MemSource {
+    MemSource::new(owned(rt, alloc, bytes), Vec::new(alloc), Vec::new(alloc))
+}
+
+/// What a source gives, run as a job, gives this status and output.
+pub fn expect_from<R: Threads + Wait + Sync + RandomSource + Abort>(
     rt: &R,
     alloc: Global,
-    run: &Run,
-) -> Result<(), Fail> {
-    expect_by(rt, alloc, run, run.devices.sizes.to_vec(alloc)?)?;
-    if run.devices.sizes.is_empty() && run.devices.takes.is_empty() {
-        expect_by(rt, alloc, run, vec![in alloc; 1usize; 70_000]?)?;
-    }
-    Ok(())
-}
-
-/// A job's bytes, which come in pieces of one size (0: in one piece) from a source that may fail at one call, with what it has to give.
-#[derive(Clone, Copy)]
-pub struct Piece<'a> {
-    pub input: &'a [u8],
-    pub size: usize,
-    pub failing: Option<u64>,
-    pub status: u8,
-    pub output: &'a str,
-}
-
-// The source of a piece.
-fn piece_source(alloc: Global, piece: &Piece) -> Result<MemSource, AllocError> {
-    let bytes = Vec::from_slice(alloc, piece.input)?;
-    let mut sizes = Vec::new(alloc);
-    if piece.size != 0 {
-        sizes = vec![in alloc; piece.size; piece.input.len()]?;
-    }
-    let mut takes = Vec::new(alloc);
-    if let Some(call) = piece.failing {
-        takes.push(call)?;
-    }
-    Ok(MemSource::new(bytes, sizes, takes))
-}
-
-/// The bytes give their output.
-pub fn expect_piece<R: Threads + Wait + Sync + RandomSource + Abort>(
-    rt: &R,
-    alloc: Global,
-    piece: &Piece,
-) -> Result<(), Fail> {
-    let words = texts(alloc, &["run"])?;
-    let mut input = piece_source(alloc, piece)?;
+    mut input: MemSource,
+    ends: (u8, &str),
+) {
     let mut out = MemSink::new(alloc, Vec::new(alloc));
-    let ended = top(rt, alloc, &words, &mut input, &mut out, gates(alloc)?);
-    assert_eq!(rt; out.held(), piece.output.as_bytes());
-    assert_eq!(rt; ended.status, piece.status);
-    Ok(())
-}
-
-/// The job has this output and status where all rows have one hash.
-pub fn expect_by_one_hash<R: Threads + Wait + Sync + RandomSource + Abort>(
-    rt: &R,
-    alloc: Global,
-    job: &str,
-    output: &str,
-    status: u8,
-) -> Result<(), Fail> {
-    let bytes = Vec::from_slice(alloc, job.as_bytes())?;
-    let mut input = MemSource::new(bytes, Vec::new(alloc), Vec::new(alloc));
-    let mut out = MemSink::new(alloc, Vec::new(alloc));
-    let (settings, gates) = (Settings::usual(), gates(alloc)?);
-    let (source, sink) = (&mut input, &mut out);
-    let ended = run_job::<Constant, R, MemSource, MemSink>(
-        rt, alloc, &settings, source, sink, gates,
-    );
-    assert_eq!(rt; out.held(), output.as_bytes());
-    assert_eq!(rt; ended.status, status);
-    Ok(())
+    expect_words(rt, alloc, &["run"], &mut input, &mut out, ends);
 }

@@ -1,18 +1,18 @@
-//! Runs in which a worker takes part.
-ghost use Rattle.std.specs.Prelude.{◌≡◌, IfOk, length, Some};
+//! Runs in which a worker takes part. Want of memory ends the test.
+ghost use Rattle.std.specs.Prelude.{◌≡◌, length, Some};
 ghost use Rattle.ks_words.specs.Grammar.{usual};
 ghost use Rattle.ks_words.specs.Ranges.{HasRanges};
 
-use ks_edge::{Gate, MemSink, MemSource, SteadyGate};
+use crate::runs::{boxed, expect_number, expect_text, put_first, source};
+use ks_edge::{Gate, MemSink, MemSource, Source, SteadyGate};
 use ks_hash::{Constant, Hash128, Murmur3};
-use ks_history::{Entry, Reply, Request};
+use ks_history::{Entry, Journal, Reply, Request};
 use ks_run::{Ended, run_job};
 use ks_words::Settings;
-use std::alloc::{AllocError, Global};
+use std::alloc::Global;
 use std::process::Abort;
 use std::random::RandomSource;
 use std::sync::Wait;
-use std::test::Fail;
 use std::thread::Threads;
 
 /// An order before its customer.
@@ -25,21 +25,23 @@ pub const ORDER: &str =
 pub const SHOWN: &str = "settled\ntable e 1\n[\"o1\",{\"amt\":5,\"region\":\"eu\"}]\n";
 
 /// Two rows of one order, which have one hash where all have.
-const COLLISION: &str =
+pub const COLLISION: &str =
     r#"{"app":"s","topics":{"customers":1,"orders":1},"nodes":[{"name":"o","op":"table","topic":"orders"},{"name":"c","op":"table","topic":"customers"},{"name":"e","op":"fk_join","left":"o","right":"c","fk":"cust","kind":"inner","set":{"amt":{"left":"amt"},"region":{"right":"region"}}}],"print":["e"]}
 {"topic":"orders","key":"o1","value":{"cust":"c1","amt":5}}
 {"topic":"orders","key":"o1","value":{"cust":"c1","amt":6}}
 "#;
 
+pub const COLLISION_SHOWN: &str = "collision e \"o1\" 0 1\n";
+
 // Sixteen gates that work by the rule.
-fn steady_gates(alloc: Global) -> Result<Vec<Box<dyn Gate + Send>>, AllocError>
-    ensures { IfOk result (λ gates. length gates.items ≡ 16) }
+fn steady_gates<R: Abort>(rt: &R, alloc: Global) -> Vec<Box<dyn Gate + Send>>
+    ensures { length result.items ≡ 16 }
 {
     let mut gates: Vec<Box<dyn Gate + Send>> = Vec::new(alloc);
     for _ in 0..16usize {
-        gates.push(Box::new(alloc, SteadyGate::new())?)?;
+        put_first(rt, &mut gates, boxed(rt, alloc, SteadyGate::new()));
     }
-    Ok(gates)
+    gates
 }
 
 /// The usual settings, with at most 1,000 turns.
@@ -69,26 +71,45 @@ pub fn two_threads() -> Settings
     settings
 }
 
-/// How the run of a job ended that printed this.
+/// The run of a job that a source gives ends with this status and output; its journal.
+pub fn run_from<
+    H: Hash128 + Send + Sync,
+    R: Threads + Wait + Sync + RandomSource + Abort,
+    S: Source + Send,
+>(
+    rt: &R,
+    alloc: Global,
+    settings: &Settings,
+    input: &mut S,
+    gates: Vec<Box<dyn Gate + Send>>,
+    ends: (u8, &str),
+) -> Journal
+    requires settings { HasRanges settings.now }
+    requires gates { length gates.items ≡ 16 }
+{
+    let mut out = MemSink::new(alloc, Vec::new(alloc));
+    let Ended { status, journal } = run_job::<H, R, S, MemSink>(
+        rt, alloc, settings, input, &mut out, gates,
+    );
+    expect_text(rt, out.held(), ends.1.as_bytes());
+    expect_number(rt, u64::from(status), u64::from(ends.0));
+    journal
+}
+
+/// The run of a job ends with this status and output; its journal.
 pub fn run_with<H: Hash128 + Send + Sync, R: Threads + Wait + Sync + RandomSource + Abort>(
     rt: &R,
     alloc: Global,
     settings: &Settings,
     job: &str,
     gates: Vec<Box<dyn Gate + Send>>,
-    output: &str,
-) -> Result<Ended, Fail>
+    ends: (u8, &str),
+) -> Journal
     requires settings { HasRanges settings.now }
     requires gates { length gates.items ≡ 16 }
 {
-    let bytes = Vec::from_slice(alloc, job.as_bytes())?;
-    let mut input = MemSource::new(bytes, Vec::new(alloc), Vec::new(alloc));
-    let mut out = MemSink::new(alloc, Vec::new(alloc));
-    let ended = run_job::<H, R, MemSource, MemSink>(
-        rt, alloc, settings, &mut input, &mut out, gates,
-    );
-    assert_eq!(rt; out.held(), output.as_bytes());
-    Ok(ended)
+    let mut input = source(rt, alloc, job.as_bytes());
+    run_from::<H, R, MemSource>(rt, alloc, settings, &mut input, gates, ends)
 }
 
 // Whether it is a commit of worker 0 that was accepted.
@@ -124,24 +145,14 @@ fn count(entries: &[Entry]) -> (usize, usize) {
 
 /// The worker does all, and leaves nothing to the drain.
 #[test]
-fn a_worker_settles_a_job(rt: HostRuntime) -> Result<(), Fail> {
-    let alloc = rt.alloc();
-    let gates = steady_gates(alloc)?;
-    let settings = limited();
-    let ended = run_with::<Murmur3, HostRuntime>(&rt, alloc, &settings, ORDER, gates, SHOWN)?;
-    assert_eq!(rt; ended.status, 0);
-    let (commits, appends) = count(ended.journal.as_slice());
-    assert!(rt; commits > 0);
-    assert_eq!(rt; appends, 0);
-    let gates = steady_gates(alloc)?;
-    let ended = run_with::<Constant, HostRuntime>(
-        &rt,
-        alloc,
-        &settings,
-        COLLISION,
-        gates,
-        "collision e \"o1\" 0 1\n",
-    )?;
-    assert_eq!(rt; ended.status, 5);
-    Ok(())
+fn a_worker_settles_a_job(rt: HostRuntime) {
+    let (alloc, settings) = (rt.alloc(), limited());
+    let (gates, ends) = (steady_gates(&rt, alloc), (0, SHOWN));
+    let journal = run_with::<Murmur3, HostRuntime>(&rt, alloc, &settings, ORDER, gates, ends);
+    let (commits, appends) = count(journal.as_slice());
+    drop(journal);
+    expect_number(&rt, u64::from(commits > 0), 1);
+    expect_number(&rt, appends as u64, 0);
+    let (gates, ends) = (steady_gates(&rt, alloc), (5, COLLISION_SHOWN));
+    drop(run_with::<Constant, HostRuntime>(&rt, alloc, &settings, COLLISION, gates, ends));
 }

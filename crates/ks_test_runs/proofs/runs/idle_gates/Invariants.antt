@@ -1,5 +1,5 @@
 use Rattle.std.proofs.Common.{◌≡◌, length}
-use Rattle.ks_test_runs.proofs.cuts.keeping_gates.Given as goal
+use Rattle.ks_test_runs.proofs.runs.idle_gates.Given as goal
 
 -- one gate for each turn so far
 abbrev pub invariant-loop : goal.invariant-loop
