@@ -27,9 +27,8 @@ use Rattle.ks_worker_turn.specs.Placing.{PlacesBy}
 use Rattle.ks_worker.specs.Beginning.{MayRun, HasRoomForTurns}
 use Rattle.ks_worker.proofs.Beginning.{new_may_act}
 use Rattle.ks_worker_state.specs.declared.state.WorkerState.{WorkerState}
-use Rattle.ks_test_workers.specs.declared.actors.Actor.{Actor}
 use Rattle.ks_run_workers.specs.Members.{pass_key, IsEnlisted}
-use Rattle.ks_test_workers.specs.Pairs.{MayPlay, IsReady}
+use Rattle.ks_test_workers.specs.Pairs.{IsReady}
 
 pub two_items : {A : Type 0} (all rest none : List A) (a b : A) → all ≡ a ∷ rest → rest ≡ b ∷ none → length all ≡ 2 → all ≡ a ∷ b ∷ []
 two_items all rest [] a b e f n = e ∙ ap (λ l. a ∷ l) f
@@ -84,11 +83,11 @@ module _ {W : Type 0} (plan : W → TaskPlan) (good : W → PlacementTest) (hash
         room = subst (λ g. HasRoomForTurns g 1000) (sym enlisted.uncounted) (record { asked = omega arith; stops = omega arith; calls = omega arith; cuts = omega arith });
       }
 
-  -- it may play, and its pass is one of the lock's
-  pub may_play : {G : Type 0} (k : ℕ) (a : Actor W G) → IsFresh lock c.journal (frame_of c) k a.worker.state.session.client.pass → IsEnlisted a.worker.state → a.left ≡ 1000 → a.worker.placing ≡ placing → MayPlay plan good hash lock d a
-  may_play k a fresh enlisted left same =
-      subst (λ n. MayRun plan good hash lock d a.worker.placing n a.worker.state) (sym left)
-      (subst (λ p. MayRun plan good hash lock d p 1000 a.worker.state) (sym same) (may_run k a.worker.state fresh enlisted))
+  -- it may take all the turns that it has left
+  pub may_play : {G : Type 0} (k : ℕ) (now : Placing) (left : ℕ) (s : WorkerState W G) → IsFresh lock c.journal (frame_of c) k s.session.client.pass → IsEnlisted s → left ≡ 1000 → now ≡ placing → MayRun plan good hash lock d now left s
+  may_play k now left s fresh enlisted all same =
+      subst (λ n. MayRun plan good hash lock d now n s) (sym all)
+      (subst (λ p. MayRun plan good hash lock d p 1000 s) (sym same) (may_run k s fresh enlisted))
 
 -- the passes after the first are fresh by their numbers
 pub fresh_pair : {E F : Type 0} (lock : TableId) (seen : List E) (frame : F) (all others : List (PassView E F)) (first one two : PassView E F) → all ≡ first ∷ others → others ≡ one ∷ two ∷ [] → Each (IsFresh lock seen frame) all →

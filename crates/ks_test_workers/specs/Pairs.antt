@@ -1,6 +1,5 @@
 -- Two workers at one cluster.
 use Rattle.std.specs.Prelude.{◌≡◌, ◌≤◌, ◌<◌, ℕ, List, []}
-use Rattle.atomic_table.specs.Seated.{TableId}
 use Rattle.ks_assign.specs.declared.clients.Placing.{Placing}
 use Rattle.ks_plan.specs.Drafts.{DraftView}
 use Rattle.ks_plan.specs.Infos.{changelog_numbers}
@@ -16,12 +15,6 @@ use Rattle.ks_law_inputs.specs.Records.{AreRecords}
 use Rattle.ks_assign_group.specs.Groups.{good_by}
 use Rattle.ks_topo.specs.Places.{HasPlaces}
 use Rattle.ks_run_feed.specs.Placing.{counts_in}
-use Rattle.ks_worker.specs.Beginning.{MayRun}
-use Rattle.ks_test_workers.specs.declared.actors.Actor.{Actor}
-
--- it may take all the turns that it has left
-abbrev pub MayPlay : {W G : Type 0} → (W → TaskPlan) → (W → PlacementTest) → (List ℕ → ℕ) → TableId → DraftView → Actor W G → Type 0
-MayPlay plan good hash lock d a = MayRun plan good hash lock d a.worker.placing a.left a.worker.state
 
 -- a new cluster of the tasks of this topology, with this hash and this placing; the items are records for its topics
 pub record IsReady {W : Type 0} (plan : W → TaskPlan) (good : W → PlacementTest) (hash : List ℕ → ℕ) (d : DraftView) (placing : Placing) (c : ClusterView W) (is : List ItemView) : Type 0 where

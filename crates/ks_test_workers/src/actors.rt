@@ -1,5 +1,5 @@
-//! A worker that is told from outside when to take a turn.
-ghost use Rattle.std.specs.Prelude.{◌≡◌, ◌≤◌, OnOk};
+//! A worker that is told from outside when to take a turn. Want of memory ends the test.
+ghost use Rattle.std.specs.Prelude.{◌≡◌, ◌≤◌};
 ghost use Rattle.ks_topo.specs.Topologies.{draft_of};
 ghost use Rattle.ks_worker.specs.Beginning.{MayRun};
 ghost use Rattle.ks_run_workers.specs.Members.{pass_key, IsEnlisted};
@@ -12,7 +12,8 @@ use ks_shared::{Shared, SharedState};
 use ks_task_processing::Processing;
 use ks_topo::Topology;
 use ks_worker::Worker;
-use std::alloc::{AllocError, Global};
+use std::alloc::Global;
+use std::process::Abort;
 use std::sync::Wait;
 use std::sync::atomic::AtomicBool;
 
@@ -49,54 +50,54 @@ pub fn new_actor<W: Work, G: Gate>(
 
 impl<W: Work, G: Gate> Actor<W, G> {
     /// Takes one turn, whose act its gate says; nothing where none is left.
-    pub fn take_turn<H: Processing, R: Wait>(
+    pub fn take_turn<H: Processing, R: Wait + Abort>(
         &mut self,
         rt: &R,
         alloc: Global,
         topology: &Topology,
         shared: &Shared<W>,
-    ) -> Result<(), AllocError>
+    )
         requires may { MayRun W.plan W.good H.hash_of shared.now.growing.id (draft_of topology.now)
             self.old.worker.placing self.old.left self.old.worker.state }
-        ensures may { OnOk result (MayRun W.plan W.good H.hash_of shared.now.growing.id
-            (draft_of topology.now)
-            self.new.worker.placing self.new.left self.new.worker.state) }
+        ensures may { MayRun W.plan W.good H.hash_of shared.now.growing.id (draft_of topology.now)
+            self.new.worker.placing self.new.left self.new.worker.state }
         ensures pass { pass_key self.new.worker.state.session.client.pass
             ≡ pass_key self.old.worker.state.session.client.pass }
     {
         if self.left == 0 {
-            return Ok(());
+            return;
         }
         let feeding = AtomicBool::new(false);
-        self.worker
-            .run::<H, R>(rt, alloc, topology, shared, 1, &feeding)?;
-        self.left -= 1;
-        Ok(())
+        let worker = &mut self.worker;
+        match worker.run::<H, R>(rt, alloc, topology, shared, 1, &feeding) {
+            Ok(()) => self.left -= 1,
+            Err(_) => rt.abort(),
+        }
     }
 
     /// Does this act, outside of a turn; nothing where none is left.
-    pub fn perform<H: Processing, R: Wait>(
+    pub fn perform<H: Processing, R: Wait + Abort>(
         &mut self,
         rt: &R,
         alloc: Global,
         topology: &Topology,
         shared: &Shared<W>,
         act: Act,
-    ) -> Result<(), AllocError>
+    )
         requires may { MayRun W.plan W.good H.hash_of shared.now.growing.id (draft_of topology.now)
             self.old.worker.placing self.old.left self.old.worker.state }
-        ensures may { OnOk result (MayRun W.plan W.good H.hash_of shared.now.growing.id
-            (draft_of topology.now)
-            self.new.worker.placing self.new.left self.new.worker.state) }
+        ensures may { MayRun W.plan W.good H.hash_of shared.now.growing.id (draft_of topology.now)
+            self.new.worker.placing self.new.left self.new.worker.state }
         ensures pass { pass_key self.new.worker.state.session.client.pass
             ≡ pass_key self.old.worker.state.session.client.pass }
     {
         if self.left == 0 {
-            return Ok(());
+            return;
         }
-        self.worker
-            .perform::<H, R>(rt, alloc, topology, shared, act)?;
-        self.left -= 1;
-        Ok(())
+        let worker = &mut self.worker;
+        match worker.perform::<H, R>(rt, alloc, topology, shared, act) {
+            Ok(()) => self.left -= 1,
+            Err(_) => rt.abort(),
+        }
     }
 }

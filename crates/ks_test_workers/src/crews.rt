@@ -1,15 +1,17 @@
-//! Two workers round one cluster.
-ghost use Rattle.std.specs.Prelude.{◌≡◌, ◌≤◌, ◌∷◌, [], length, OnOk, IfOk};
+//! Two workers round one cluster. Want of memory ends the test.
+ghost use Rattle.std.specs.Prelude.{◌≡◌, ◌≤◌, ◌∷◌, [], length};
 ghost use Rattle.ks_topo.specs.Topologies.{draft_of};
 ghost use Rattle.ks_job.specs.Items.{item_views};
 ghost use Rattle.ks_growing.specs.Passes.{Each, IsFresh, IsPass};
 ghost use Rattle.ks_shared.specs.Calls.{frame_of};
 ghost use Rattle.ks_run_workers.specs.Members.{pass_key, IsEnlisted};
-ghost use Rattle.ks_test_workers.specs.Pairs.{MayPlay, IsReady};
+ghost use Rattle.ks_worker.specs.Beginning.{MayRun};
+ghost use Rattle.ks_test_workers.specs.Pairs.{IsReady};
 
 use crate::actors::{Actor, new_actor};
 use crate::scenes::{Does, Move, Scene, Who};
 use crate::telling::{lent, told};
+use crate::workers::expect_text;
 use ks_cluster::{Cluster, Work};
 use ks_edge::{Act, Gate, ScriptGate};
 use ks_growing::Pass;
@@ -18,10 +20,9 @@ use ks_run_feed::{produce_all, split_first};
 use ks_shared::{Shared, SharedState};
 use ks_task_processing::Processing;
 use ks_topo::Topology;
-use std::alloc::{AllocError, Global};
+use std::alloc::Global;
 use std::process::Abort;
 use std::sync::Wait;
-use std::test::Fail;
 
 /// The workers 0 and 1.
 #[derive(Drop)]
@@ -31,46 +32,45 @@ pub struct Pair<W: Work, G: Gate> {
 }
 
 // Puts a new cluster under a lock for the caller and two workers.
-fn lock<W: Work>(
+fn lock<R: Abort, W: Work>(
+    rt: &R,
     alloc: Global,
     cluster: Cluster<W>,
-) -> Result<(Shared<W>, Vec<Pass<SharedState<W>>>), AllocError>
+) -> (Shared<W>, Vec<Pass<SharedState<W>>>)
     requires new { cluster.journal ≡ [] }
-    ensures first { IfOk result (λ r. r.0.growing.first ≡ cluster) }
-    ensures passes { IfOk result (λ r. r.0.growing.passes ≡ 3) }
-    ensures count { IfOk result (λ r. length r.1.items ≡ 3) }
-    ensures fresh { IfOk result
-        (λ r. Each (IsFresh r.0.growing.id cluster.journal (frame_of cluster)) r.1.items) }
+    ensures first { result.0.growing.first ≡ cluster }
+    ensures passes { result.0.growing.passes ≡ 3 }
+    ensures count { length result.1.items ≡ 3 }
+    ensures fresh { Each (IsFresh result.0.growing.id cluster.journal (frame_of cluster))
+        result.1.items }
 {
-    Ok(Shared::new(alloc, cluster, 3)?)
+    match Shared::new(alloc, cluster, 3) {
+        Ok(made) => made,
+        Err(_) => rt.abort(),
+    }
 }
 
 // The acts with which the turns of one of the workers end.
-fn acts_of(alloc: Global, moves: &[Move], who: Who) -> Result<Vec<Act>, AllocError> {
+fn acts_of<R: Abort>(rt: &R, alloc: Global, moves: &[Move], who: Who) -> Vec<Act> {
     let mut acts = Vec::new(alloc);
     for step in moves {
         if let Does::Turn(act) = step.1 {
             if step.0 == who {
-                acts.push(act)?;
+                acts.push(act).expect(rt, "memory");
             }
         }
     }
-    Ok(acts)
+    acts
 }
 
-// Where a worker is cut off: the first one where the scene says so.
-fn cuts_of(alloc: Global, scene: &Scene, who: Who) -> Result<Vec<(u64, u32)>, AllocError> {
+// The gate of one of the workers: the first one's cuts it off where the scene says so.
+fn gate_of<R: Abort>(rt: &R, alloc: Global, scene: &Scene, who: Who) -> ScriptGate {
+    let acts = acts_of(rt, alloc, scene.moves, who);
     let mut cuts = Vec::new(alloc);
     if let (Who::First, Some(cut)) = (who, scene.cut) {
-        cuts.push(cut)?;
+        cuts.push(cut).expect(rt, "memory");
     }
-    Ok(cuts)
-}
-
-// The gate of one of the workers.
-fn gate_of(alloc: Global, scene: &Scene, who: Who) -> Result<ScriptGate, AllocError> {
-    let acts = acts_of(alloc, scene.moves, who)?;
-    Ok(ScriptGate::new(acts, cuts_of(alloc, scene, who)?))
+    ScriptGate::new(acts, cuts)
 }
 
 // The instance of the second worker; the first one's is 0.
@@ -81,60 +81,61 @@ fn other_instance(scene: &Scene) -> u8
 }
 
 /// The workers of a scene, with these passes.
-fn enlist<W: Work>(
+fn enlist<R: Abort, W: Work>(
+    rt: &R,
     alloc: Global,
     scene: &Scene,
     passes: Vec<Pass<SharedState<W>>>,
-) -> Result<Pair<W, ScriptGate>, AllocError>
+) -> Pair<W, ScriptGate>
     requires two { length passes.items ≡ 2 }
-    ensures passes { IfOk result (λ p. passes.items ≡ p.one.worker.state.session.client.pass
-        ∷ p.two.worker.state.session.client.pass ∷ []) }
-    ensures one { IfOk result (λ p. IsEnlisted p.one.worker.state × (p.one.left ≡ 1000)
-        × (p.one.worker.placing ≡ scene.now.placing)) }
-    ensures two { IfOk result (λ p. IsEnlisted p.two.worker.state × (p.two.left ≡ 1000)
-        × (p.two.worker.placing ≡ scene.now.placing)) }
+    ensures passes { passes.items ≡ result.one.worker.state.session.client.pass
+        ∷ result.two.worker.state.session.client.pass ∷ [] }
+    ensures one { IsEnlisted result.one.worker.state × (result.one.left ≡ 1000)
+        × (result.one.worker.placing ≡ scene.now.placing) }
+    ensures two { IsEnlisted result.two.worker.state × (result.two.left ≡ 1000)
+        × (result.two.worker.placing ≡ scene.now.placing) }
 {
-    let one = gate_of(alloc, scene, Who::First)?;
-    let two = gate_of(alloc, scene, Who::Second)?;
+    let one = gate_of(rt, alloc, scene, Who::First);
+    let two = gate_of(rt, alloc, scene, Who::Second);
     let (first, rest) = split_first(passes);
     let (second, _none) = split_first(rest);
-    Ok(Pair {
+    Pair {
         one: new_actor(alloc, 0, 0, scene.placing, one, first),
         two: new_actor(alloc, 1, other_instance(scene), scene.placing, two, second),
-    })
+    }
 }
 
 // A worker does what a move says.
-fn make_move<H: Processing, R: Wait, W: Work, G: Gate>(
+fn make_move<H: Processing, R: Wait + Abort, W: Work, G: Gate>(
     rt: &R,
     alloc: Global,
     topology: &Topology,
     shared: &Shared<W>,
     actor: &mut Actor<W, G>,
     does: Does,
-) -> Result<String, AllocError>
-    requires may { MayPlay W.plan W.good H.hash_of shared.now.growing.id (draft_of topology.now)
-        actor.old }
-    ensures may { OnOk result (MayPlay W.plan W.good H.hash_of shared.now.growing.id
-        (draft_of topology.now) actor.new) }
+) -> String
+    requires may { MayRun W.plan W.good H.hash_of shared.now.growing.id (draft_of topology.now)
+        actor.old.worker.placing actor.old.left actor.old.worker.state }
+    ensures may { MayRun W.plan W.good H.hash_of shared.now.growing.id (draft_of topology.now)
+        actor.new.worker.placing actor.new.left actor.new.worker.state }
     ensures pass { pass_key actor.new.worker.state.session.client.pass
         ≡ pass_key actor.old.worker.state.session.client.pass }
 {
     match does {
         Does::Turn(_) => {
-            actor.take_turn::<H, R>(rt, alloc, topology, shared)?;
-            told(alloc, topology, &actor.worker.state)
+            actor.take_turn::<H, R>(rt, alloc, topology, shared);
+            told(rt, alloc, topology, &actor.worker.state)
         }
         Does::Act(act) => {
-            actor.perform::<H, R>(rt, alloc, topology, shared, act)?;
-            told(alloc, topology, &actor.worker.state)
+            actor.perform::<H, R>(rt, alloc, topology, shared, act);
+            told(rt, alloc, topology, &actor.worker.state)
         }
-        Does::Lend(at_least) => lent(alloc, topology, &actor.worker.state, at_least),
+        Does::Lend(at_least) => lent(rt, alloc, topology, &actor.worker.state, at_least),
     }
 }
 
 // One of two workers does what a move says.
-fn move_one_of<H: Processing, R: Wait, W: Work, G: Gate>(
+fn move_one_of<H: Processing, R: Wait + Abort, W: Work, G: Gate>(
     rt: &R,
     alloc: Global,
     topology: &Topology,
@@ -142,31 +143,30 @@ fn move_one_of<H: Processing, R: Wait, W: Work, G: Gate>(
     pair: &mut Pair<W, G>,
     who: Who,
     does: Does,
-) -> Result<String, AllocError>
-    requires one { MayPlay W.plan W.good H.hash_of shared.now.growing.id (draft_of topology.now)
-        pair.old.one }
-    requires two { MayPlay W.plan W.good H.hash_of shared.now.growing.id (draft_of topology.now)
-        pair.old.two }
-    ensures may_one { OnOk result (
-        MayPlay W.plan W.good H.hash_of shared.now.growing.id (draft_of topology.now)
-        pair.new.one) }
-    ensures may_two { OnOk result (
-        MayPlay W.plan W.good H.hash_of shared.now.growing.id (draft_of topology.now)
-        pair.new.two) }
+) -> String
+    requires one { MayRun W.plan W.good H.hash_of shared.now.growing.id (draft_of topology.now)
+        pair.old.one.worker.placing pair.old.one.left pair.old.one.worker.state }
+    requires two { MayRun W.plan W.good H.hash_of shared.now.growing.id (draft_of topology.now)
+        pair.old.two.worker.placing pair.old.two.left pair.old.two.worker.state }
+    ensures may_one { MayRun W.plan W.good H.hash_of shared.now.growing.id (draft_of topology.now)
+        pair.new.one.worker.placing pair.new.one.left pair.new.one.worker.state }
+    ensures may_two { MayRun W.plan W.good H.hash_of shared.now.growing.id (draft_of topology.now)
+        pair.new.two.worker.placing pair.new.two.left pair.new.two.worker.state }
     ensures one { pass_key pair.new.one.worker.state.session.client.pass
         ≡ pass_key pair.old.one.worker.state.session.client.pass }
     ensures two { pass_key pair.new.two.worker.state.session.client.pass
         ≡ pass_key pair.old.two.worker.state.session.client.pass }
 {
     match who {
-        Who::First => {
-            let told = make_move::<H, R, W, G>(rt, alloc, topology, shared, &mut pair.one, does)?;
-            Ok(told)
-        }
-        Who::Second => {
-            let told = make_move::<H, R, W, G>(rt, alloc, topology, shared, &mut pair.two, does)?;
-            Ok(told)
-        }
+        Who::First => { make_move::<H, R, W, G>(rt, alloc, topology, shared, &mut pair.one, does) }
+        Who::Second => { make_move::<H, R, W, G>(rt, alloc, topology, shared, &mut pair.two, does) }
+    }
+}
+
+// What was told is this, where that is a text.
+fn expect_told<R: Abort>(rt: &R, found: &str, expected: &str) {
+    if !expected.is_empty() {
+        expect_text(rt, found.as_bytes(), expected.as_bytes());
     }
 }
 
@@ -178,11 +178,11 @@ fn play_moves<H: Processing, R: Wait + Abort, W: Work, G: Gate>(
     shared: &Shared<W>,
     pair: &mut Pair<W, G>,
     moves: &[Move],
-) -> Result<(), Fail>
-    requires one { MayPlay W.plan W.good H.hash_of shared.now.growing.id (draft_of topology.now)
-        pair.old.one }
-    requires two { MayPlay W.plan W.good H.hash_of shared.now.growing.id (draft_of topology.now)
-        pair.old.two }
+)
+    requires one { MayRun W.plan W.good H.hash_of shared.now.growing.id (draft_of topology.now)
+        pair.old.one.worker.placing pair.old.one.left pair.old.one.worker.state }
+    requires two { MayRun W.plan W.good H.hash_of shared.now.growing.id (draft_of topology.now)
+        pair.old.two.worker.placing pair.old.two.left pair.old.two.worker.state }
     ensures one { pass_key pair.new.one.worker.state.session.client.pass
         ≡ pass_key pair.old.one.worker.state.session.client.pass }
     ensures two { pass_key pair.new.two.worker.state.session.client.pass
@@ -190,36 +190,47 @@ fn play_moves<H: Processing, R: Wait + Abort, W: Work, G: Gate>(
 {
     for step in moves {
         let (who, does, expected) = *step;
-        let found = move_one_of::<H, R, W, G>(rt, alloc, topology, shared, pair, who, does)?;
-        if !expected.is_empty() {
-            assert_eq!(rt; found.as_str(), expected);
-        }
+        let found = move_one_of::<H, R, W, G>(rt, alloc, topology, shared, pair, who, does);
+        expect_told(rt, &found, expected);
     }
-    Ok(())
+}
+
+// The pass of a worker, which goes.
+fn pass_of<R: Abort, W: Work, G: Gate>(
+    rt: &R,
+    alloc: Global,
+    actor: Actor<W, G>,
+) -> Pass<SharedState<W>>
+    ensures { result ≡ actor.worker.state.session.client.pass }
+{
+    let mut replicas = Vec::new(alloc);
+    match actor.worker.into_pass(&mut replicas) {
+        Ok(pass) => pass,
+        Err(_) => rt.abort(),
+    }
 }
 
 // The cluster, for all passes.
-fn close<W: Work, G: Gate>(
+fn close<R: Abort, W: Work, G: Gate>(
+    rt: &R,
     alloc: Global,
     shared: Shared<W>,
     first: Pass<SharedState<W>>,
     pair: Pair<W, G>,
-) -> Result<Cluster<W>, AllocError>
+) -> Cluster<W>
     requires passes { shared.growing.passes ≡ 3 }
     requires first { IsPass shared.growing.id 0 first }
     requires one { IsPass shared.growing.id 1 pair.one.worker.state.session.client.pass }
     requires two { IsPass shared.growing.id 2 pair.two.worker.state.session.client.pass }
-    ensures { IfOk result (λ c. frame_of c ≡ frame_of shared.growing.first) }
+    ensures { frame_of result ≡ frame_of shared.growing.first }
 {
     let Pair { one, two } = pair;
-    let mut passes = Vec::new(alloc);
-    passes.push(first)?;
-    let mut replicas = Vec::new(alloc);
-    let second = one.worker.into_pass(&mut replicas)?;
-    passes.push(second)?;
-    let third = two.worker.into_pass(&mut replicas)?;
-    passes.push(third)?;
-    Ok(shared.close(passes))
+    let second = pass_of(rt, alloc, one);
+    let third = pass_of(rt, alloc, two);
+    match vec![in alloc; first, second, third] {
+        Ok(passes) => shared.close(passes),
+        Err(_) => rt.abort(),
+    }
 }
 
 /// Puts a cluster under a lock, and these records into it; the workers of the scene do what it says, and the cluster comes back.
@@ -230,17 +241,18 @@ pub fn play<H: Processing, R: Wait + Abort, W: Work>(
     cluster: Cluster<W>,
     items: Vec<JobItem>,
     scene: &Scene,
-) -> Result<Cluster<W>, Fail>
+) -> Cluster<W>
     requires ready { IsReady W.plan W.good H.hash_of (draft_of topology.now) scene.now.placing
         cluster (item_views items.items) }
-    ensures { IfOk result (λ c. frame_of c ≡ frame_of cluster) }
+    ensures { frame_of result ≡ frame_of cluster }
 {
     let _nodes = topology.nodes();
-    let made = lock(alloc, cluster)?;
-    let (shared, passes) = made;
+    let (shared, passes) = lock(rt, alloc, cluster);
     let (mut first, others) = split_first(passes);
-    produce_all(rt, alloc, topology, &shared, items, &mut first)?;
-    let mut pair = enlist(alloc, scene, others)?;
-    play_moves::<H, R, W, ScriptGate>(rt, alloc, topology, &shared, &mut pair, scene.moves)?;
-    Ok(close(alloc, shared, first, pair)?)
+    let Ok(()) = produce_all(rt, alloc, topology, &shared, items, &mut first) else {
+        rt.abort()
+    };
+    let mut pair = enlist(rt, alloc, scene, others);
+    play_moves::<H, R, W, ScriptGate>(rt, alloc, topology, &shared, &mut pair, scene.moves);
+    close(rt, alloc, shared, first, pair)
 }

@@ -1,5 +1,4 @@
-//! A job that is read from a text.
-ghost use Rattle.std.specs.Prelude.{IfOk, IfSome};
+//! A job that is read from a text. Want of memory ends the test.
 ghost use Rattle.ks_plan.specs.Drafts.{draft_view};
 ghost use Rattle.ks_job.specs.Items.{item_views};
 ghost use Rattle.ks_law_inputs.specs.Records.{IsJob};
@@ -8,7 +7,8 @@ ghost use Rattle.ks_test_workers.specs.Jobs.{IsJobOf};
 use ks_job::{JobItem, JobReader};
 use ks_law_inputs::records_fit;
 use ks_topo::Draft;
-use std::alloc::{AllocError, Global};
+use std::alloc::Global;
+use std::process::Abort;
 
 /// The topology of a job, which may have a fault, and its records.
 #[derive(Drop)]
@@ -17,45 +17,40 @@ pub struct Job {
     pub records: Vec<JobItem>,
 }
 
-// All that a text has; none where a line is faulty.
-fn items_of(alloc: Global, text: &str) -> Result<Option<Vec<JobItem>>, AllocError>
-    ensures { IfOk result (λ o. IfSome o (λ v. IsJob (item_views v.items))) }
+// All that a text has; the test ends where a line is faulty.
+fn items_of<R: Abort>(rt: &R, alloc: Global, text: &str) -> Vec<JobItem>
+    ensures { IsJob (item_views result.items) }
 {
     records_fit();
     let mut items = Vec::new(alloc);
     let mut reader = JobReader::new(alloc);
-    let fed = reader.feed(text.as_bytes(), &mut items)?;
-    let ended = reader.finish(&mut items)?;
+    let Ok(fed) = reader.feed(text.as_bytes(), &mut items) else {
+        rt.abort()
+    };
+    let Ok(ended) = reader.finish(&mut items) else {
+        rt.abort()
+    };
     if fed.is_err() || ended.is_err() {
-        return Ok(None);
+        rt.abort()
     }
-    Ok(Some(items))
+    drop(fed);
+    drop(ended);
+    items
 }
 
-// The first item is the topology, and the others are the records.
-fn split_job(mut items: Vec<JobItem>) -> Option<Job>
-    requires { IsJob (item_views items.items) }
-    ensures { IfSome result (λ j. IsJobOf (draft_view j.draft) (item_views j.records.items)) }
+/// The job that a text is: the first item is the topology, and the others are the records. The test ends where it is none.
+pub fn read_text<R: Abort>(rt: &R, alloc: Global, text: &str) -> Job
+    ensures { IsJobOf (draft_view result.draft) (item_views result.records.items) }
 {
+    let mut items = items_of(rt, alloc, text);
     if items.is_empty() {
-        return None;
+        rt.abort()
     }
     match items.remove(0) {
-        JobItem::Topology { line: _, draft } => Some(Job {
+        JobItem::Topology { line: _, draft } => Job {
             draft,
             records: items,
-        }),
-        JobItem::Input { .. } => None,
-    }
-}
-
-/// The job that a text is; none where a line is faulty.
-pub fn read_text(alloc: Global, text: &str) -> Result<Option<Job>, AllocError>
-    ensures { IfOk result (λ o. IfSome o
-        (λ j. IsJobOf (draft_view j.draft) (item_views j.records.items))) }
-{
-    match items_of(alloc, text)? {
-        Some(items) => Ok(split_job(items)),
-        None => Ok(None),
+        },
+        JobItem::Input { .. } => rt.abort(),
     }
 }

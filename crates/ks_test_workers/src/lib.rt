@@ -1,7 +1,8 @@
 //! Tests of workers on one thread, each of which takes a turn or does an act where a scene says so. The crate has nothing else.
 #![tactic(auto)]
 
-pub mod actors;
+#[cfg(test)]
+mod actors;
 #[cfg(test)]
 mod crews;
 #[cfg(test)]

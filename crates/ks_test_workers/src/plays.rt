@@ -1,6 +1,5 @@
-//! A whole run of a scene: the job is read, its workers do what the scene says, and the cluster is drained.
+//! A whole run of a scene: the job is read, its workers do what the scene says, and the cluster is drained. Want of memory ends the test.
 ghost use Rattle.std.specs.Prelude.{◌≡◌, ◌≤◌, ◌∷◌, [], Some, length, map};
-ghost use Rattle.ks_plan.specs.Drafts.{draft_view};
 ghost use Rattle.ks_plan.specs.Layout.{parts_of_topic, topics_of};
 ghost use Rattle.ks_topo.specs.Topologies.{draft_of, plan_in};
 ghost use Rattle.ks_job.specs.Items.{item_views};
@@ -11,7 +10,6 @@ ghost use Rattle.ks_cluster.specs.View.{setup_of};
 ghost use Rattle.ks_commit.specs.Everything.{everything, IsGoodForAll};
 ghost use Rattle.ks_task.specs.Placing.{placed_by};
 ghost use Rattle.ks_settle.specs.Drained.{drain_worker};
-ghost use Rattle.ks_test_workers.specs.Jobs.{IsJobOf};
 
 use crate::actors::CACHE;
 use crate::crews::play;
@@ -28,10 +26,9 @@ use ks_settle_tables::tables;
 use ks_task::{TaskWork, everything_is_good};
 use ks_task_processing::Processing;
 use ks_topo::{Topology, share_topology};
-use std::alloc::{AllocError, Global};
+use std::alloc::Global;
 use std::process::Abort;
 use std::sync::Wait;
-use std::test::Fail;
 use std::thread::Threads;
 
 /// What a scene came to.
@@ -61,12 +58,12 @@ fn count_appends(entries: &[Entry]) -> usize {
 }
 
 // Drains a cluster: how many lists of records that appends, and its tables.
-fn drain_all<H: Processing + Sync, R: Threads + Wait + Sync, W: Work + Sync>(
+fn drain_all<H: Processing + Sync, R: Threads + Wait + Sync + Abort, W: Work + Sync>(
     rt: &R,
     alloc: Global,
     topology: &Topology,
     cluster: &mut Cluster<W>,
-) -> Result<(usize, Vec<u8>), AllocError>
+) -> (usize, Vec<u8>)
     requires setup { setup_of W.plan cluster.old ≡ topology_setup (rules_of H.hash_of)
         (plan_in topology.now) }
     requires parts { HaveParts (plan_in topology.now) }
@@ -75,19 +72,19 @@ fn drain_all<H: Processing + Sync, R: Threads + Wait + Sync, W: Work + Sync>(
     requires counts { cluster.old.counts ≡ map (parts_of_topic (plan_in topology.now))
         (topics_of (plan_in topology.now)) }
 {
-    drain::<H, R, W>(rt, alloc, topology, cluster, Vec::new(alloc), CACHE)?;
-    let tables = tables(rt, alloc, topology, cluster)?;
-    let text = print_settled(rt, alloc, tables)?;
-    Ok((count_appends(cluster.journal()), text))
+    drain::<H, R, W>(rt, alloc, topology, cluster, Vec::new(alloc), CACHE).expect(rt, "memory");
+    let tables = tables(rt, alloc, topology, cluster).expect(rt, "memory");
+    let text = print_settled(rt, alloc, tables).expect(rt, "memory");
+    (count_appends(cluster.journal()), text)
 }
 
 // What a cluster came to after its workers ended.
-fn end_play<H: Processing + Sync, R: Threads + Wait + Sync, W: Work + Sync>(
+fn end_play<H: Processing + Sync, R: Threads + Wait + Sync + Abort, W: Work + Sync>(
     rt: &R,
     alloc: Global,
     topology: &Topology,
     mut cluster: Cluster<W>,
-) -> Result<Played, AllocError>
+) -> Played
     requires setup { setup_of W.plan cluster ≡ topology_setup (rules_of H.hash_of)
         (plan_in topology.now) }
     requires parts { HaveParts (plan_in topology.now) }
@@ -96,13 +93,14 @@ fn end_play<H: Processing + Sync, R: Threads + Wait + Sync, W: Work + Sync>(
     requires counts { cluster.counts ≡ map (parts_of_topic (plan_in topology.now))
         (topics_of (plan_in topology.now)) }
 {
-    let lines = lines(alloc, cluster.journal())?;
-    let (appends, text) = drain_all::<H, R, W>(rt, alloc, topology, &mut cluster)?;
-    Ok(Played {
+    let lines = lines(rt, alloc, cluster.journal());
+    let (appends, text) = drain_all::<H, R, W>(rt, alloc, topology, &mut cluster);
+    drop(cluster);
+    Played {
         lines,
         appends,
         text,
-    })
+    }
 }
 
 // The run of a scene over a job's tasks.
@@ -113,7 +111,7 @@ fn play_tasks<H: Processing + Sync, R: Threads + Wait + Sync + Abort, W: Work + 
     work: W,
     records: Vec<JobItem>,
     scene: &Scene,
-) -> Result<Played, Fail>
+) -> Played
     requires work { W.plan work ≡ work_of (rules_of H.hash_of) (plan_in topology.now) }
     requires good { W.good work ≡ placed_by (plan_in topology.now) (Some scene.now.placing) }
     requires threads { 1 ≤ scene.now.placing.threads }
@@ -123,45 +121,36 @@ fn play_tasks<H: Processing + Sync, R: Threads + Wait + Sync + Abort, W: Work + 
 {
     let _nodes = topology.nodes();
     everything_is_good();
-    let counts = counts_of(alloc, topology.topics())?;
-    let tasks = Vec::from_slice(alloc, topology.tasks())?;
-    let empty = Cluster::new(alloc, work, counts, tasks)?;
-    let cluster = play::<H, R, W>(rt, alloc, topology, empty, records, scene)?;
-    Ok(end_play::<H, R, W>(rt, alloc, topology, cluster)?)
-}
-
-// The run of a scene over a job that was read; none where its topology has a fault.
-fn play_read<H: Processing + Sync + Send, R: Threads + Wait + Sync + Abort>(
-    rt: &R,
-    alloc: Global,
-    job: Job,
-    scene: &Scene,
-) -> Result<Option<Played>, Fail>
-    requires job { IsJobOf (draft_view job.draft) (item_views job.records.items) }
-    requires threads { 1 ≤ scene.now.placing.threads }
-{
-    let Job { draft, records } = job;
-    let Ok(topology) = Topology::build(alloc, draft)? else {
-        return Ok(None);
+    let Ok(counts) = counts_of(alloc, topology.topics()) else {
+        rt.abort()
     };
-    share_topology();
-    let work = TaskWork::<H>::new(&topology, Some(scene.placing));
-    let played = play_tasks::<H, R, TaskWork<H>>(rt, alloc, &topology, work, records, scene)?;
-    Ok(Some(played))
+    let Ok(tasks) = Vec::from_slice(alloc, topology.tasks()) else {
+        rt.abort()
+    };
+    let Ok(empty) = Cluster::new(alloc, work, counts, tasks) else {
+        rt.abort()
+    };
+    let cluster = play::<H, R, W>(rt, alloc, topology, empty, records, scene);
+    end_play::<H, R, W>(rt, alloc, topology, cluster)
 }
 
-/// The run of a scene over a job; none where the text is no job, its topology has a fault, or the workers have no thread.
+/// The run of a scene over a job; the test ends where the text is no job, its topology has a fault, or the workers have no thread.
 pub fn play_job<H: Processing + Sync + Send, R: Threads + Wait + Sync + Abort>(
     rt: &R,
     alloc: Global,
     job: &str,
     scene: &Scene,
-) -> Result<Option<Played>, Fail> {
+) -> Played {
     if scene.placing.threads == 0 {
-        return Ok(None);
+        rt.abort()
     }
-    match read_text(alloc, job)? {
-        Some(job) => play_read::<H, R>(rt, alloc, job, scene),
-        None => Ok(None),
-    }
+    let Job { draft, records } = read_text(rt, alloc, job);
+    let Ok(Ok(topology)) = Topology::build(alloc, draft) else {
+        rt.abort()
+    };
+    share_topology();
+    let work = TaskWork::<H>::new(&topology, Some(scene.placing));
+    let played = play_tasks::<H, R, TaskWork<H>>(rt, alloc, &topology, work, records, scene);
+    drop(topology);
+    played
 }

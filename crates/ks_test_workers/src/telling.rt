@@ -1,178 +1,219 @@
-//! What a worker has and knows, and what happened in its group, as texts.
+//! What a worker has and knows, and what happened in its group, as texts. Want of memory ends the test.
 use ks_cluster::Work;
 use ks_edge::Gate;
 use ks_history::{Entry, Request};
 use ks_iq::{Answer, Ask, IqFault, active, stale};
 use ks_journal::push_journal;
-use ks_record::{Key, Name};
+use ks_record::{Key, Name, TaskId};
 use ks_row::{FieldRef, Row};
 use ks_standby::Replica;
 use ks_task::Task;
 use ks_topo::Topology;
+use ks_worker_client::Member;
 use ks_worker_state::{WorkerState, changelogs_in, inputs_in};
 use std::alloc::{AllocError, Global};
+use std::process::Abort;
+
+// Puts words behind a text.
+fn push<R: Abort>(rt: &R, text: &mut String, words: &str) {
+    text.push_str(words).expect(rt, "memory");
+}
+
+// Puts words and a number behind a text.
+fn push_number<R: Abort>(rt: &R, text: &mut String, words: &str, number: u64) {
+    write!(text, "{words}{number}").expect(rt, "memory");
+}
+
+// Puts words and the name of a task behind a text.
+fn push_id<R: Abort>(rt: &R, text: &mut String, words: &str, id: TaskId) {
+    push_number(rt, text, words, u64::from(id.sub));
+    push_number(rt, text, "_", u64::from(id.part));
+}
 
 // A task with its positions in its inputs.
-fn push_task(text: &mut String, topology: &Topology, task: &Task) -> Result<(), AllocError> {
+fn push_task<R: Abort>(rt: &R, text: &mut String, topology: &Topology, task: &Task) {
     let id = task.id();
-    write!(text, ", task {}_{} at", id.sub, id.part)?;
+    push_id(rt, text, ", task ", id);
+    push(rt, text, " at");
     for topic in inputs_in(topology, id.sub) {
-        write!(text, " {}", task.input_position(*topic))?;
+        push_number(rt, text, " ", task.input_position(*topic));
     }
     if !task.is_clean() {
-        text.push_str(" dirty")?;
+        push(rt, text, " dirty");
     }
-    Ok(())
 }
 
 // A replica with its positions in its changelogs.
-fn push_replica(
-    text: &mut String,
-    topology: &Topology,
-    replica: &Replica,
-) -> Result<(), AllocError> {
+fn push_replica<R: Abort>(rt: &R, text: &mut String, topology: &Topology, replica: &Replica) {
     let id = replica.id();
-    write!(text, ", replica {}_{} at", id.sub, id.part)?;
+    push_id(rt, text, ", replica ", id);
+    push(rt, text, " at");
     for topic in changelogs_in(topology, id.sub) {
-        write!(text, " {}", replica.position(*topic))?;
+        push_number(rt, text, " ", replica.position(*topic));
     }
-    Ok(())
+}
+
+fn push_member<R: Abort>(rt: &R, text: &mut String, member: &Member) {
+    push(
+        rt,
+        text,
+        if member.is_member {
+            "member"
+        } else {
+            "no member"
+        },
+    );
+    push_number(rt, text, ", epoch ", member.epoch);
+    push_number(rt, text, ", generation ", member.generation);
+}
+
+fn push_tasks<R: Abort>(rt: &R, text: &mut String, topology: &Topology, tasks: &[Task]) {
+    for task in tasks {
+        push_task(rt, text, topology, task);
+    }
+}
+
+fn push_replicas<R: Abort>(rt: &R, text: &mut String, topology: &Topology, replicas: &[Replica]) {
+    for replica in replicas {
+        push_replica(rt, text, topology, replica);
+    }
 }
 
 /// What a worker has and knows.
-pub fn told<W: Work, G: Gate>(
+pub fn told<R: Abort, W: Work, G: Gate>(
+    rt: &R,
     alloc: Global,
     topology: &Topology,
     state: &WorkerState<W, G>,
-) -> Result<String, AllocError> {
-    let member = &state.member;
-    let is = if member.is_member {
-        "member"
-    } else {
-        "no member"
-    };
-    let mut text = format!(in alloc;
-        "{is}, epoch {}, generation {}",
-        member.epoch, member.generation
-    )?;
-    for task in &state.tasks {
-        push_task(&mut text, topology, task)?;
-    }
-    for replica in &state.replicas {
-        push_replica(&mut text, topology, replica)?;
-    }
-    Ok(text)
+) -> String {
+    let mut text = String::new(alloc);
+    push_member(rt, &mut text, &state.member);
+    push_tasks(rt, &mut text, topology, &state.tasks);
+    push_replicas(rt, &mut text, topology, &state.replicas);
+    text
 }
 
 // The amount of an order.
-fn push_amount(text: &mut String, row: &Row) -> Result<(), AllocError> {
+fn push_amount<R: Abort>(rt: &R, text: &mut String, row: &Row) {
     match row.get(b"amt") {
-        Some(FieldRef::Int(amount)) => write!(text, " has {amount}"),
-        _ => text.push_str(" has another row"),
+        Some(FieldRef::Int(amount)) => { write!(text, " has {amount}").expect(rt, "memory") },
+        _ => push(rt, text, " has another row"),
     }
 }
 
-// What is answered.
-fn push_answer(text: &mut String, answer: &Result<Answer, IqFault>) -> Result<(), AllocError> {
-    match answer {
-        Ok(answer) => {
-            match &answer.value {
-                Some(row) => push_amount(text, row)?,
-                None => text.push_str(" has nothing")?,
-            }
-            write!(text, " at {}", answer.position)
-        }
-        Err(IqFault::WrongTask { owner }) => write!(text, " isn't {}_{}", owner.sub, owner.part),
-        Err(IqFault::NotClean) => text.push_str(" isn't clean"),
-        Err(IqFault::Behind { position }) => write!(text, " is at {position}"),
-        Err(_) => text.push_str(" can't be asked"),
+// An answer that was found.
+fn push_found<R: Abort>(rt: &R, text: &mut String, answer: &Answer) {
+    match &answer.value {
+        Some(row) => push_amount(rt, text, row),
+        None => push(rt, text, " has nothing"),
     }
+    push_number(rt, text, " at ", answer.position);
+}
+
+// A question that has no answer.
+fn push_fault<R: Abort>(rt: &R, text: &mut String, fault: &IqFault) {
+    match *fault {
+        IqFault::WrongTask { owner } => push_id(rt, text, " isn't ", owner),
+        IqFault::NotClean => push(rt, text, " isn't clean"),
+        IqFault::Behind { position } => push_number(rt, text, " is at ", position),
+        _ => push(rt, text, " can't be asked"),
+    }
+}
+
+// What is answered, which goes.
+fn push_answer<R: Abort>(
+    rt: &R,
+    text: &mut String,
+    answer: Result<Result<Answer, IqFault>, AllocError>,
+) {
+    match &answer {
+        Ok(Ok(answer)) => push_found(rt, text, answer),
+        Ok(Err(fault)) => push_fault(rt, text, fault),
+        Err(_) => rt.abort(),
+    }
+    drop(answer);
 }
 
 // How many writes the stores of a task hold back.
-fn push_held(text: &mut String, topology: &Topology, task: &Task) -> Result<(), AllocError> {
-    text.push_str(" and holds")?;
+fn push_held<R: Abort>(rt: &R, text: &mut String, topology: &Topology, task: &Task) {
+    push(rt, text, " and holds");
     for log in changelogs_in(topology, task.id().sub) {
-        write!(text, " {}", task.cached(*log))?;
+        push_number(rt, text, " ", task.cached(*log) as u64);
     }
-    Ok(())
 }
 
 // The order o1.
-fn order(alloc: Global) -> Result<Option<Ask>, AllocError> {
-    let Some(node) = Name::of(alloc, b"o")? else {
-        return Ok(None);
+fn order<R: Abort>(rt: &R, alloc: Global) -> Ask {
+    let Ok(Some(node)) = Name::of(alloc, b"o") else {
+        rt.abort()
     };
-    match Key::of(alloc, b"o1")? {
-        Some(key) => Ok(Some(Ask {
-            node,
-            key,
-            start: None,
-        })),
-        None => Ok(None),
+    let Ok(Some(key)) = Key::of(alloc, b"o1") else {
+        rt.abort()
+    };
+    Ask {
+        node,
+        key,
+        start: None,
     }
 }
 
-// What a task answers, and holds back.
-fn push_active(
-    text: &mut String,
+// What the tasks answer, and hold back.
+fn push_active<R: Abort>(
+    rt: &R,
     alloc: Global,
+    text: &mut String,
     topology: &Topology,
-    task: &Task,
+    tasks: &[Task],
     ask: &Ask,
     at_least: u64,
-) -> Result<(), AllocError> {
-    write!(text, "{}_{}", task.id().sub, task.id().part)?;
-    push_answer(text, &active(alloc, topology, task, ask, at_least)?)?;
-    push_held(text, topology, task)?;
-    text.push_str(", ")?;
-    Ok(())
+) {
+    for task in tasks {
+        push_id(rt, text, "", task.id());
+        push_answer(rt, text, active(alloc, topology, task, ask, at_least));
+        push_held(rt, text, topology, task);
+        push(rt, text, ", ");
+    }
 }
 
-// What a replica answers.
-fn push_stale(
-    text: &mut String,
+// What the replicas answer.
+fn push_stale<R: Abort>(
+    rt: &R,
     alloc: Global,
+    text: &mut String,
     topology: &Topology,
-    replica: &Replica,
+    replicas: &[Replica],
     ask: &Ask,
     at_least: u64,
-) -> Result<(), AllocError> {
-    write!(text, "replica {}_{}", replica.id().sub, replica.id().part)?;
-    push_answer(text, &stale(alloc, topology, replica, ask, at_least)?)?;
-    text.push_str(", ")?;
-    Ok(())
-}
-
-fn push_lent<W: Work, G: Gate>(
-    text: &mut String,
-    alloc: Global,
-    topology: &Topology,
-    state: &WorkerState<W, G>,
-    ask: &Ask,
-    at_least: u64,
-) -> Result<(), AllocError> {
-    for task in &state.tasks {
-        push_active(text, alloc, topology, task, ask, at_least)?;
+) {
+    for replica in replicas {
+        push_id(rt, text, "replica ", replica.id());
+        push_answer(rt, text, stale(alloc, topology, replica, ask, at_least));
+        push(rt, text, ", ");
     }
-    for replica in &state.replicas {
-        push_stale(text, alloc, topology, replica, ask, at_least)?;
-    }
-    Ok(())
 }
 
 /// What the tasks and replicas of a worker answer, which are asked for the order o1 at this position or a later one.
-pub fn lent<W: Work, G: Gate>(
+pub fn lent<R: Abort, W: Work, G: Gate>(
+    rt: &R,
     alloc: Global,
     topology: &Topology,
     state: &WorkerState<W, G>,
     at_least: u64,
-) -> Result<String, AllocError> {
+) -> String {
     let mut text = String::new(alloc);
-    if let Some(ask) = &order(alloc)? {
-        push_lent(&mut text, alloc, topology, state, ask, at_least)?;
-    }
-    Ok(text)
+    let ask = order(rt, alloc);
+    push_active(rt, alloc, &mut text, topology, &state.tasks, &ask, at_least);
+    push_stale(
+        rt,
+        alloc,
+        &mut text,
+        topology,
+        &state.replicas,
+        &ask,
+        at_least,
+    );
+    drop(ask);
+    text
 }
 
 // Whether it decides on offsets, or tells of members, places, positions or the shelf.
@@ -186,12 +227,12 @@ fn is_shown(request: &Request) -> bool {
 }
 
 /// The lines of a journal that tell of offsets that were decided on, of members, places, positions and the shelf.
-pub fn lines(alloc: Global, entries: &[Entry]) -> Result<Vec<u8>, AllocError> {
+pub fn lines<R: Abort>(rt: &R, alloc: Global, entries: &[Entry]) -> Vec<u8> {
     let mut text = Vec::new(alloc);
     for i in 0..entries.len() {
         if is_shown(&entries[i].request) {
-            push_journal(&mut text, &entries[i..i + 1])?;
+            push_journal(&mut text, &entries[i..i + 1]).expect(rt, "memory");
         }
     }
-    Ok(text)
+    text
 }

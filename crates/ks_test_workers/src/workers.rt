@@ -8,7 +8,6 @@ use ks_task_step::StepsBy;
 use std::alloc::Global;
 use std::process::Abort;
 use std::sync::Wait;
-use std::test::Fail;
 use std::thread::Threads;
 
 /// An order before its customer. Task 0_0 reads the orders (topic 1) and the responses (3), task 1_0 the customers (0) and the
@@ -491,39 +490,34 @@ const SCENES: &[Scene<'static>] = &[
     ALONE, TAKEN_OVER, OUTRUN, LEFT, LEFT_AFAR, UNDECIDED, MOVED, LENT,
 ];
 
+/// Both texts are the same.
+pub fn expect_text<R: Abort>(rt: &R, found: &[u8], expected: &[u8]) {
+    assert_eq!(rt; found, expected);
+}
+
 /// Plays a scene over the order and its customer, whose tables the drain leaves at the latest.
 pub fn play_order<R: Threads + Wait + Sync + Abort>(
     rt: &R,
     alloc: Global,
     scene: &Scene,
-) -> Result<Played, Fail> {
-    match play_job::<StepsBy<Murmur3>, R>(rt, alloc, ORDER, scene)? {
-        Some(played) => {
-            assert_eq!(rt; played.text.as_slice(), SHOWN.as_bytes());
-            Ok(played)
-        }
-        None => panic!(rt),
-    }
+) -> Played {
+    let played = play_job::<StepsBy<Murmur3>, R>(rt, alloc, ORDER, scene);
+    expect_text(rt, &played.text, SHOWN.as_bytes());
+    played
 }
 
 /// Plays a scene, and looks at its lines and at what the drain appended.
-pub fn expect<R: Threads + Wait + Sync + Abort>(
-    rt: &R,
-    alloc: Global,
-    scene: &Scene,
-) -> Result<(), Fail> {
-    let played = play_order(rt, alloc, scene)?;
+pub fn expect<R: Threads + Wait + Sync + Abort>(rt: &R, alloc: Global, scene: &Scene) {
+    let Played { lines, appends, .. } = play_order(rt, alloc, scene);
     if !scene.lines.is_empty() {
-        assert_eq!(rt; played.lines.as_slice(), scene.lines.as_bytes());
+        expect_text(rt, &lines, scene.lines.as_bytes());
     }
-    assert_eq!(rt; played.appends, scene.appends);
-    Ok(())
+    assert!(rt; appends == scene.appends);
 }
 
 #[test]
-fn scenes_of_workers(rt: HostRuntime) -> Result<(), Fail> {
+fn scenes_of_workers(rt: HostRuntime) {
     for scene in SCENES {
-        expect(&rt, rt.alloc(), scene)?;
+        expect(&rt, rt.alloc(), scene);
     }
-    Ok(())
 }
