@@ -108,7 +108,6 @@ fn clients_of<R: Abort>(rt: &R, alloc: Global, row: &Row) -> Vec<Client> {
 /// Bit 2 * t + w says that task t stands at worker w: each bit, and its task and worker.
 const PLACES: &[(u32, u8, u8)] = &[(1, 0, 0), (2, 0, 1), (4, 1, 0), (8, 1, 1)];
 
-// The places of a mask.
 fn places<R: Abort>(rt: &R, alloc: Global, mask: u32) -> Seq<(TaskId, u8)> {
     let mut made = Vec::new(alloc);
     for (bit, part, worker) in PLACES {
@@ -123,7 +122,6 @@ fn places<R: Abort>(rt: &R, alloc: Global, mask: u32) -> Seq<(TaskId, u8)> {
     Seq::of(made)
 }
 
-// Whether an assignment that goes then is good.
 fn is_checked(clients: &[Client], row: &Row, a: Assignment) -> bool {
     let is_good = check(&TASKS, clients, row.held, &row.wants, &a);
     drop(a);
@@ -147,7 +145,6 @@ fn is_good<R: Abort>(
     is_checked(clients, row, a)
 }
 
-// How many assignments by masks are good.
 fn count_good<R: Abort>(rt: &R, alloc: Global, clients: &[Client], row: &Row) -> u32 {
     let mut count: u32 = 0;
     for both in 0..256_u32 {
@@ -158,7 +155,6 @@ fn count_good<R: Abort>(rt: &R, alloc: Global, clients: &[Client], row: &Row) ->
     count
 }
 
-// Whether `assign` gives a good assignment.
 fn is_assigned<R: Abort>(rt: &R, alloc: Global, clients: &[Client], row: &Row) -> bool {
     if !(are_clients(clients) && are_tasks_apart(&TASKS)) {
         return false;

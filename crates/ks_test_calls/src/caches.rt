@@ -40,7 +40,6 @@ pub fn new_cached<R: Abort>(rt: &R, alloc: Global, capacity: u32) -> CachedStore
     }
 }
 
-// Makes a call, and tells the reply.
 fn make_call<R: Abort>(
     rt: &R,
     alloc: Global,
@@ -52,7 +51,6 @@ fn make_call<R: Abort>(
     push_replies(alloc, &replies, text)
 }
 
-// Takes a step, and tells the reply.
 fn take_step<R: Abort>(
     rt: &R,
     alloc: Global,
@@ -80,7 +78,6 @@ fn push_held(
     push_pairs(store.inner(), b"", text)
 }
 
-// Takes the steps of the table, one after another.
 fn take_steps<R: Abort>(rt: &R, alloc: Global, store: &mut CachedStore<OrderedStore>) {
     let mut text = Vec::new(alloc);
     for (step, expected) in STEPS {

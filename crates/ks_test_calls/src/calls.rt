@@ -94,7 +94,6 @@ pub enum Call {
 
 const ALL: &[&[(Call, &[u8])]] = &[LEFT, FORMS, RIGHT, NAMED, COUNTED, STORED];
 
-// The answer of a store, behind the text.
 fn push_stored<R: Abort, S: KvStore>(
     rt: &R,
     alloc: Global,
@@ -114,7 +113,6 @@ fn push_stored<R: Abort, S: KvStore>(
     }
 }
 
-// The answer to a call, behind the text.
 fn push_answer<R: Abort, S: KvStore>(
     rt: &R,
     alloc: Global,
@@ -142,7 +140,6 @@ fn push_answer<R: Abort, S: KvStore>(
     }
 }
 
-// Makes the calls on a store of their own.
 fn run_all<R: Abort, S: KvStore + Drop>(
     rt: &R,
     alloc: Global,
@@ -158,7 +155,6 @@ fn run_all<R: Abort, S: KvStore + Drop>(
     }
 }
 
-// Each store answers the same.
 fn run_on_each<R: Abort>(rt: &R, alloc: Global, given: &Given, calls: &[(Call, &[u8])]) {
     run_all(rt, alloc, given, PlainStore::new(alloc), calls);
     run_all(rt, alloc, given, OrderedStore::new(alloc, 1), calls);

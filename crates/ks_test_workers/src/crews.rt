@@ -50,7 +50,6 @@ fn lock<R: Abort, W: Work>(
     }
 }
 
-// The acts with which the turns of one of the workers end.
 fn acts_of<R: Abort>(rt: &R, alloc: Global, moves: &[Move], who: Who) -> Vec<Act> {
     let mut acts = Vec::new(alloc);
     for step in moves {
@@ -134,7 +133,6 @@ fn make_move<H: Processing, R: Wait + Abort, W: Work, G: Gate>(
     }
 }
 
-// One of two workers does what a move says.
 fn move_one_of<H: Processing, R: Wait + Abort, W: Work, G: Gate>(
     rt: &R,
     alloc: Global,
@@ -210,7 +208,6 @@ fn pass_of<R: Abort, W: Work, G: Gate>(
     }
 }
 
-// The cluster, for all passes.
 fn close<R: Abort, W: Work, G: Gate>(
     rt: &R,
     alloc: Global,

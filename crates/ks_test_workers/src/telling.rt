@@ -14,17 +14,14 @@ use ks_worker_state::{WorkerState, changelogs_in, inputs_in};
 use std::alloc::{AllocError, Global};
 use std::process::Abort;
 
-// Puts words behind a text.
 fn push<R: Abort>(rt: &R, text: &mut String, words: &str) {
     text.push_str(words).expect(rt, "memory");
 }
 
-// Puts words and a number behind a text.
 fn push_number<R: Abort>(rt: &R, text: &mut String, words: &str, number: u64) {
     write!(text, "{words}{number}").expect(rt, "memory");
 }
 
-// Puts words and the name of a task behind a text.
 fn push_id<R: Abort>(rt: &R, text: &mut String, words: &str, id: TaskId) {
     push_number(rt, text, words, u64::from(id.sub));
     push_number(rt, text, "_", u64::from(id.part));
@@ -93,7 +90,6 @@ pub fn told<R: Abort, W: Work, G: Gate>(
     text
 }
 
-// The amount of an order.
 fn push_amount<R: Abort>(rt: &R, text: &mut String, row: &Row) {
     match row.get(b"amt") {
         Some(FieldRef::Int(amount)) => { write!(text, " has {amount}").expect(rt, "memory") },
@@ -101,7 +97,6 @@ fn push_amount<R: Abort>(rt: &R, text: &mut String, row: &Row) {
     }
 }
 
-// An answer that was found.
 fn push_found<R: Abort>(rt: &R, text: &mut String, answer: &Answer) {
     match &answer.value {
         Some(row) => push_amount(rt, text, row),
@@ -110,7 +105,6 @@ fn push_found<R: Abort>(rt: &R, text: &mut String, answer: &Answer) {
     push_number(rt, text, " at ", answer.position);
 }
 
-// A question that has no answer.
 fn push_fault<R: Abort>(rt: &R, text: &mut String, fault: &IqFault) {
     match *fault {
         IqFault::WrongTask { owner } => push_id(rt, text, " isn't ", owner),
@@ -120,7 +114,6 @@ fn push_fault<R: Abort>(rt: &R, text: &mut String, fault: &IqFault) {
     }
 }
 
-// What is answered, which goes.
 fn push_answer<R: Abort>(
     rt: &R,
     text: &mut String,
@@ -134,7 +127,6 @@ fn push_answer<R: Abort>(
     drop(answer);
 }
 
-// How many writes the stores of a task hold back.
 fn push_held<R: Abort>(rt: &R, text: &mut String, topology: &Topology, task: &Task) {
     push(rt, text, " and holds");
     for log in changelogs_in(topology, task.id().sub) {
@@ -142,7 +134,6 @@ fn push_held<R: Abort>(rt: &R, text: &mut String, topology: &Topology, task: &Ta
     }
 }
 
-// The order o1.
 fn order<R: Abort>(rt: &R, alloc: Global) -> Ask {
     let Ok(Some(node)) = Name::of(alloc, b"o") else {
         rt.abort()
@@ -157,7 +148,6 @@ fn order<R: Abort>(rt: &R, alloc: Global) -> Ask {
     }
 }
 
-// What the tasks answer, and hold back.
 fn push_active<R: Abort>(
     rt: &R,
     alloc: Global,
@@ -175,7 +165,6 @@ fn push_active<R: Abort>(
     }
 }
 
-// What the replicas answer.
 fn push_stale<R: Abort>(
     rt: &R,
     alloc: Global,
