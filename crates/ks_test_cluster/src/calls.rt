@@ -286,8 +286,9 @@ fn assign(
         return not_made(alloc);
     }
     let a = active(alloc, w)?;
-    let outcome = cluster.assign(alloc, w, generation, &a)?;
-    truth_text(alloc, outcome)
+    let outcome = cluster.assign(alloc, w, generation, &a);
+    drop(a);
+    truth_text(alloc, outcome?)
 }
 
 fn hold(
@@ -475,7 +476,9 @@ fn status_text(alloc: Global, status: &Status) -> Result<String, AllocError> {
 
 fn status(alloc: Global, cluster: &Cluster<Copying>) -> Result<String, AllocError> {
     let status = cluster.status(alloc)?;
-    status_text(alloc, &status)
+    let text = status_text(alloc, &status);
+    drop(status);
+    text
 }
 
 // Makes a call that reads, and answers with a text.

@@ -65,7 +65,9 @@ fn assign(alloc: Global, cluster: &mut Cluster<Copying>, rec: &Rec) -> Result<()
     ensures { OnOk result (Stands 4 rec.now cluster.new) }
 {
     let a = active(alloc, 0)?;
-    assign_by(alloc, cluster, rec, &a)
+    let assigned = assign_by(alloc, cluster, rec, &a);
+    drop(a);
+    assigned
 }
 
 fn add(alloc: Global, cluster: &mut Cluster<Copying>, rec: &Rec) -> Result<(), AllocError>

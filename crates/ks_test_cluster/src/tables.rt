@@ -1,6 +1,6 @@
 //! Tables of calls with their answers.
 
-ghost use Rattle.std.specs.Prelude.{◌≡◌, ◌∷◌, [], IfOk, OnOk};
+ghost use Rattle.std.specs.Prelude.{◌≡◌, ◌∷◌, [], IfOk};
 ghost use Rattle.ks_record.specs.Records.{record_seen};
 ghost use Rattle.ks_test_cluster.specs.Ours.{IsOurs};
 
@@ -8,11 +8,11 @@ use crate::calls::{Call, answer};
 use crate::commit::{Stage, reach};
 use crate::copying::{Copying, new_cluster};
 use ks_cluster::Cluster;
+use ks_history::Entry;
 use ks_journal::push_journal;
 use ks_record::{Rec, RecordList, RecordRef, SharedRecords};
 use std::alloc::{AllocError, Global};
 use std::process::Abort;
-use std::test::Fail;
 
 /// One record, alone and as a list.
 #[derive(Drop)]
@@ -29,19 +29,22 @@ fn list_of(alloc: Global, one: RecordRef<'_>) -> Result<SharedRecords, AllocErro
     SharedRecords::of(alloc, list)
 }
 
-/// The record of key a with the row `{"n":1}`.
-pub fn record(alloc: Global) -> Result<OneRecord, AllocError>
-    ensures { IfOk result (λ r. r.list ≡ r.rec ∷ []) }
+/// The record of key a with the row `{"n":1}`; want of memory ends the test.
+pub fn record<R: Abort>(rt: &R, alloc: Global) -> OneRecord
+    ensures { result.list ≡ result.rec ∷ [] }
 {
     let one = RecordRef {
         key: Some(b"a".as_slice()),
         value: Some(b"\x01\x01n\x00\x00\x00\x00\x00\x00\x00\x00\x01".as_slice()),
         ts: 0,
     };
-    Ok(OneRecord {
-        rec: Rec::of(alloc, one)?,
-        list: list_of(alloc, one)?,
-    })
+    let Ok(rec) = Rec::of(alloc, one) else {
+        rt.abort()
+    };
+    match list_of(alloc, one) {
+        Ok(list) => OneRecord { rec, list },
+        Err(_) => rt.abort(),
+    }
 }
 
 /// A worker comes back after it was expired, and finds its transaction aborted.
@@ -297,6 +300,11 @@ const AFTER: &[(Call, &str)] = &[
     (Call::Produce { topic: 0 }, "1"),
 ];
 
+/// Both texts are the same.
+pub fn expect_text<R: Abort>(rt: &R, found: &[u8], expected: &[u8]) {
+    assert_eq!(rt; found, expected);
+}
+
 // Makes a call, whose answer is this.
 fn run_call<R: Abort>(
     rt: &R,
@@ -305,13 +313,14 @@ fn run_call<R: Abort>(
     recs: &OneRecord,
     call: &Call,
     expected: &str,
-) -> Result<(), Fail>
+)
     requires { IsOurs cluster.old }
-    ensures { OnOk result (IsOurs cluster.new) }
+    ensures { IsOurs cluster.new }
 {
-    let told = answer(alloc, cluster, recs, call)?;
-    assert_eq!(rt; told.as_str(), expected);
-    Ok(())
+    match answer(alloc, cluster, recs, call) {
+        Ok(told) => expect_text(rt, told.as_bytes(), expected.as_bytes()),
+        Err(_) => rt.abort(),
+    }
 }
 
 // Makes the calls of a table, one after another.
@@ -321,13 +330,12 @@ fn run_all<R: Abort>(
     cluster: &mut Cluster<Copying>,
     recs: &OneRecord,
     table: &[(Call, &str)],
-) -> Result<(), Fail>
+)
     requires { IsOurs cluster.old }
 {
     for (call, expected) in table {
-        run_call(rt, alloc, cluster, recs, call, expected)?;
+        run_call(rt, alloc, cluster, recs, call, expected);
     }
-    Ok(())
 }
 
 // A new cluster comes as far as this, and then the calls of a table have their answers.
@@ -338,13 +346,26 @@ fn run_from<R: Abort>(
     recs: &OneRecord,
     stage: Stage,
     table: &[(Call, &str)],
-) -> Result<(), Fail>
+)
     requires ours { IsOurs cluster.old }
     requires new { cluster.old.journal ≡ [] }
     requires one { recs.now.list ≡ recs.now.rec ∷ [] }
 {
-    reach(alloc, cluster, recs, stage)?;
-    run_all(rt, alloc, cluster, recs, table)
+    match reach(alloc, cluster, recs, stage) {
+        Ok(()) => run_all(rt, alloc, cluster, recs, table),
+        Err(_) => rt.abort(),
+    }
+}
+
+/// A new cluster; want of memory ends the test.
+pub fn fresh<R: Abort>(rt: &R, alloc: Global) -> Cluster<Copying>
+    ensures ours { IsOurs result }
+    ensures new { result.journal ≡ [] }
+{
+    match new_cluster(alloc) {
+        Ok(cluster) => cluster,
+        Err(_) => rt.abort(),
+    }
 }
 
 // The same on a cluster that goes then.
@@ -354,81 +375,48 @@ fn run_table<R: Abort>(
     recs: &OneRecord,
     stage: Stage,
     table: &[(Call, &str)],
-) -> Result<(), Fail>
+)
     requires { recs.now.list ≡ recs.now.rec ∷ [] }
 {
-    let mut cluster = new_cluster(alloc)?;
-    run_from(rt, alloc, &mut cluster, recs, stage, table)
+    let mut cluster = fresh(rt, alloc);
+    run_from(rt, alloc, &mut cluster, recs, stage, table);
+    drop(cluster);
 }
 
 // The journal tells this, a line for each call that writes.
-fn expect_journal<R: Abort>(
-    rt: &R,
-    alloc: Global,
-    cluster: &Cluster<Copying>,
-    expected: &str,
-) -> Result<(), Fail> {
+fn expect_journal<R: Abort>(rt: &R, alloc: Global, entries: &[Entry], expected: &str) {
     let mut text = Vec::new(alloc);
-    push_journal(&mut text, cluster.journal())?;
-    assert_eq!(rt; text.as_slice(), expected.as_bytes());
-    Ok(())
-}
-
-// The calls of a table have their answers, and the journal tells this then.
-fn expect_calls<R: Abort>(
-    rt: &R,
-    alloc: Global,
-    cluster: &mut Cluster<Copying>,
-    recs: &OneRecord,
-    table: &[(Call, &str)],
-    journal: &str,
-) -> Result<(), Fail>
-    requires { IsOurs cluster.old }
-{
-    run_all(rt, alloc, cluster, recs, table)?;
-    expect_journal(rt, alloc, cluster, journal)
-}
-
-// A commit's journal tells this.
-fn expect_commit<R: Abort>(
-    rt: &R,
-    alloc: Global,
-    cluster: &mut Cluster<Copying>,
-    recs: &OneRecord,
-    journal: &str,
-) -> Result<(), Fail>
-    requires ours { IsOurs cluster.old }
-    requires new { cluster.old.journal ≡ [] }
-    requires one { recs.now.list ≡ recs.now.rec ∷ [] }
-{
-    reach(alloc, cluster, recs, Stage::Marked)?;
-    expect_journal(rt, alloc, cluster, journal)
+    push_journal(&mut text, entries).expect(rt, "memory");
+    expect_text(rt, text.as_slice(), expected.as_bytes());
 }
 
 #[test]
-fn calls_and_answers(rt: HostRuntime) -> Result<(), Fail> {
-    let alloc = rt.alloc();
-    let recs = record(alloc)?;
-    run_table(&rt, alloc, &recs, Stage::New, OTHERS)?;
-    run_table(&rt, alloc, &recs, Stage::Sent, BEFORE)?;
-    run_table(&rt, alloc, &recs, Stage::Decided, BETWEEN)?;
-    run_table(&rt, alloc, &recs, Stage::Marked, AFTER)
+fn calls_and_answers(rt: HostRuntime) {
+    let recs = record(&rt, rt.alloc());
+    run_table(&rt, rt.alloc(), &recs, Stage::New, OTHERS);
+    run_table(&rt, rt.alloc(), &recs, Stage::Sent, BEFORE);
+    run_table(&rt, rt.alloc(), &recs, Stage::Decided, BETWEEN);
+    run_table(&rt, rt.alloc(), &recs, Stage::Marked, AFTER);
+    drop(recs);
 }
 
 #[test]
-fn zombie_and_its_journal(rt: HostRuntime) -> Result<(), Fail> {
-    let alloc = rt.alloc();
-    let recs = record(alloc)?;
-    let mut cluster = new_cluster(alloc)?;
-    expect_calls(&rt, alloc, &mut cluster, &recs, ZOMBIE, ZOMBIE_JOURNAL)
+fn zombie_and_its_journal(rt: HostRuntime) {
+    let recs = record(&rt, rt.alloc());
+    let mut cluster = fresh(&rt, rt.alloc());
+    run_all(&rt, rt.alloc(), &mut cluster, &recs, ZOMBIE);
+    drop(recs);
+    expect_journal(&rt, rt.alloc(), cluster.journal(), ZOMBIE_JOURNAL);
+    drop(cluster);
 }
 
 #[test]
-fn one_commit(rt: HostRuntime) -> Result<(), Fail> {
-    let alloc = rt.alloc();
-    let recs = record(alloc)?;
-    let mut cluster = new_cluster(alloc)?;
-    expect_commit(&rt, alloc, &mut cluster, &recs, COMMIT_JOURNAL)?;
-    assert_eq!(rt; cluster.into_journal().len(), 9);
-    Ok(())
+fn one_commit(rt: HostRuntime) {
+    let recs = record(&rt, rt.alloc());
+    let mut cluster = fresh(&rt, rt.alloc());
+    run_from(&rt, rt.alloc(), &mut cluster, &recs, Stage::Marked, &[]);
+    drop(recs);
+    let journal = cluster.into_journal();
+    expect_journal(&rt, rt.alloc(), journal.as_slice(), COMMIT_JOURNAL);
+    assert!(rt; journal.len() == 9);
 }

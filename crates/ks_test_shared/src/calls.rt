@@ -12,6 +12,7 @@ use ks_shared::{Barred, Shared, SharedState};
 use ks_standby::Replica;
 use ks_test_cluster::copying::{Copying, TASK};
 use std::alloc::{AllocError, AllocFailed, Global};
+use std::process::Abort;
 use std::sync::Wait;
 
 const CHANGELOG: PartId = PartId { topic: 1, part: 0 };
@@ -135,22 +136,28 @@ pub fn fetch<R: Wait>(
     shared.fetch(rt, alloc, PartId { topic, part: 0 }, 0, 1000, pass)
 }
 
-/// A replica that was fed all that is readable of its changelog.
-pub fn feed<R: Wait>(
+/// A replica that was fed all that is readable of its changelog; want of memory ends the test.
+pub fn feed<R: Wait + Abort>(
     rt: &R,
     alloc: Global,
     shared: &Shared<Copying>,
     pass: &mut Pass<SharedState<Copying>>,
-) -> Result<Replica, AllocError>
+) -> Replica
     requires ours { IsOurs shared.now.growing.id pass.old }
     ensures ours { IsOurs shared.now.growing.id pass.new }
     ensures number { pass.new.number ≡ pass.old.number }
-    ensures follows { IfOk result (λ r. IsReplicaOf setup pass.new.seen the_task r) }
+    ensures follows { IsReplicaOf setup pass.new.seen the_task result }
 {
-    let (recs, next) = fetch(rt, alloc, shared, 1, pass)?;
-    let mut replica = Replica::new(alloc, TASK, &[1], 1)?;
-    replica.feed(1, recs, next)?;
-    Ok(replica)
+    let Ok((recs, next)) = fetch(rt, alloc, shared, 1, pass) else {
+        rt.abort()
+    };
+    let Ok(mut replica) = Replica::new(alloc, TASK, &[1], 1) else {
+        rt.abort()
+    };
+    match replica.feed(1, recs, next) {
+        Ok(()) => replica,
+        Err(_) => rt.abort(),
+    }
 }
 
 /// Parks a replica at instance 0; after want of memory it comes back.

@@ -1,12 +1,14 @@
-//! A lock with three passes.
-ghost use Rattle.std.specs.Prelude.{◌≡◌, IfOk};
+//! A lock with three passes. Want of memory ends the test.
+ghost use Rattle.std.specs.Prelude.{◌≡◌, [], length};
+ghost use Rattle.ks_growing.specs.Passes.{Each, IsFresh};
+ghost use Rattle.ks_shared.specs.Calls.{frame_of};
 ghost use Rattle.ks_test_shared.specs.Ours.{IsOurs};
 
 use ks_cluster::Cluster;
 use ks_growing::Pass;
 use ks_shared::{Shared, SharedState};
 use ks_test_cluster::copying::{Copying, new_cluster};
-use std::alloc::{AllocError, Global};
+use std::alloc::Global;
 use std::process::Abort;
 
 /// The lock round a cluster of the copying task, and its passes.
@@ -18,30 +20,48 @@ pub struct Locked {
     pub third: Pass<SharedState<Copying>>,
 }
 
-/// A new cluster behind its lock, with three passes, numbered from 0.
-pub fn new_locked(alloc: Global) -> Result<Locked, AllocError>
-    ensures passes { IfOk result (λ l. l.shared.growing.passes ≡ 3) }
-    ensures first { IfOk result (λ l. IsOurs l.shared.growing.id l.first × (l.first.number ≡ 0)) }
-    ensures second { IfOk result (λ l. IsOurs l.shared.growing.id l.second
-        × (l.second.number ≡ 1)) }
-    ensures third { IfOk result (λ l. IsOurs l.shared.growing.id l.third × (l.third.number ≡ 2)) }
+// Puts a new cluster under a lock for three passes.
+fn lock<R: Abort>(
+    rt: &R,
+    alloc: Global,
+    cluster: Cluster<Copying>,
+) -> (Shared<Copying>, Vec<Pass<SharedState<Copying>>>)
+    requires new { cluster.journal ≡ [] }
+    ensures passes { result.0.growing.passes ≡ 3 }
+    ensures count { length result.1.items ≡ 3 }
+    ensures fresh { Each (IsFresh result.0.growing.id cluster.journal (frame_of cluster))
+        result.1.items }
 {
-    let cluster = new_cluster(alloc)?;
-    let made = Shared::new(alloc, cluster, 3)?;
-    let (shared, mut passes) = made;
+    match Shared::new(alloc, cluster, 3) {
+        Ok(made) => made,
+        Err(_) => rt.abort(),
+    }
+}
+
+/// A new cluster behind its lock, with three passes, numbered from 0.
+pub fn new_locked<R: Abort>(rt: &R, alloc: Global) -> Locked
+    ensures passes { result.shared.growing.passes ≡ 3 }
+    ensures first { IsOurs result.shared.growing.id result.first × (result.first.number ≡ 0) }
+    ensures second { IsOurs result.shared.growing.id result.second × (result.second.number ≡ 1) }
+    ensures third { IsOurs result.shared.growing.id result.third × (result.third.number ≡ 2) }
+{
+    let Ok(cluster) = new_cluster(alloc) else {
+        rt.abort()
+    };
+    let (shared, mut passes) = lock(rt, alloc, cluster);
     let first = passes.remove(0);
     let second = passes.remove(0);
     let third = passes.remove(0);
-    Ok(Locked {
+    Locked {
         shared,
         first,
         second,
         third,
-    })
+    }
 }
 
-/// The cluster, for all passes.
-pub fn close(alloc: Global, locked: Locked) -> Result<Cluster<Copying>, AllocError>
+/// How many entries the cluster has, for all passes.
+pub fn close<R: Abort>(rt: &R, alloc: Global, locked: Locked) -> u64
     requires passes { locked.shared.growing.passes ≡ 3 }
     requires first { IsOurs locked.shared.growing.id locked.first × (locked.first.number ≡ 0) }
     requires second { IsOurs locked.shared.growing.id locked.second × (locked.second.number ≡ 1) }
@@ -53,8 +73,13 @@ pub fn close(alloc: Global, locked: Locked) -> Result<Cluster<Copying>, AllocErr
         second,
         third,
     } = locked;
-    let passes = vec![in alloc; first, second, third]?;
-    Ok(shared.close(passes))
+    let Ok(passes) = vec![in alloc; first, second, third] else {
+        rt.abort()
+    };
+    let cluster = shared.close(passes);
+    let length = cluster.journal().len() as u64;
+    drop(cluster);
+    length
 }
 
 /// Both numbers are the same.
@@ -65,33 +90,4 @@ pub fn expect_number<R: Abort>(rt: &R, found: u64, expected: u64) {
 /// Both texts are the same.
 pub fn expect_text<R: Abort>(rt: &R, found: &str, expected: &str) {
     assert_eq!(rt; found, expected);
-}
-
-// A cluster that was closed has so many entries.
-fn expect_length<R: Abort>(
-    rt: &R,
-    closed: Result<Cluster<Copying>, AllocError>,
-    expected: u64,
-) -> Result<(), AllocError> {
-    let cluster = closed?;
-    let length = cluster.journal().len();
-    drop(cluster);
-    expect_number(rt, length as u64, expected);
-    Ok(())
-}
-
-/// Where all ran, a cluster that was closed has so many entries.
-pub fn expect_closed<R: Abort>(
-    rt: &R,
-    ran: Result<(), AllocError>,
-    closed: Result<Cluster<Copying>, AllocError>,
-    expected: u64,
-) -> Result<(), AllocError> {
-    match ran {
-        Ok(()) => expect_length(rt, closed, expected),
-        Err(failed) => {
-            drop(closed);
-            Err(failed)
-        }
-    }
 }

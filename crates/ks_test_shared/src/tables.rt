@@ -3,14 +3,13 @@ ghost use Rattle.std.specs.Prelude.{◌≡◌};
 ghost use Rattle.ks_test_shared.specs.Ours.{IsOurs};
 
 use crate::calls::{abort, add, append, feed, init, mark, park, unpark};
-use crate::passes::{close, expect_closed, expect_text, new_locked};
+use crate::passes::{close, expect_number, expect_text, new_locked};
 use ks_growing::Pass;
 use ks_shared::{Barred, Shared, SharedState};
 use ks_test_cluster::copying::Copying;
 use std::alloc::{AllocError, Global};
 use std::process::Abort;
 use std::sync::Wait;
-use std::test::Fail;
 
 #[derive(Clone, Copy)]
 enum Call {
@@ -39,11 +38,16 @@ const CALLS: &[(bool, Call, &str)] = &[
     (false, Call::Unpark, "none"),
 ];
 
-fn told(alloc: Global, outcome: Result<(), Barred>, last: u64) -> Result<String, AllocError> {
+fn told<T: Copy>(
+    alloc: Global,
+    outcome: Result<Result<T, Barred>, AllocError>,
+    last: u64,
+) -> Result<String, AllocError> {
     match outcome {
-        Ok(()) => format!(in alloc; "done, last {last}"),
-        Err(Barred::Touched { at }) => format!(in alloc; "touched {at}, last {last}"),
-        Err(Barred::Refused(refused)) => format!(in alloc; "{refused}, last {last}"),
+        Ok(Ok(_)) => format!(in alloc; "done, last {last}"),
+        Ok(Err(Barred::Touched { at })) => format!(in alloc; "touched {at}, last {last}"),
+        Ok(Err(Barred::Refused(refused))) => format!(in alloc; "{refused}, last {last}"),
+        Err(error) => Err(error),
     }
 }
 
@@ -61,15 +65,15 @@ fn own<R: Wait>(
 {
     match call {
         Call::Add => {
-            let outcome = add(rt, alloc, shared, last, pass)?;
+            let outcome = add(rt, alloc, shared, last, pass);
             told(alloc, outcome, *last)
         }
         Call::Append => {
-            let outcome = append(rt, alloc, shared, last, pass)?;
-            told(alloc, outcome.map(|_| ()), *last)
+            let outcome = append(rt, alloc, shared, last, pass);
+            told(alloc, outcome, *last)
         }
         Call::Abort => {
-            let outcome = abort(rt, alloc, shared, last, pass)?;
+            let outcome = abort(rt, alloc, shared, last, pass);
             told(alloc, outcome, *last)
         }
         _ => {
@@ -95,7 +99,7 @@ fn write_marker<R: Wait>(
     }
 }
 
-fn park_fed<R: Wait>(
+fn park_fed<R: Wait + Abort>(
     rt: &R,
     alloc: Global,
     shared: &Shared<Copying>,
@@ -105,10 +109,12 @@ fn park_fed<R: Wait>(
     ensures ours { IsOurs shared.now.growing.id pass.new }
     ensures number { pass.new.number ≡ pass.old.number }
 {
-    let replica = feed(rt, alloc, shared, pass)?;
+    let replica = feed(rt, alloc, shared, pass);
     let position = replica.position(1);
-    park(rt, alloc, shared, replica, pass)?;
-    format!(in alloc; "parked at {position}")
+    match park(rt, alloc, shared, replica, pass) {
+        Ok(()) => format!(in alloc; "parked at {position}"),
+        Err(_) => rt.abort(),
+    }
 }
 
 fn take_back<R: Wait>(
@@ -131,7 +137,7 @@ fn take_back<R: Wait>(
     }
 }
 
-fn answer<R: Wait>(
+fn answer<R: Wait + Abort>(
     rt: &R,
     alloc: Global,
     shared: &Shared<Copying>,
@@ -151,13 +157,21 @@ fn answer<R: Wait>(
     }
 }
 
+// What was told is this.
+fn expect_told<R: Abort>(rt: &R, told: Result<String, AllocError>, expected: &str) {
+    match &told {
+        Ok(told) => expect_text(rt, told, expected),
+        Err(_) => rt.abort(),
+    }
+}
+
 fn run_all<R: Wait + Abort>(
     rt: &R,
     alloc: Global,
     shared: &Shared<Copying>,
     first: &mut Pass<SharedState<Copying>>,
     second: &mut Pass<SharedState<Copying>>,
-) -> Result<(), AllocError>
+)
     requires first { IsOurs shared.now.growing.id first.old }
     requires second { IsOurs shared.now.growing.id second.old }
     ensures first { IsOurs shared.now.growing.id first.new × (first.new.number ≡ first.old.number) }
@@ -168,26 +182,24 @@ fn run_all<R: Wait + Abort>(
     let mut other = 0;
     for (is_first, call, expected) in CALLS {
         let told = if *is_first {
-            answer(rt, alloc, shared, *call, &mut last, first)?
+            answer(rt, alloc, shared, *call, &mut last, first)
         } else {
-            answer(rt, alloc, shared, *call, &mut other, second)?
+            answer(rt, alloc, shared, *call, &mut other, second)
         };
-        expect_text(rt, told.as_str(), expected);
+        expect_told(rt, told, expected);
     }
-    Ok(())
 }
 
 #[test]
-fn calls_and_answers(rt: HostRuntime) -> Result<(), Fail> {
+fn calls_and_answers(rt: HostRuntime) {
     let alloc = rt.alloc();
-    let mut locked = new_locked(alloc)?;
-    let ran = run_all(
+    let mut locked = new_locked(&rt, alloc);
+    run_all(
         &rt,
         alloc,
         &locked.shared,
         &mut locked.first,
         &mut locked.second,
     );
-    expect_closed(&rt, ran, close(alloc, locked), 8)?;
-    Ok(())
+    expect_number(&rt, close(&rt, alloc, locked), 8);
 }
