@@ -16,7 +16,7 @@ pub enum AuditFault {
 }
 
 /// Why a line isn't taken: its fault, or want of memory.
-#[derive(Debug, Clone, Copy, PartialEq, Eq)]
+#[derive(Clone, Copy, PartialEq, Eq)]
 pub(crate) enum LineStop {
     Fault(AuditFault),
     Memory,

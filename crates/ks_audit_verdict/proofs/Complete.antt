@@ -18,7 +18,7 @@ use Rattle.ks_law_topology.specs.Work.{setup_of}
 use Rattle.ks_law_settled.specs.Settled.{end_of}
 use Rattle.ks_journal.specs.Fits.{FitsJournal}
 use Rattle.ks_journal.proofs.LineAgain.{one_line}
-use Rattle.ks_audit_source.specs.Cutting.{HasNoEnd}
+use Rattle.ks_job_source.specs.Cutting.{HasNoEnd}
 use Rattle.ks_audit_verdict.specs.Lines.{ended, lines_text, Leads}
 use Rattle.ks_audit.specs.Audited.{IsPlaced, IsUnfaithful}
 use Rattle.ks_audit_verdict.specs.declared.fault.OutputFault.{OutputFault}

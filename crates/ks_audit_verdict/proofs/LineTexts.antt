@@ -26,7 +26,7 @@ use Rattle.ks_journal.proofs.DataAgain.{IsSimple, AreSimple}
 use Rattle.ks_journal.proofs.JournalAgain.{digit_above, short_above}
 use Rattle.ks_journal.proofs.LineAgain.{entry_simple}
 use Rattle.ks_table_line.specs.Fitting.{HasStart, FitsTableRow}
-use Rattle.ks_audit_source.specs.Cutting.{HasNoEnd}
+use Rattle.ks_job_source.specs.Cutting.{HasNoEnd}
 use Rattle.ks_audit_verdict.proofs.Chains.{no_end_both}
 
 above : (c : ℕ) (cs : List ℕ) → 10 < c → HasNoEnd cs → HasNoEnd (c ∷ cs)

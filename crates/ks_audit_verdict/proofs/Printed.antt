@@ -10,7 +10,7 @@ use Rattle.ks_query.specs.Printed.{head_line, row_line, row_data, table_text, ta
 use Rattle.ks_history.specs.declared.journal.Entry.{Entry}
 use Rattle.ks_journal.specs.Lines.{entry_text, line_text, journal_text}
 use Rattle.serde_json.specs.Written.{compact_text}
-use Rattle.ks_audit_source.specs.Cutting.{HasNoEnd}
+use Rattle.ks_job_source.specs.Cutting.{HasNoEnd}
 use Rattle.ks_audit_verdict.specs.Lines.{ended}
 use Rattle.ks_journal.specs.Fits.{FitsEntry, FitsJournal}
 use Rattle.ks_table_line.specs.Fitting.{IsRowLine}

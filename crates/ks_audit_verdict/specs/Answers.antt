@@ -9,7 +9,7 @@ use Rattle.ks_job_source.specs.Texts.{bad_job_text}
 use Rattle.ks_run_output.specs.Texts.{read_fault_text}
 use Rattle.ks_audit_verdict.specs.declared.fault.OutputFault.{OutputFault}
 use Rattle.ks_audit_verdict.specs.declared.fault.OutputFault.TheVariants.{NotJournal}
-use Rattle.ks_audit_source.specs.TopologyLines.{EndsTopology, StopsAt, StopsAtEnd, LacksEnd, LacksTopology}
+use Rattle.ks_job_source.specs.TopologyLines.{EndsTopology, StopsAt, StopsAtEnd, LacksEnd, LacksTopology}
 use Rattle.ks_audit_verdict.specs.Audited.{HoldsAudited}
 use Rattle.ks_audit_verdict.specs.Places.{BeginsAt}
 use Rattle.ks_audit_verdict.specs.Places.Place.{first_line}

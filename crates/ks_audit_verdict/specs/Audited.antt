@@ -13,7 +13,7 @@ use Rattle.ks_law_settled.specs.Settled.{IsRunOf, end_of}
 use Rattle.ks_journal.specs.Lines.{journal_text}
 use Rattle.ks_journal.specs.Fits.{FitsJournal}
 use Rattle.ks_run_output.specs.Texts.{settled_text}
-use Rattle.ks_audit_source.specs.TopologyLines.{EndsTopology}
+use Rattle.ks_job_source.specs.TopologyLines.{EndsTopology}
 use Rattle.ks_audit_verdict.specs.Lines.{IsWithinMost}
 
 -- a journal that settles a job whose records it has produced, and no other; the text has its tables, which are the query's, and its lines

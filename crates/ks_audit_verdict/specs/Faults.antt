@@ -17,7 +17,7 @@ use Rattle.ks_settle_report.specs.Report.{lags_of}
 use Rattle.ks_journal.specs.Lines.{journal_text}
 use Rattle.ks_audit_verdict.specs.declared.fault.OutputFault.{OutputFault}
 use Rattle.ks_audit_verdict.specs.declared.fault.OutputFault.TheVariants.{TooLong, NotJournal, NotSettled, Collision, Late, WrongTable}
-use Rattle.ks_audit_source.specs.Cutting.{HasNoEnd}
+use Rattle.ks_job_source.specs.Cutting.{HasNoEnd}
 use Rattle.ks_audit_verdict.specs.Lines.{IsPlain, lines_text}
 use Rattle.ks_audit_verdict.specs.Places.{Place, TakesLines, RefusesAt}
 use Rattle.ks_audit_verdict.specs.Places.Place.{first_line, journal_line}

@@ -1,7 +1,7 @@
 -- Bytes as lines, each with its LF behind it.
 use Rattle.std.specs.Prelude.{◌≡◌, ◌+◌, ◌≤◌, ℕ, List, [], ◌∷◌, ◌++◌, length}
 use Rattle.std.specs.List.{flat_map}
-use Rattle.ks_audit_source.specs.Cutting.{HasNoEnd}
+use Rattle.ks_job_source.specs.Cutting.{HasNoEnd}
 
 -- the bytes of a line without its end, of which it has at most 67,108,864
 abbrev pub IsPlain : List ℕ → Type 0

@@ -4,7 +4,7 @@ ghost use Rattle.ks_edge.specs.Counts.{stops_of, calls_of, one_if, HasRoom};
 
 /// What a gate sees of a worker before its next act. `turn`, `dirty` and `dry` stay at their type's greatest value where
 /// they would pass it.
-#[derive(Clone, Copy, PartialEq, Eq, Debug)]
+#[derive(Clone, Copy, PartialEq, Eq)]
 pub struct TurnView {
     /// The worker's number.
     pub worker: u8,
@@ -24,7 +24,7 @@ pub struct TurnView {
 }
 
 /// What a worker may be told to do.
-#[derive(Clone, Copy, PartialEq, Eq, Debug)]
+#[derive(Clone, Copy, PartialEq, Eq)]
 pub enum Act {
     /// Take records of a task, which the number picks.
     Work(u32),

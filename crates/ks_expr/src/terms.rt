@@ -2,7 +2,7 @@
 use ks_record::{Name, Seq, Text};
 
 /// Which keys a join has a row for: those that both sides have, those of the left side, or those of at least one side.
-#[derive(Clone, Copy, PartialEq, Eq, Debug)]
+#[derive(Clone, Copy, PartialEq, Eq)]
 pub enum JoinKind {
     Inner,
     Left,
@@ -10,7 +10,7 @@ pub enum JoinKind {
 }
 
 /// A value that is computed from one row, or from the two rows of a join.
-#[derive(Drop, Debug)]
+#[derive(Drop)]
 pub enum Expr {
     /// A field of the one row.
     Field(Name),
@@ -27,7 +27,7 @@ pub enum Expr {
 }
 
 /// A condition on a row.
-#[derive(Drop, Debug)]
+#[derive(Drop)]
 pub enum Pred {
     /// The value is there.
     Has(Expr),
@@ -41,7 +41,7 @@ pub enum Pred {
 }
 
 /// What gives the foreign key of a left row of a join.
-#[derive(Drop, Debug)]
+#[derive(Drop)]
 pub enum Fk {
     /// The key that this field of the row gives.
     Field(Name),

@@ -26,7 +26,7 @@ const DELETE_AND_ANSWER: u8 = 1;
 const ANSWER: u8 = 2;
 
 /// What a response does to the join's result.
-#[derive(Drop, Debug)]
+#[derive(Drop)]
 pub enum Answer {
     /// It answers an older left row: the result stays.
     Stale,

@@ -25,7 +25,7 @@ use Rattle.ks_plan.specs.declared.node.Topic.TheVariants.{Changelog}
 use Rattle.ks_plan.specs.Layout.{number_of}
 use Rattle.ks_iq.specs.Asks.{node_of, kept_at, log_of, task_of, part_of_ask, value_in, store_fault, ask_fault, if_there, if_own, if_fine, lent_answer}
 use Rattle.ks_iq.specs.Reads.{IsRead, ReadsTopology}
-use Rattle.ks_settle_tables.proofs.Named.{kinds_all, own_number}
+use Rattle.ks_settle.proofs.Named.{kinds_all, own_number}
 
 -- ---- what an answer tells
 record Told (d : DraftView) (r : ReplicaView) (a : Ask) (x : Answer) : Type 0 where

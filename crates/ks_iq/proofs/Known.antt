@@ -16,7 +16,7 @@ use Rattle.ks_def_tasks.specs.Rules.{HaveParts}
 use Rattle.ks_task_processing.specs.Steps.{part_in}
 use Rattle.ks_law_topology.proofs.WellFormed.{well_formed_fits}
 use Rattle.ks_law_settled.proofs.Tasks.{has_node_task}
-use Rattle.ks_settle_tables.proofs.Named.{kinds_all}
+use Rattle.ks_settle.proofs.Named.{kinds_all}
 use Rattle.ks_iq.specs.declared.ask.Ask.{Ask}
 use Rattle.ks_iq.specs.Asks.{node_of, task_of, ask_fault}
 use Rattle.ks_iq.specs.Reads.{ReadsTopology}

@@ -15,13 +15,13 @@ use Rattle.ks_plan.specs.declared.node.TopicInfo.{TopicInfo}
 use Rattle.ks_expr.specs.Keys.{spread_part}
 use Rattle.ks_task_processing.specs.Steps.{part_in}
 use Rattle.ks_law_settled.specs.Folded as folded
-use Rattle.ks_settle_tables.specs.Rows.{row_by, node_named, counts_windows}
+use Rattle.ks_settle.specs.Rows.{row_by, node_named, counts_windows}
 use Rattle.ks_iq.specs.declared.ask.Ask.{Ask}
 use Rattle.ks_iq.specs.declared.fault.IqFault.TheVariants.{UnknownStore, WrongStart}
 use Rattle.ks_iq.specs.declared.place.Place.{Place}
 use Rattle.ks_iq.specs.Asks.{node_of, kept_at, log_of, placed_in, start_fault, store_fault, ask_fault}
 use Rattle.ks_iq.specs.Places.{op_row, IsPlaceOf}
-use Rattle.ks_settle_tables.proofs.Named.{Shows, IsThere, there, number_nowhere, kind_reads, kind_counts, kinds_all, log_found, get_over}
+use Rattle.ks_settle.proofs.Named.{Shows, IsThere, there, number_nowhere, kind_reads, kind_counts, kinds_all, log_found, get_over}
 
 some_is : {A : Type 0} (x y : A) → Some x ≡ Some y → x ≡ y
 some_is x y e = cc

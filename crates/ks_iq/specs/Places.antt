@@ -7,7 +7,7 @@ use Rattle.ks_plan.specs.Infos.{node_place, place_in, built_view}
 use Rattle.ks_expr.specs.Eval.{Row}
 use Rattle.ks_wire.specs.Reading.{agg_from}
 use Rattle.ks_query.specs.Aggregates.{agg_row}
-use Rattle.ks_settle_tables.specs.Rows.{row_by, counts_windows}
+use Rattle.ks_settle.specs.Rows.{row_by, counts_windows}
 use Rattle.ks_iq.specs.declared.ask.Ask.{Ask}
 use Rattle.ks_iq.specs.declared.fault.IqFault.{IqFault}
 use Rattle.ks_iq.specs.declared.place.Place.{Place}

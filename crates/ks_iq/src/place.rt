@@ -7,7 +7,7 @@ ghost use Rattle.ks_query.specs.Aggregates.{agg_row as total_row};
 ghost use Rattle.ks_wire.specs.Reading.{agg_from};
 ghost use Rattle.ks_expr.specs.Keys.{spread_part};
 ghost use Rattle.ks_task_processing.specs.Steps.{part_in};
-ghost use Rattle.ks_settle_tables.specs.Rows.{node_named, counts_windows};
+ghost use Rattle.ks_settle.specs.Rows.{node_named, counts_windows};
 ghost use Rattle.ks_iq.specs.Asks.{start_fault, store_key};
 ghost use Rattle.ks_iq.specs.Places.{op_row, Finds};
 

@@ -4,3 +4,7 @@ pub mod Texts
 pub mod Opening
 pub mod Steps
 pub mod Splitting
+pub mod TopologyLines
+pub mod Opened
+pub mod AuditOpening
+pub mod Cutting

@@ -1,2 +1,4 @@
 pub mod Trees
 pub mod Nodes
+pub mod Verdicts
+pub mod ExprTrees

@@ -17,9 +17,9 @@ use Rattle.ks_job_record.specs.declared.members.Kind.{Kind}
 use Rattle.ks_job_record.specs.declared.members.Kind.TheVariants.{Stream, Table, Filter, MapValues, SelectKey, Count, Sum, WindowedCount, Join, FkJoin}
 use Rattle.ks_job_record.specs.Gives.{◌>>=◌, some_or}
 use Rattle.ks_job_record.specs.Members.{same, object_of, member_of, text_of, integer_of, integer_from}
-use Rattle.ks_job_expr.specs.Exprs.{limited}
-use Rattle.ks_job_expr.specs.Foreign.{fk_from}
-use Rattle.ks_job_expr.specs.Tests.{where_of}
+use Rattle.ks_job_topology.specs.Exprs.{limited}
+use Rattle.ks_job_topology.specs.Foreign.{fk_from}
+use Rattle.ks_job_topology.specs.Tests.{where_of}
 use Rattle.ks_job_topology.specs.Labels.{is_word_byte}
 
 -- the operations, by their words

@@ -10,7 +10,7 @@ ghost use Rattle.ks_job_topology.specs.Nodes.{kind_of, op_from, node_name_from, 
 use crate::field::{read_blob, read_by, read_integer_if, read_join_kind, read_name_of};
 use crate::labels::all_words;
 use crate::set::read_set;
-use ks_job_expr::{read_fk, read_where};
+use crate::{read_fk, read_where};
 use ks_job_record::{
     Form, Kind, LineError, bad_shape, read_integer_of, read_member, read_object, read_text,
 };

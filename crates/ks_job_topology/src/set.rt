@@ -5,8 +5,8 @@ ghost use Rattle.ks_expr.specs.Terms.{set_of as terms_of, term_of};
 ghost use Rattle.ks_job_record.specs.Gives.{Gives};
 ghost use Rattle.ks_job_topology.specs.Nodes.{entry_from, set_from, set_of};
 
+use crate::read_limited;
 use ks_expr::{Expr, Proj};
-use ks_job_expr::read_limited;
 use ks_job_record::{LineError, bad_shape, read_member};
 use ks_record::{Name, Seq};
 use serde_json::Value;

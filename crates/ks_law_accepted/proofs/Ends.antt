@@ -17,7 +17,7 @@ use Rattle.ks_law_settled.specs.Folded.{folded_table}
 use Rattle.ks_journal.specs.Lines.{entry_text, journal_text}
 use Rattle.ks_audit_verdict.specs.declared.fault.OutputFault.{OutputFault}
 use Rattle.ks_audit_verdict.specs.declared.fault.OutputFault.TheVariants.{TooLong, NotJournal, NotLegal, NotFaithful, NotSettled, Collision, Late, WrongTable}
-use Rattle.ks_audit_source.specs.Cutting.{HasNoEnd}
+use Rattle.ks_job_source.specs.Cutting.{HasNoEnd}
 use Rattle.ks_audit_verdict.specs.Lines.{ArePlain, lines_text, IsWithinMost}
 use Rattle.ks_audit_verdict.specs.Places.{Place}
 use Rattle.ks_audit_verdict.specs.Places.Place.{first_line, table_head, table_row, journal_line}

@@ -12,10 +12,10 @@ use Rattle.ks_job_source.specs.Stops.{stop_of}
 use Rattle.ks_job_source.proofs.Machines.{keeps_after, stays_after}
 use Rattle.ks_audit_verdict.specs.declared.fault.OutputFault.{OutputFault}
 use Rattle.ks_audit_verdict.specs.declared.fault.OutputFault.TheVariants.{NotJournal}
-use Rattle.ks_audit_source.specs.TopologyLines.{EndsTopology}
+use Rattle.ks_job_source.specs.TopologyLines.{EndsTopology}
 use Rattle.ks_audit_verdict.specs.Audited.{IsAuditedInput}
 use Rattle.ks_audit_verdict.specs.Faults.{IsFirstFault}
-use Rattle.ks_audit_source.specs.TopologyLines.{StopsAt, StopsAtEnd, LacksEnd}
+use Rattle.ks_job_source.specs.TopologyLines.{StopsAt, StopsAtEnd, LacksEnd}
 use Rattle.ks_audit_verdict.specs.Answers.{HasBadTopology, IsFaultyInput, HasFault, IsVerdict}
 use Rattle.ks_law_accepted.specs.Accepted.{TheAnswerIsYes}
 use Rattle.ks_law_accepted.proofs.Accepted.{nothing_is_refused}

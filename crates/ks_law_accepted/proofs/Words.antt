@@ -26,7 +26,7 @@ use Rattle.ks_job_topology.specs.Topology.{topology_from, names_of}
 use Rattle.ks_job.specs.Items.{ItemView, TopologyAt, RecordTo}
 use Rattle.ks_job.specs.Lines.{Spot, parsed, passes, is_too_long, is_blank, next_line, topology_line, record_line, value_line, data_line, judged}
 use Rattle.ks_job.specs.Reader.{Reader, Reading, Faulty, Machine, is_line_end, longer, with_item, after, after_byte, after_line, so_far}
-use Rattle.ks_audit_source.specs.Cutting.{HasNoEnd}
+use Rattle.ks_job_source.specs.Cutting.{HasNoEnd}
 use Rattle.ks_law_accepted.specs.Accepted.{IsWord}
 use Rattle.ks_law_accepted.proofs.NodeNames.{IsWordy, AreWordy, topology_wordy}
 

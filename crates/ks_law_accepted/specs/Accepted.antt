@@ -5,7 +5,7 @@ use Rattle.std.specs.List.{AllByRecursion}
 use Rattle.ks_plan.specs.Drafts.{Name, DraftView}
 use Rattle.ks_def_tasks.specs.Messages.{Rules}
 use Rattle.ks_audit_verdict.specs.declared.fault.OutputFault.{OutputFault}
-use Rattle.ks_audit_source.specs.Cutting.{HasNoEnd}
+use Rattle.ks_job_source.specs.Cutting.{HasNoEnd}
 use Rattle.ks_audit_verdict.specs.Lines.{IsWithinMost}
 use Rattle.ks_audit_verdict.specs.Audited.{IsAudited, IsAuditedInput}
 use Rattle.ks_audit_verdict.specs.Answers.{IsAuditAnswer}

@@ -9,11 +9,11 @@ use Rattle.serde_json.specs.Data.{unsigned, Data, number, string, array, object,
 use Rattle.serde_json.specs.Read.{read, of_json}
 use Rattle.serde_json.proofs.Numbers.{number_of-decimal}
 use Rattle.ks_job_record.specs.Members.{object_of, is_member, text_of, member_of, integer_from}
-use Rattle.ks_job_expr.specs.Exprs.{limited, leaf_from}
+use Rattle.ks_job_topology.specs.Exprs.{limited, leaf_from}
 use Rattle.ks_job_topology.specs.Nodes.{nodes_of, node_from, op_from, kind_of, node_name_from, blob_from, name_from, count_from, sum_from, by_from, fk_join_from, join_kind_from, set_of, entry_from, body_from}
 use Rattle.ks_job_topology.specs.Topology.{topology_from, app_from, label_from, topics_of, topic_from, print_of}
 use Rattle.ks_job_topology.specs.Stated.{parts_from, plain_from, spread_from}
-use Rattle.ks_job_expr.specs.Foreign.{fk_in, fk_from}
+use Rattle.ks_job_topology.specs.Foreign.{fk_in, fk_from}
 use Rattle.ks_law_load_job.specs.Items.{load_draft}
 use Rattle.ks_law_load_job.proofs.Clean.{clean}
 use Rattle.ks_law_load_job.proofs.Trees.{read_printed}

@@ -1,3 +1,5 @@
 pub mod Lists
 pub mod Founds
 pub mod Plans
+pub mod Trees
+pub mod Windows

@@ -2,3 +2,4 @@ pub mod Nodes
 pub mod Found
 pub mod Printing
 pub mod Hops
+pub mod Trees

@@ -8,8 +8,8 @@ ghost use Rattle.ks_query.specs.Aggregates.{agg_row as row_of_agg};
 ghost use Rattle.ks_query.specs.Query.{add_to, map_values, aggregate, item_rows, in_windows, grouped_rows as rows_in_groups};
 
 use crate::item::Item;
+use crate::{Groups, Rows, Spans};
 use ks_agg::{agg_row, stream_add};
-use ks_oracle_maps::{Groups, Rows, Spans};
 use ks_record::{Key, Name};
 use ks_row::{Row, key_of_field};
 use ks_window::starts;

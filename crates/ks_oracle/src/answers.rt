@@ -19,7 +19,7 @@ use crate::parts::{foreign_in, group_in, join_in, key_in, set_in, test_in, windo
 use crate::record::JobRecord;
 use crate::streams::{filtered_items, mapped_items, rekeyed_items, source_items};
 use crate::tables::{filtered_rows, latest_rows, mapped_rows};
-use ks_oracle_maps::{Rows, Spans};
+use crate::{Rows, Spans};
 use ks_record::Seq;
 use ks_topo::{Node, Op, Wiring};
 use std::alloc::{AllocError, Global};

@@ -8,8 +8,8 @@ ghost use Rattle.ks_def_runs.specs.FinMap as fin;
 ghost use Rattle.ks_def_runs.specs.Table.{write};
 ghost use Rattle.ks_query.specs.Query.{map_values, key_join, foreign_join, right_row};
 
+use crate::Rows;
 use ks_expr::{Fk, JoinKind, Proj, fk_of};
-use ks_oracle_maps::Rows;
 use ks_record::Key;
 use ks_row::Row;
 use ks_table_ops::join_rows;

@@ -10,8 +10,8 @@ ghost use Rattle.ks_oracle.specs.Found.{answers_of};
 ghost use Rattle.ks_oracle.specs.Printing.{names_of, rows_for, table_named as named};
 
 use crate::answers::{Answer, rows_at, spans_at};
+use crate::{Rows, Spans};
 use ks_agg::agg_row;
-use ks_oracle_maps::{Rows, Spans};
 use ks_query::{Table, TableRow};
 use ks_record::{Blob, Seq};
 use ks_topo::{Node, Wiring};

@@ -7,9 +7,9 @@ ghost use Rattle.ks_def_runs.specs.FinMap as fin;
 ghost use Rattle.ks_def_runs.specs.Table.{write, latest};
 ghost use Rattle.ks_query.specs.Query.{of_topic, table_changes, map_values};
 
+use crate::Rows;
 use crate::record::JobRecord;
 use ks_expr::{Pred, Proj};
-use ks_oracle_maps::Rows;
 use ks_table_ops::{filter_row, map_row};
 use std::alloc::{AllocError, Global};
 

@@ -72,7 +72,7 @@ pub struct NodeDraft {
 }
 
 /// An input topic.
-#[derive(Drop, Debug)]
+#[derive(Drop)]
 pub struct TopicDraft {
     /// The number of its partitions.
     pub parts: i64,

@@ -3,7 +3,7 @@ use crate::draft::Op;
 use ks_record::{Blob, Name};
 
 /// What a topic is for.
-#[derive(Clone, Copy, PartialEq, Eq, Debug)]
+#[derive(Clone, Copy, PartialEq, Eq)]
 pub enum Role {
     Input,
     Repartition,
@@ -13,7 +13,7 @@ pub enum Role {
 }
 
 /// A topic by what it is for: an input topic by its number, any other by the number of the node that it serves.
-#[derive(Clone, Copy, PartialEq, Eq, Debug)]
+#[derive(Clone, Copy, PartialEq, Eq)]
 pub enum Topic {
     Input(u16),
     /// What an aggregate sends to the tasks of its groups.
@@ -29,7 +29,7 @@ pub enum Topic {
 }
 
 /// A topic as others see it; its number is its place among all topics.
-#[derive(Drop, Debug)]
+#[derive(Drop)]
 pub struct TopicInfo {
     pub name: Blob,
     pub parts: u8,
@@ -39,7 +39,7 @@ pub struct TopicInfo {
 }
 
 /// How keys are spread over the partitions of a topic or of a node.
-#[derive(Drop, Debug)]
+#[derive(Drop)]
 pub struct Spread {
     /// The number of partitions.
     pub parts: u8,
@@ -48,7 +48,7 @@ pub struct Spread {
 }
 
 /// What a node is and what it reads: topics and nodes by number.
-#[derive(Clone, Copy, PartialEq, Eq, Debug)]
+#[derive(Clone, Copy, PartialEq, Eq)]
 pub enum Wiring {
     StreamSource { topic: u16 },
     TableSource { topic: u16 },

@@ -12,7 +12,7 @@ pub struct Assignment {
 }
 
 /// The end of a transaction in one of its partitions; the epoch is that of the transaction.
-#[derive(Clone, Copy, PartialEq, Eq, Debug)]
+#[derive(Clone, Copy, PartialEq, Eq)]
 pub struct Marker {
     pub part: PartId,
     pub epoch: u64,

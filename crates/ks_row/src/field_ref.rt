@@ -5,7 +5,7 @@ ghost use Rattle.ks_row.specs.Fields.{field_seen, field_there, member_there, fie
 use crate::reading::{read_bytes, read_i64, read_u32};
 
 /// A number, or the bytes of a text.
-#[derive(Clone, Copy, Debug)]
+#[derive(Clone, Copy)]
 pub enum FieldRef<'a> {
     Int(i64),
     Text(&'a [u8]),

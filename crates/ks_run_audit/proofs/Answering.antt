@@ -18,14 +18,14 @@ use Rattle.ks_audit_verdict.specs.Texts.{yes_text, no_text}
 use Rattle.ks_run_audit.specs.declared.auditing.AuditAnswer.{AuditAnswer}
 use Rattle.ks_audit_verdict.specs.Lines.{IsPlain}
 use Rattle.ks_topo.specs.Topologies.{draft_of}
-use Rattle.ks_audit_source.specs.declared.opening.OpenAudit.{OpenAudit}
+use Rattle.ks_job_source.specs.declared.audit_opening.OpenAudit.{OpenAudit}
 use Rattle.ks_run_audit.specs.declared.feeding.LineFeed.{LineFeed}
 use Rattle.ks_def_tasks.specs.Rules.{rules_of}
 use Rattle.ks_audit_verdict.specs.Places.Place.{first_line}
 use Rattle.ks_run_audit.specs.declared.output.OutputAudit.{OutputAudit}
 use Rattle.ks_run_audit.specs.Outputs.{place_in, text_of}
 use Rattle.ks_run_audit.specs.Feeding.{IsFeed, ReadsAll, ReadsFault, draft_in}
-use Rattle.ks_audit_source.specs.Opened.{HasRead, HasReadOut, HasStopped}
+use Rattle.ks_job_source.specs.Opened.{HasRead, HasReadOut, HasStopped}
 use Rattle.ks_run_audit.specs.Ending.{HasEndFault}
 use Rattle.ks_run_audit.specs.Answering.{IsJudged, EndsOutput, EndsEarly, AnswersOutput}
 use Rattle.ks_run_audit.proofs.Sources.{answers, answers_fault, holds_audited, has_fault, lacks_end, bad_topology}

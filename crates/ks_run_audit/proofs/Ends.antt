@@ -48,7 +48,7 @@ use Rattle.ks_audit.specs.declared.audit.Audit.{Audit}
 use Rattle.ks_audit.specs.Inputs.{AreInputs, HasRecords}
 use Rattle.ks_audit.proofs.Records.{inputs_are_records}
 use Rattle.ks_run_audit.specs.declared.output.OutputAudit.{OutputAudit}
-use Rattle.ks_audit_source.specs.Opened.{IsReady}
+use Rattle.ks_job_source.specs.Opened.{IsReady}
 use Rattle.ks_audit_verdict.specs.declared.fault.OutputFault.{OutputFault}
 use Rattle.ks_audit_verdict.specs.declared.fault.OutputFault.TheVariants.{TooLong, NotJournal, NotLegal, NotFaithful, NotSettled, Collision, Late, WrongTable}
 use Rattle.ks_audit_verdict.specs.Audited.{IsAudited}

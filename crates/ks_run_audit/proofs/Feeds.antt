@@ -5,7 +5,7 @@ use Rattle.ks_def_tasks.specs.Messages.{Rules}
 use Rattle.ks_def_tasks.specs.Rules.{rules_of}
 use Rattle.ks_audit_verdict.specs.declared.fault.OutputFault.{OutputFault}
 use Rattle.ks_audit_verdict.specs.declared.fault.OutputFault.TheVariants.{TooLong}
-use Rattle.ks_audit_source.specs.Cutting.{HasNoEnd}
+use Rattle.ks_job_source.specs.Cutting.{HasNoEnd}
 use Rattle.ks_audit_verdict.specs.Lines.{IsPlain, ended, lines_text}
 use Rattle.ks_audit_verdict.specs.Places.{Place, TakesAt, RefusesAt}
 use Rattle.ks_audit_verdict.specs.Faults.{IsLongLine, IsLongInput, IsFaultyLine}

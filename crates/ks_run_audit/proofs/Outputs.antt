@@ -18,7 +18,7 @@ use Rattle.ks_audit.specs.Audits.{IsAudit, TakesLine, journal_of}
 use Rattle.ks_run_audit.specs.declared.output.Stage.{Stage}
 use Rattle.ks_run_audit.specs.declared.output.Stage.TheVariants.{Settled, Head, Row, Journal}
 use Rattle.ks_run_audit.specs.declared.output.OutputAudit.{OutputAudit}
-use Rattle.ks_audit_source.specs.Opened.{IsReady}
+use Rattle.ks_job_source.specs.Opened.{IsReady}
 use Rattle.ks_audit_verdict.specs.Lines.{ended}
 use Rattle.ks_audit_verdict.specs.declared.fault.OutputFault.{OutputFault}
 use Rattle.ks_audit_verdict.specs.declared.fault.OutputFault.TheVariants.{NotJournal}

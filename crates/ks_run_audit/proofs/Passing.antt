@@ -1,6 +1,6 @@
 -- Bytes that are taken line by line.
 use Rattle.std.proofs.Common.{◌≡◌, ℕ, suc, ◌+◌, ◌<◌, ◌≤◌, List, [], ◌∷◌, ◌++◌, length, refl, sym, ap, subst, ◌∙◌, append_assoc, append-nil, arith, length-append}
-use Rattle.ks_audit_source.specs.Cutting.{HasNoEnd}
+use Rattle.ks_job_source.specs.Cutting.{HasNoEnd}
 use Rattle.ks_audit_verdict.specs.Lines.{IsPlain, ended, lines_text, Leads}
 use Rattle.ks_run_audit.specs.Passing.{Passing, Passes, Refuses}
 use Rattle.ks_audit_verdict.proofs.Chains.{lines_both, lines_more, leads_both, leads_more, no_end_both, line_first}

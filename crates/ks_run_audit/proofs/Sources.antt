@@ -13,13 +13,13 @@ use Rattle.ks_audit_verdict.specs.Places.{Place, TakesAt, TakesLines}
 use Rattle.ks_audit_verdict.specs.Places.Place.{first_line}
 use Rattle.ks_audit_verdict.specs.Audited.{IsAudited, IsAuditedInput, HoldsAudited}
 use Rattle.ks_audit_verdict.specs.Faults.{EndsFaulty, IsFirstFault, IsFaultAt}
-use Rattle.ks_audit_source.specs.TopologyLines.{LacksEnd, StopsAt, StopsAtEnd}
+use Rattle.ks_job_source.specs.TopologyLines.{LacksEnd, StopsAt, StopsAtEnd}
 use Rattle.ks_audit_verdict.specs.Answers.{HasBadTopology, IsFaultyInput, HasFault, TookNothingFaulty}
 use Rattle.ks_audit_verdict.specs.Texts.{yes_text, no_text}
 use Rattle.ks_audit_verdict.proofs.Chains.{leads_both, leads_plain, lines_both}
 use Rattle.ks_job_source.specs.declared.stop.JobStop.{JobStop}
 use Rattle.ks_run_audit.specs.declared.output.OutputAudit.{OutputAudit}
-use Rattle.ks_audit_source.specs.Opened.{HasBegun, HasRead, HasReadOut, HasStopped}
+use Rattle.ks_job_source.specs.Opened.{HasBegun, HasRead, HasReadOut, HasStopped}
 use Rattle.ks_run_audit.specs.Outputs.{IsSound, text_of, place_in}
 use Rattle.ks_run_audit.specs.Feeding.{IsRefused, Feeds, RefusesBytes, Loses, LosesFault, HasLost, ReadsOut, ReadsAll, ReadsFault}
 use Rattle.ks_run_audit.specs.Answering.{EndsOutput, EndsAudited, EndsEarly, EndsRefused, AnswersOutput, left_of}

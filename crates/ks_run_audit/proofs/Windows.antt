@@ -3,9 +3,9 @@ use Rattle.std.proofs.Common.{◌≡◌, ℕ, zero, suc, ◌+◌, ◌<◌, Bool,
 use Rattle.std.specs.Prelude.{Option, Some, None}
 use Rattle.ks_plan.specs.Drafts.{Name, DraftView}
 use Rattle.ks_plan.specs.declared.node.Node.{Node}
-use Rattle.ks_settle_tables.specs.Rows.{node_named, IsPrinted}
-use Rattle.ks_settle_tables.proofs.Folds.{printed_at}
-use Rattle.ks_settle_tables.proofs.Named.{Shows, no_node, has_store, is_kept}
+use Rattle.ks_settle.specs.Rows.{node_named, IsPrinted}
+use Rattle.ks_settle.proofs.Folds.{printed_at}
+use Rattle.ks_settle.proofs.Named.{Shows, no_node, has_store, is_kept}
 use Rattle.ks_audit_verdict.specs.Places.{has_windows}
 use Rattle.ks_run_audit.specs.Outputs.{windows_of}
 

@@ -5,7 +5,7 @@ use Rattle.ks_plan.specs.declared.node.Node.{Node}
 use Rattle.ks_topo.specs.Topologies.{draft_of}
 use Rattle.ks_def_tasks.specs.Rules.{rules_of}
 use Rattle.ks_history.specs.declared.journal.Entry.{Entry}
-use Rattle.ks_settle_tables.specs.Rows.{counts_windows}
+use Rattle.ks_settle.specs.Rows.{counts_windows}
 use Rattle.ks_journal.specs.Lines.{journal_text}
 use Rattle.ks_journal.specs.Fits.{FitsJournal}
 use Rattle.ks_audit.specs.Audits.{IsAudit, journal_of}

@@ -1,6 +1,6 @@
 -- Bytes that are taken line by line, from a place to another. No public contract names these words.
 use Rattle.std.specs.Prelude.{◌≡◌, ◌+◌, ℕ, List, [], ◌++◌, length}
-use Rattle.ks_audit_source.specs.Cutting.{HasNoEnd}
+use Rattle.ks_job_source.specs.Cutting.{HasNoEnd}
 use Rattle.ks_audit_verdict.specs.Lines.{IsPlain, lines_text, Leads}
 
 -- behind what had begun these bytes came: these lines were taken, counted from so many, and this has begun, before the bytes that are left

@@ -9,7 +9,7 @@ ghost use Rattle.ks_audit_verdict.specs.declared.fault.OutputFault.TheVariants.{
 ghost use Rattle.ks_audit_verdict.specs.Answers.{IsAuditAnswer, TookNothingFaulty};
 ghost use Rattle.ks_audit_verdict.specs.Places.Place.{first_line};
 ghost use Rattle.ks_audit_verdict.specs.Texts.{no_text, yes_text};
-ghost use Rattle.ks_audit_source.specs.Opened.{IsReady};
+ghost use Rattle.ks_job_source.specs.Opened.{IsReady};
 ghost use Rattle.ks_run_audit.specs.Outputs.{IsSound, place_in, text_of};
 ghost use Rattle.ks_run_audit.specs.Feeding.{IsFeed, Loses, LosesFault, ReadsAll, ReadsFault, ReadsOut, draft_in};
 ghost use Rattle.ks_run_audit.specs.Answering.{AnswersOutput, EndsEarly, EndsOutput};
@@ -17,10 +17,9 @@ ghost use Rattle.ks_run_audit.specs.Answering.{AnswersOutput, EndsEarly, EndsOut
 use crate::ending::judge_end;
 use crate::feeding::LineFeed;
 use crate::output::OutputAudit;
-use ks_audit_source::{OpenAudit, open_audit};
 use ks_audit_verdict::{OutputFault, print_no, print_yes};
 use ks_edge::{Failed, Source};
-use ks_job_source::{SourceError, print_bad_job};
+use ks_job_source::{OpenAudit, SourceError, open_audit, print_bad_job};
 use ks_run_output::print_read_fault;
 use ks_task_processing::Processing;
 use ks_topo::Topology;

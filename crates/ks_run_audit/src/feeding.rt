@@ -3,13 +3,13 @@ ghost use Rattle.std.specs.Prelude.{◌≡◌, ◌++◌, ◌+◌, ◌^◌, ◌<�
 ghost use Rattle.ks_def_tasks.specs.Rules.{rules_of};
 ghost use Rattle.ks_audit_verdict.specs.declared.fault.OutputFault.TheVariants.{TooLong};
 ghost use Rattle.ks_audit_verdict.specs.Lines.{IsPlain};
-ghost use Rattle.ks_audit_source.specs.Opened.{IsReady};
+ghost use Rattle.ks_job_source.specs.Opened.{IsReady};
 ghost use Rattle.ks_run_audit.specs.Outputs.{IsSound, TakesOutput, place_in};
 ghost use Rattle.ks_run_audit.specs.Feeding.{Feeds, IsFeed, IsRefusal, RefusesBytes, draft_in};
 
 use crate::output::OutputAudit;
-use ks_audit_source::cut_line;
 use ks_audit_verdict::OutputFault;
+use ks_job_source::cut_line;
 use ks_task_processing::Processing;
 use std::alloc::{AllocError, Global};
 

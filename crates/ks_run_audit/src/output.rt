@@ -5,13 +5,13 @@ ghost use Rattle.ks_plan.specs.Drafts.{op_view};
 ghost use Rattle.ks_query.specs.Printed.{head_line};
 ghost use Rattle.ks_topo.specs.Topologies.{draft_of};
 ghost use Rattle.ks_def_tasks.specs.Rules.{rules_of};
-ghost use Rattle.ks_settle_tables.specs.Rows.{IsPrinted, counts_windows, node_named};
+ghost use Rattle.ks_settle.specs.Rows.{IsPrinted, counts_windows, node_named};
 ghost use Rattle.ks_history.specs.declared.journal.Entry.{Entry};
 ghost use Rattle.ks_journal.specs.Lines.{journal_text};
 ghost use Rattle.ks_audit.specs.Audits.{journal_of};
 ghost use Rattle.ks_run_audit.specs.declared.output.Stage.TheVariants.{Settled, Head, Row, Journal};
 ghost use Rattle.ks_audit_verdict.specs.declared.fault.OutputFault.TheVariants.{NotJournal};
-ghost use Rattle.ks_audit_source.specs.Opened.{IsReady};
+ghost use Rattle.ks_job_source.specs.Opened.{IsReady};
 ghost use Rattle.ks_audit_verdict.specs.Lines.{ended};
 ghost use Rattle.ks_audit_verdict.specs.Places.{IsUnlike, RefusesAt, has_windows, next_row, next_table};
 ghost use Rattle.ks_audit_verdict.specs.Places.Place.{first_line, journal_line};
@@ -26,7 +26,7 @@ use std::alloc::{AllocError, Global};
 use std::str;
 
 // What the next line is to be.
-#[derive(Debug, Clone, Copy, PartialEq, Eq)]
+#[derive(Clone, Copy, PartialEq, Eq)]
 pub(crate) enum Stage {
     Settled,
     Head,

@@ -6,7 +6,7 @@ use Rattle.ks_def_tasks.specs.Messages.{Rules}
 use Rattle.ks_history.specs.declared.journal.Entry.{Entry}
 use Rattle.ks_journal.specs.Fits.{FitsJournal}
 use Rattle.ks_audit_verdict.specs.Lines.{IsWithinMost}
-use Rattle.ks_audit_source.specs.TopologyLines.{EndsTopology}
+use Rattle.ks_job_source.specs.TopologyLines.{EndsTopology}
 use Rattle.ks_audit_verdict.specs.Audited.{IsAuditedInput}
 use Rattle.ks_run_verdict.specs.Told.{TellsQuery}
 use Rattle.ks_run_verdict.specs.Told.Wanted.{lines}

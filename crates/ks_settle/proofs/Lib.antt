@@ -13,3 +13,9 @@ pub mod Starting
 pub mod Putting
 pub mod Members
 pub mod Given
+pub mod Pairs
+pub mod Named
+pub mod Folds
+pub mod Merges
+pub mod NextRow
+pub mod Parted

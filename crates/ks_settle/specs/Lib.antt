@@ -4,3 +4,5 @@ pub mod Reading
 pub mod Restoring
 pub mod Restored
 pub mod Picking
+pub mod Rows
+pub mod Windows

@@ -7,7 +7,7 @@ use Rattle.ks_plan.specs.Plan.{Kind}
 use Rattle.ks_plan.specs.Layout.{up_to}
 use Rattle.ks_history.specs.State.{State}
 use Rattle.ks_history.specs.Reads.{decided_records}
-use Rattle.ks_settle_tables.specs.Rows.{part_in, parts_from}
+use Rattle.ks_settle.specs.Rows.{part_in, parts_from}
 use Rattle.ks_law_settled.specs.Collision.{OffsetPair, first_in}
 use Rattle.ks_settle_report.specs.declared.pairs.Collision.{Collision}
 use Rattle.ks_settle_report.specs.Hashed.{pair_of}

@@ -24,10 +24,10 @@ use Rattle.ks_law_topology.proofs.WellFormed.{well_formed_fits}
 use Rattle.ks_law_fk_quiescence.proofs.TableInputs.{is_table_at, TableInputs, EachInputs, table_inputs}
 use Rattle.ks_law_settled.specs.Folded as folded
 use Rattle.ks_law_settled.specs.Collision.{OffsetPair, NodePair, row_by, same_keys, rows_collide, collide, earlier, pair_at, first_from, first_in, in_parts, of_node, of_nodes, first_pair}
-use Rattle.ks_settle_tables.specs.Rows as rows
-use Rattle.ks_settle_tables.specs.Rows.{part_in}
-use Rattle.ks_settle_tables.specs.declared.rows.StoredForm.{StoredForm}
-use Rattle.ks_settle_tables.proofs.Named.{Shows, kind_reads, log_found, kinds_all, get_over, place_there, get_mapped}
+use Rattle.ks_settle.specs.Rows as rows
+use Rattle.ks_settle.specs.Rows.{part_in}
+use Rattle.ks_settle.specs.declared.rows.StoredForm.{StoredForm}
+use Rattle.ks_settle.proofs.Named.{Shows, kind_reads, log_found, kinds_all, get_over, place_there, get_mapped}
 use Rattle.ks_settle_report.specs.Hashed.{kind_as, pair_of}
 use Rattle.ks_settle_report.specs.declared.pairs.Collision.{Collision}
 use Rattle.ks_settle_report.proofs.SpelledRows as spelled

@@ -23,10 +23,10 @@ use Rattle.ks_plan.specs.Plan.{Kind}
 use Rattle.ks_law_settled.specs.Collision.{row_by, rows_collide, same_keys, collide, pair_at, earlier, first_from, first_in}
 use Rattle.ks_settle_report.specs.Search.{entry_of, meets_other, with_entry}
 use Rattle.ks_settle_report.proofs.OnePass.{Keeps, nothing_kept, Decided, decided}
-use Rattle.ks_settle_tables.specs.Rows as rows
-use Rattle.ks_settle_tables.proofs.Folds.{take_one}
-use Rattle.ks_settle_tables.specs.declared.rows.StoredForm.{StoredForm}
-use Rattle.ks_settle_tables.specs.declared.rows.StoredForm.TheVariants.{Plain, Members, Total}
+use Rattle.ks_settle.specs.Rows as rows
+use Rattle.ks_settle.proofs.Folds.{take_one}
+use Rattle.ks_settle.specs.declared.rows.StoredForm.{StoredForm}
+use Rattle.ks_settle.specs.declared.rows.StoredForm.TheVariants.{Plain, Members, Total}
 use Rattle.ks_settle_report.specs.Hashed.{row_hash, kind_as, is_same_hash}
 
 -- ---- how a value is read

@@ -4,8 +4,8 @@ use Rattle.ks_row.specs.Spelling.{spelling}
 use Rattle.ks_expr.specs.Eval.{Row, same_bytes}
 use Rattle.ks_plan.specs.Plan.{Kind}
 use Rattle.ks_plan.specs.Plan.Kind.{TableSource, TableAggregate}
-use Rattle.ks_settle_tables.specs.declared.rows.StoredForm.{StoredForm}
-use Rattle.ks_settle_tables.specs.declared.rows.StoredForm.TheVariants.{Plain, Members, Total}
+use Rattle.ks_settle.specs.declared.rows.StoredForm.{StoredForm}
+use Rattle.ks_settle.specs.declared.rows.StoredForm.TheVariants.{Plain, Members, Total}
 use Rattle.ks_law_settled.specs.Collision.{OffsetPair}
 use Rattle.ks_settle_report.specs.declared.pairs.Collision.{Collision}
 

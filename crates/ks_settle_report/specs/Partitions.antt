@@ -5,7 +5,7 @@ use Rattle.ks_expr.specs.Eval.{Row}
 use Rattle.ks_plan.specs.Plan.{Kind}
 use Rattle.ks_history.specs.State.{State}
 use Rattle.ks_history.specs.Reads.{decided_records}
-use Rattle.ks_settle_tables.specs.Rows.{part_in}
+use Rattle.ks_settle.specs.Rows.{part_in}
 use Rattle.ks_law_settled.specs.Collision.{OffsetPair, first_in}
 
 -- of some partitions of a changelog, that of the first which has one

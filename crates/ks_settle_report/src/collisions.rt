@@ -5,7 +5,7 @@ ghost use Rattle.ks_plan.specs.Layout.{up_to};
 ghost use Rattle.ks_history.specs.State.{IsPart};
 ghost use Rattle.ks_history.specs.Reads.{decided_records};
 ghost use Rattle.ks_cluster.specs.View.{setup_of, state_of};
-ghost use Rattle.ks_settle_tables.specs.Rows.{part_in, parts_from};
+ghost use Rattle.ks_settle.specs.Rows.{part_in, parts_from};
 ghost use Rattle.ks_law_settled.specs.Collision.{first_in};
 ghost use Rattle.ks_settle_report.specs.Hashed.{row_hash, kind_as, pair_of};
 ghost use Rattle.ks_settle_report.specs.Partitions.{first_of};
@@ -14,7 +14,7 @@ use crate::{Collision, first_collision};
 use ks_cluster::{Cluster, Work};
 use ks_hash::Hash128;
 use ks_record::PartId;
-use ks_settle_tables::rows::StoredForm;
+use ks_settle::rows::StoredForm;
 use std::alloc::{AllocError, Global};
 use std::thread::{Threads, join};
 

@@ -12,7 +12,7 @@ use crate::collisions::first_in_parts;
 use ks_cluster::{Cluster, Work};
 use ks_hash::Hash128;
 use ks_record::Name;
-use ks_settle_tables::rows::form_of;
+use ks_settle::rows::form_of;
 use ks_topo::{Node, Topology, Wiring};
 use std::alloc::{AllocError, Global};
 use std::thread::Threads;

@@ -14,7 +14,7 @@ use ks_topo::Topology;
 use std::alloc::{AllocError, Global};
 
 /// A partition that a task reads and whose committed offset isn't its end.
-#[derive(Clone, Copy, Debug, PartialEq, Eq)]
+#[derive(Clone, Copy, PartialEq, Eq)]
 pub struct Lag {
     /// The partition, by the number of its topic.
     pub part: PartId,

@@ -7,11 +7,11 @@ ghost use Rattle.ks_settle_report.specs.Hashed.{row_hash, kind_as, is_same_hash}
 
 use ks_hash::Hash128;
 use ks_record::{Blob, Rec};
-use ks_settle_tables::rows::{StoredForm, read_row};
+use ks_settle::rows::{StoredForm, read_row};
 use std::alloc::{AllocError, Global};
 
 /// Two records of a partition that collide.
-#[derive(Drop, Debug)]
+#[derive(Drop)]
 pub struct Collision {
     /// The bytes of their key.
     pub key: Option<Blob>,

@@ -9,7 +9,7 @@ ghost use Rattle.ks_settle_report.specs.Hashed.{row_hash, kind_as, pair_of};
 use crate::pairs::{Collision, are_equal, earlier, row_bytes};
 use ks_hash::Hash128;
 use ks_record::{Blob, BlobBuilder, Rec};
-use ks_settle_tables::rows::StoredForm;
+use ks_settle::rows::StoredForm;
 use ks_store::{KvStore, OrderedStore};
 use std::alloc::{AllocError, Global};
 

@@ -7,7 +7,7 @@ use ks_row::Row;
 use std::marker::Model;
 
 /// What the left side of a foreign-key join sends to a foreign key.
-#[derive(Drop, Debug)]
+#[derive(Drop)]
 pub struct Subscription {
     hash: Option<u128>,
     instruction: u8,
@@ -82,7 +82,7 @@ impl Subscription {
 }
 
 /// What the right side of a foreign-key join answers to a left key.
-#[derive(Drop, Debug)]
+#[derive(Drop)]
 pub struct Response {
     /// That of the subscription.
     pub hash: Option<u128>,
@@ -91,7 +91,7 @@ pub struct Response {
 }
 
 /// What a subscription store keeps of a left row that asked for answers.
-#[derive(Clone, Copy, PartialEq, Eq, Debug)]
+#[derive(Clone, Copy, PartialEq, Eq)]
 pub struct Subscriber {
     /// The hash of the left row.
     pub hash: u128,
@@ -100,7 +100,7 @@ pub struct Subscriber {
 }
 
 /// What a change of a table adds to or takes from an aggregate.
-#[derive(Clone, Copy, PartialEq, Eq, Debug)]
+#[derive(Clone, Copy, PartialEq, Eq)]
 pub struct Delta {
     pub add: bool,
     /// The field's number; 0 for a count.
@@ -108,7 +108,7 @@ pub struct Delta {
 }
 
 /// A count or a sum as it is kept.
-#[derive(Clone, Copy, PartialEq, Eq, Debug)]
+#[derive(Clone, Copy, PartialEq, Eq)]
 pub struct Agg {
     /// How many items or rows it is over.
     pub members: i64,

@@ -11,7 +11,7 @@ const TOPOLOGY: &str =
     "{\"app\":\"load\",\"topics\":{\"customers\":4,\"orders\":8},\"nodes\":[{\"name\":\"o\",\"op\":\"table\",\"topic\":\"orders\"},{\"name\":\"c\",\"op\":\"table\",\"topic\":\"customers\"},{\"name\":\"e\",\"op\":\"fk_join\",\"left\":\"o\",\"right\":\"c\",\"fk\":\"cust\",\"kind\":\"inner\",\"set\":{\"amt\":{\"left\":\"amt\"},\"region\":{\"right\":\"region\"}}},{\"name\":\"totals\",\"op\":\"sum\",\"from\":\"e\",\"by\":\"region\",\"field\":\"amt\"},{\"name\":\"orders_per_region\",\"op\":\"count\",\"from\":\"e\",\"by\":\"region\"}],\"print\":[\"totals\",\"orders_per_region\"]}\n";
 
 /// A record of the load job.
-#[derive(Clone, Copy, PartialEq, Eq, Debug)]
+#[derive(Clone, Copy, PartialEq, Eq)]
 pub enum LoadRecord {
     /// An order, its customer and its amount.
     Order(u32, u32, u32),
@@ -22,7 +22,7 @@ pub enum LoadRecord {
 }
 
 /// The parts of the load job, in their order.
-#[derive(Clone, Copy, PartialEq, Eq, Debug)]
+#[derive(Clone, Copy, PartialEq, Eq)]
 pub enum Section {
     /// Each order.
     Orders,

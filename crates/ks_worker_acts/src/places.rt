@@ -11,7 +11,7 @@ use ks_worker_state::inputs_in;
 use std::alloc::{AllocError, Global};
 
 /// An input of one of a worker's tasks.
-#[derive(Clone, Copy, PartialEq, Eq, Debug)]
+#[derive(Clone, Copy, PartialEq, Eq)]
 pub struct InputPlace {
     /// The task's place among the worker's tasks.
     pub index: usize,

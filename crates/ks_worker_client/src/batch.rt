@@ -2,7 +2,7 @@
 use ks_record::{PartId, TaskId};
 
 /// The header of a batch of records: whose they are, where they go, and how many were sent there before (KIP-98: sequence numbers).
-#[derive(Clone, Copy, PartialEq, Eq, Debug)]
+#[derive(Clone, Copy, PartialEq, Eq)]
 pub struct BatchHeader {
     /// The task that made the records.
     pub task: TaskId,

@@ -5,7 +5,7 @@ ghost use Rattle.ks_worker_client.specs.Turns.{with_halt};
 use std::alloc::AllocError;
 
 /// Why a worker's turn ends early.
-#[derive(Clone, Copy, PartialEq, Eq, Debug)]
+#[derive(Clone, Copy, PartialEq, Eq)]
 pub enum Halt {
     /// The gate cut the worker off.
     Cut,

@@ -1,7 +1,7 @@
 //! A worker as a member of its group.
 
 /// What a worker knows of itself (KIP-98: producer and epoch; KIP-447: generation).
-#[derive(Clone, Copy, PartialEq, Eq, Debug)]
+#[derive(Clone, Copy, PartialEq, Eq)]
 pub struct Member {
     /// 0 to 16.
     pub number: u8,

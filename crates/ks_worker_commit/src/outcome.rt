@@ -1,7 +1,7 @@
 //! What a commit comes to.
 
 /// What a worker's commit came to.
-#[derive(Clone, Copy, PartialEq, Eq, Debug)]
+#[derive(Clone, Copy, PartialEq, Eq)]
 pub enum Outcome {
     /// The works are committed, and no marker of the worker waits.
     Committed,

@@ -1,7 +1,7 @@
 //! What a commit of a worker's tasks comes to.
 
 /// What became of a worker's tasks at a commit.
-#[derive(Clone, Copy, PartialEq, Eq, Debug)]
+#[derive(Clone, Copy, PartialEq, Eq)]
 pub enum CommitEnd {
     /// No task was dirty, and no call was made.
     Clean,

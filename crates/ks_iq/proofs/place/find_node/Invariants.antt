@@ -1,5 +1,5 @@
 use Rattle.std.proofs.Common.{◌≡◌, length}
-use Rattle.ks_settle_tables.specs.Rows.{node_named}
+use Rattle.ks_settle.specs.Rows.{node_named}
 use Rattle.ks_iq.proofs.place.find_node.Given as goal
 
 -- the nodes that are left decide

@@ -1,10 +1,10 @@
 use Rattle.std.proofs.Common.{Some, None, cond, refl, ap, sym, ◌∙◌}
 use Rattle.std.specs.Prelude.{option_map}
 use Rattle.ks_topo.specs.Topologies.{draft_of}
-use Rattle.ks_settle_tables.specs.Rows.{node_named}
+use Rattle.ks_settle.specs.Rows.{node_named}
 use Rattle.ks_iq.specs.declared.fault.IqFault.TheVariants.{WrongStart}
 use Rattle.ks_iq.proofs.Placed.{nothing_named, nothing_kept, start_is_wrong, part_there, placed}
-use Rattle.ks_settle_tables.proofs.Named.{Shows}
+use Rattle.ks_settle.proofs.Named.{Shows}
 use Rattle.ks_iq.proofs.place.find_place.Goals as goal
 
 pub returns-in_default : goal.returns-in_default

@@ -7,8 +7,8 @@ use Rattle.ks_query.specs.Query.{WindowTable}
 use Rattle.ks_query.specs.Aggregates.{agg_row}
 use Rattle.ks_query.specs.Printed.{window_row}
 use Rattle.ks_query.specs.declared.table.TableRow.{TableRow}
-use Rattle.ks_oracle_maps.proofs.Trees.{entries-turned}
-use Rattle.ks_oracle_maps.proofs.Windows.{by_window_total}
+use Rattle.ks_oracle.proofs.Trees.{entries-turned}
+use Rattle.ks_oracle.proofs.Windows.{by_window_total}
 use Rattle.ks_oracle.proofs.printing.counted_rows.Goals as goal
 
 pub returns : goal.returns

@@ -1,6 +1,6 @@
 use Rattle.std.proofs.Common.{ap, subst, sym}
 use Rattle.ks_topo.specs.Topologies.{draft_of}
-use Rattle.ks_audit_source.specs.Opened.{IsReady}
+use Rattle.ks_job_source.specs.Opened.{IsReady}
 use Rattle.ks_def_tasks.specs.Rules.{rules_of}
 use Rattle.ks_run_audit.specs.Outputs.{place_in}
 use Rattle.ks_run_audit.specs.Answering.{EndsEarly}

@@ -1,6 +1,6 @@
 use Rattle.std.proofs.Common.{◌≡◌, refl, sym, ap, subst, ◌∙◌, arith, rules}
 use Rattle.ks_topo.specs.Topologies.{draft_of}
-use Rattle.ks_audit_source.specs.Opened.{IsReady}
+use Rattle.ks_job_source.specs.Opened.{IsReady}
 use Rattle.ks_run_audit.specs.Feeding.{HasLost, Loses, LosesFault, draft_in}
 use Rattle.ks_run_audit.proofs.Sources.{ends_early, lost_none, lost_more, lost_fault}
 use Rattle.ks_run_audit.proofs.auditing.read_lines.Goals as goal

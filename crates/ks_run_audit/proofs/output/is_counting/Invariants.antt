@@ -1,5 +1,5 @@
 use Rattle.std.proofs.Common.{◌≡◌, length}
-use Rattle.ks_settle_tables.specs.Rows.{node_named}
+use Rattle.ks_settle.specs.Rows.{node_named}
 use Rattle.ks_run_audit.specs.Outputs.{windows_of}
 use Rattle.ks_run_audit.proofs.output.is_counting.Given as goal
 

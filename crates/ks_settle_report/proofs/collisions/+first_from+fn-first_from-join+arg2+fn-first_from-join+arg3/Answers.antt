@@ -3,7 +3,7 @@ use Rattle.std.specs.Prelude.{option_map}
 use Rattle.std.proofs.lemmas.Result.{IfOk-weaker}
 use Rattle.std.specs.Option.{option_or}
 use Rattle.ks_cluster.specs.View.{state_of}
-use Rattle.ks_settle_tables.specs.Rows.{parts_from}
+use Rattle.ks_settle.specs.Rows.{parts_from}
 use Rattle.ks_settle_report.specs.Hashed.{row_hash, kind_as, pair_of}
 use Rattle.ks_settle_report.specs.Partitions.{first_of}
 use Rattle.ks_settle_report.proofs.Found.{first_alone, of_two}

@@ -1,6 +1,6 @@
 use Rattle.std.proofs.Common.{◌≡◌, ◌<◌, length, arith}
 use Rattle.ks_topo.specs.Topologies.{draft_of}
-use Rattle.ks_settle_tables.proofs.Named.{Shows}
+use Rattle.ks_settle.proofs.Named.{Shows}
 use Rattle.ks_settle_report.proofs.LeftSides.{inside, is_at}
 use Rattle.ks_settle_report.proofs.joins.node_at.Goals as goal
 

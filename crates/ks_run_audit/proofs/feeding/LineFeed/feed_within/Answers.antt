@@ -1,8 +1,8 @@
 use Rattle.std.proofs.Common.{◌≡◌, ◌+◌, [], ◌++◌, refl, sym, ap, subst, ◌∙◌, arith}
 use Rattle.ks_topo.specs.Topologies.{draft_of}
-use Rattle.ks_audit_source.specs.Opened.{IsReady}
+use Rattle.ks_job_source.specs.Opened.{IsReady}
 use Rattle.ks_run_audit.specs.Feeding.{Feeding, RefusesBytes, draft_in}
-use Rattle.ks_audit_source.proofs.Cuts.{cut_is, cut_no_end}
+use Rattle.ks_job_source.proofs.Cuts.{cut_is, cut_no_end}
 use Rattle.ks_run_audit.proofs.Feeds.{feeds_begin, feeds_line, feeds_end, refuses_line, refuses_long}
 use Rattle.ks_run_audit.proofs.Results.{on_each, each_err}
 use Rattle.ks_run_audit.proofs.feeding.LineFeed.feed_within.Goals as goal

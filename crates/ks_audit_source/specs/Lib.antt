@@ -1,4 +1,0 @@
-pub mod TopologyLines
-pub mod Opened
-pub mod Opening
-pub mod Cutting

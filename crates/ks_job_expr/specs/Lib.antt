@@ -1,3 +1,0 @@
-pub mod Exprs
-pub mod Tests
-pub mod Foreign

@@ -1,7 +1,0 @@
-use Rattle.ks_query.specs.Windows.{by_window}
-use Rattle.ks_oracle_maps.proofs.Windows.{by_window_total}
-use Rattle.ks_oracle_maps.proofs.Trees.{map_new}
-use Rattle.ks_oracle_maps.proofs.spans.Spans.new.Goals as goal
-
-pub returns : goal.returns
-returns c = map_new by_window by_window_total c.new.result.entries c.new.ensures.empty
