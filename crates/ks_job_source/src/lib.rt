@@ -1,4 +1,4 @@
-//! A job from a source: its items, or where and why reading it stops, and how that is told.
+//! A job from a source: its items, or where and why reading it stops, and how that is told; and an audit's source, cut in lines.
 #![tactic(auto)]
 
 mod audit_opening;

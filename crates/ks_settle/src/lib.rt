@@ -1,4 +1,4 @@
-//! A cluster is brought to rest.
+//! A cluster is brought to rest, and the tables that a topology prints are read from its changelogs.
 #![tactic(auto)]
 
 mod committed;
