@@ -126,7 +126,7 @@ def is_by_limit(row):
 
 
 def failure_shown(row):
-    return "**FAILED**: " + row["told"][0].replace("|", "/")[:60]
+    return "**FAILED**: " + row["told"][0].replace("|", "/")[:44]
 
 
 def first_shown(told):
@@ -141,7 +141,7 @@ def goals_shown(row):
     """What refused a wrong body, or why it failed, in a cell."""
     if row["outcome"] != "refused":
         return failure_shown(row)
-    return first_shown(row["told"]) + " (a search met its limit)" * is_by_limit(row)
+    return first_shown(row["told"]) + " (limit)" * is_by_limit(row)
 
 
 def hand_part():
@@ -158,7 +158,7 @@ def hand_part():
     sums = [f"{counts[outcome, ''] + counts[outcome, 'yes']} {outcome}" for outcome in ("refused", "failed", "not tried")]
     checked = sum(count for (_, place), count in counts.items() if place)
     limits = sum(map(is_by_limit, tried.values()))
-    whole = f"{sum(counts.values())} wrong bodies, {checked} of them in the check: {', '.join(sums)}; {limits} refused only where a search met its limit."
+    whole = f"{sum(counts.values())} wrong bodies, {checked} of them in the check: {', '.join(sums)}; {limits} refused only at a limit of a search (limit)."
     return ["", "## Written by hand", "", paragraph(HAND_HEAD), "", whole, "", *lines]
 
 
