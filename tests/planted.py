@@ -32,7 +32,7 @@ places where time was up. A body that means the same as the one that stands isn'
 with `told`, of an older row, the one that told of it."""
 HAND_HEAD = """Each changes a line or two of one crate, and is named in words. The check tries those of `crates/*/must-fail/`, and
 `tests/wrong-bodies/run CRATE` those of `tests/wrong-bodies/` (with `--all` the check's too). The goals are those that the prover didn't
-prove when the script tried it last."""
+prove when the script tried it last; "limit" tells that at each of them a search met its limit, which says less than that it found no proof."""
 SEEN_HEAD = """No clause speaks of ending, of waking and resting, of the status with which the process ends, or of when records are fed: no
 contract refuses what is wrong in that alone. `tests/wrong-programs/run` compiles the program that each of these bodies makes, without
 proofs, and runs tests of `tests/run` over it, which pass over the right program: one at least has to fail."""
@@ -158,7 +158,7 @@ def hand_part():
     sums = [f"{counts[outcome, ''] + counts[outcome, 'yes']} {outcome}" for outcome in ("refused", "failed", "not tried")]
     checked = sum(count for (_, place), count in counts.items() if place)
     limits = sum(map(is_by_limit, tried.values()))
-    whole = f"{sum(counts.values())} wrong bodies, {checked} of them in the check: {', '.join(sums)}; {limits} refused only at a limit of a search (limit)."
+    whole = f"{sum(counts.values())} wrong bodies, {checked} of them in the check: {', '.join(sums)}; {limits} refused only at limits."
     return ["", "## Written by hand", "", paragraph(HAND_HEAD), "", whole, "", *lines]
 
 
